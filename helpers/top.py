@@ -337,13 +337,15 @@ endmodule
 """
 
 
-def bench(name, ports, cycles):
-    """A test bench: clock, reset, so many cycles, and a file of waves. Further inputs are 0."""
+def bench(top, cycles):
+    """A test bench: clock, reset, so many cycles, and a file of waves. All clocks are one, and further inputs are 0."""
+    driven = {f"{source}_{kind}": kind for source in top.sources for kind in ("clk", "reset")} | {"clk": "clk", "reset": "reset"}
     signals = ""
-    for port, (way, width) in ports.items():
-        if port not in ("clk", "reset"):
+    for port, (way, width) in top.ports.items():
+        if port not in driven:
             signals += f"  reg {ranged(width)}{port} = 0;\n" if way == "input" else f"  wire {ranged(width)}{port};\n"
-    return BENCH.format(name=name, cycles=cycles, signals=signals, rows=",\n".join(f"    .{port}({port})" for port in ports))
+    rows = ",\n".join(f"    .{port}({driven.get(port, port)})" for port in top.ports)
+    return BENCH.format(name=top.header.name, cycles=cycles, signals=signals, rows=rows)
 
 
 def main():
@@ -361,7 +363,7 @@ def main():
     top = Top(header, system, notes)
     text = top.text(it.checks)
     if it.bench is not None:
-        text += bench(header.name, top.ports, it.bench)
+        text += bench(top, it.bench)
     print(text, end="")
     for note in dict.fromkeys(notes):
         print(f"top.py: {note}", file=sys.stderr)

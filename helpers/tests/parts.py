@@ -102,9 +102,10 @@ class Example:
 
 
 def examples():
+    """The systems of the examples, and one of helpers/tests that has what none of them has."""
     from scripts import Component
     found = []
-    for folder in sorted((TOP / "examples").iterdir()):
+    for folder in [*sorted((TOP / "examples").iterdir()), HELPERS / "tests" / "odd"]:
         scripts = sorted(folder.glob("*.tcl"))
         systems = [it for it in scripts if re.search("^create_system", it.read_text(), re.M)]
         types = {}

@@ -13,6 +13,14 @@ from scripts import Component
 VERILATOR = shutil.which("verilator")
 
 
+# lines of the top level of helpers/tests/odd: clocks, resets and interrupts as they are joined, parameters, names, conduits
+ODD = ["    .clk(pll$outclk$clk),\n    .reset_n(~(pll$locked$reset | reset)),", "  assign pll$locked$reset = ~pll$locked$reset_n;",
+       "  assign reg$irq$irq = {4'd0, ~ram_0$irq$irq, 1'd0, video$irq$irq, 1'd0};",
+       '  cpu #(.NAME("boot \\"rom\\""), .BASE(32\'hf0000000), .FAST(1)) \\reg  (', "  video_core video (\n    .clk(clk_1_clk),\n    .reset(clk_1_reset),",
+       "    .pulse(video$sync$pulse),\n    .level(video$sync$level),\n    .other(3'd0),", "  inout wire [15:0] pins_dq,", "    .a(memory_address),",
+       "    .clk(pll$outclk$clk),\n    .reset(reset | pll$locked$reset),\n    .reg$m$address(reg$m$address),"]
+
+
 def bits_of(it, name):
     """The bits of an input that a `#top` comment drives: those of a slice, or of the stand-in's port of that name."""
     if found := re.search(r"\[(\d+):0\]$", it.driven.get(name, "")):
@@ -37,7 +45,10 @@ def take(example, folder):
     (folder / "text.v").write_text(example.generate())
     words = ["text.v", example.folder / example.script, *example.components]
     (folder / "checks.v").write_text(helper("checks.py", *words, folder=folder))
-    (folder / "top.v").write_text(helper("top.py", "--checks", *words, folder=folder))
+    top = helper("top.py", "--checks", *words, folder=folder)
+    (folder / "top.v").write_text(top)
+    if example.folder.name == "odd":
+        must(all(line in top for line in ODD), "the top level of helpers/tests/odd lacks a line", top)
     (folder / "bench.v").write_text(helper("top.py", "--checks", "--bench", "20", *words, folder=folder))
     stubs = "".join(stub(Component(Path(file).read_text())) for file in example.components)
     (folder / "stubs.v").write_text(stubs)
