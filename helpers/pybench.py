@@ -51,7 +51,10 @@ class Module:
 
 
 def main(words):
-    if len(words) != 1 or words[0] in ("-h", "--help"):
+    if words[:1] in (["-h"], ["--help"]):
+        print(__doc__)
+        return
+    if len(words) != 1:
         sys.exit(__doc__)
     it = Module(words[0])
     for name, bits in it.widths.items():

@@ -139,7 +139,7 @@ def check_quartus(folder, example):
 
 def check_calls():
     for file in sorted(HELPERS.glob("*.py")):
-        if file.name not in ("scripts.py", "pybench.py"):
+        if file.name != "scripts.py":
             must(len(helper(file.name, "--help")) > 200, f"{file.name} --help says little")
     here, nowhere = HELPERS / "top.py", "/nowhere"
     for name, words in (("top.py", [nowhere, nowhere]), ("top.py", [here, here]), ("checks.py", [nowhere, nowhere]), ("waves.py", [nowhere] * 3),
