@@ -126,6 +126,14 @@ def cause_of_setting(file, byte):
     return f"{name}: {'; '.join(odd)}" if odd else None
 
 
+def explain_place(system, ends):
+    """Where an agent stands in the map of a host."""
+    host, agent = (system.interface(end) for end in ends)
+    base, bytes_ = system.bases.get(ends, 0), max(agent.reached(), host.word_bytes())
+    told = f"  {ends[1]} takes {bytes_:#x} bytes from {base:#x} on, of the {host.reached():#x} that {ends[0]} reaches"
+    print(told if base % bytes_ == 0 else f"{told}; the next multiple is {-(-base // bytes_) * bytes_:#x}")
+
+
 def explain_link(files, rule, numbers):
     """Both ends of each connection that is named, and the clocks where these differ."""
     # of a call of `simulate` the second file is a scenario, which states no type
@@ -133,6 +141,9 @@ def explain_link(files, rule, numbers):
     links = system.logic()
     for which in numbers:
         print(f"  connection {which} is {' to '.join(links[int(which)])}")
+    if rule[0] == "A":
+        for which in numbers:
+            explain_place(system, links[int(which)])
     if rule in ("P8", "S8"):
         first = next(root for ends in links for end in ends if (root := system.root(end)))
         roots = ", ".join(f"that of {end} from {system.root(end) or 'nowhere'}" for end in links[int(numbers[0])])

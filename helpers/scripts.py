@@ -108,6 +108,19 @@ class Interface:
         word = self.word(name)
         return number({"true": "1", "false": "0"}.get(word.lower(), word)) if word else default
 
+    def width(self, role):
+        return next((port.width for port in self.ports if port.role == role), 0)
+
+    def word_bytes(self):
+        """The bytes of a word of a host or an agent."""
+        return max(self.width("readdata"), self.width("writedata")) // 8
+
+    def reached(self):
+        """How many bytes a host's addresses reach, or an agent takes."""
+        counts_words = self.word("addressUnits", "symbols" if self.is_start else "words").lower() in ("words", "0")
+        reached = (1 << self.width("address")) * (self.word_bytes() if counts_words else 1)
+        return reached if self.is_start else max(reached, self.word_bytes())
+
 
 class Component:
     """A component as its script states it, and what its `#top` comments say to the top level."""
@@ -171,6 +184,7 @@ class System:
     def __init__(self, text, types):
         self.name, self.types = "system", types
         self.instances, self.settings, self.exports, self.connections, self.interrupts = {}, {}, {}, [], {}
+        self.bases = {}
         for words in commands_of(text):
             self.take(words)
 
@@ -190,6 +204,8 @@ class System:
             self.connections.append(tuple(rest[0].split("/") if "/" in rest[0] else rest[:2]))
         elif command == "set_connection_parameter_value" and rest[1] == "irqNumber":
             self.interrupts[tuple(rest[0].split("/"))] = number(rest[2])
+        elif command == "set_connection_parameter_value" and rest[1] == "baseAddress":
+            self.bases[tuple(rest[0].split("/"))] = number(rest[2])
 
     def interface(self, end):
         instance, name = end.split(".")

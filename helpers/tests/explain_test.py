@@ -78,6 +78,9 @@ def main():
             must(f"  {rule}: " in said and "\n  what to do: " in said, f"{row.title}: the rule isn't explained", said)
             link = re.match(r"link refused: connection (\d+)", answer)
             must(not link or f"  connection {link[1]} is " in said, f"{row.title}: the connection isn't named", said)
+            if link and rule[0] == "A":
+                must(re.search(r"takes 0x\w+ bytes from 0x\w+ on, of the 0x\w+ that", said), f"{row.title}: the place isn't told", said)
+                must(rule != "A1" or "the next multiple is 0x" in said, f"{row.title}: no multiple is told", said)
             refusals, marks = refusals + 1, marks + check_mark(row.title, answer, said, folder)
         for title, rule, files, word in CAUSES:
             answer, files = refusal(rule, files)
