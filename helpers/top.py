@@ -108,8 +108,9 @@ class Top:
         roles = Counter(it.role for it in self.system.interface(end).ports)
         word = port.role if roles[port.role] == 1 else port.name
         name = f"{self.system.exports[end]}_{word}"
-        if self.ports.setdefault(name, (port.direction, port.width)) != (port.direction, port.width):
-            raise Fault(f"two exported signals are named {name}")
+        if name in self.ports:
+            raise Fault(f"two ports of the top level are named {name}")
+        self.ports[name] = (port.direction, port.width)
         return name
 
     def wire(self, net, width):
@@ -120,6 +121,7 @@ class Top:
         if port.direction == "output":
             return self.wire(f"{end.replace('.', '$')}$clk", 1)
         if end in self.system.exports:
+            self.notes.append(f"{end} is exported: give it the clock of the generated module where its interfaces are joined to others")
             return self.exported(end, port)
         starts = self.starts(end)
         if starts:

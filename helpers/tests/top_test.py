@@ -16,7 +16,8 @@ VERILATOR = shutil.which("verilator")
 # lines of the top level of helpers/tests/odd: clocks, resets and interrupts as they are joined, parameters, names, conduits
 ODD = ["    .clk(pll$outclk$clk),\n    .reset_n(~(pll$locked$reset | reset)),", "  assign pll$locked$reset = ~pll$locked$reset_n;",
        "  assign reg$irq$irq = {4'd0, ~ram_0$irq$irq, 1'd0, video$irq$irq, 1'd0};",
-       '  cpu #(.NAME("boot \\"rom\\""), .BASE(32\'hf0000000), .FAST(1)) \\reg  (', "  video_core video (\n    .clk(clk_1_clk),\n    .reset(clk_1_reset),",
+       '  cpu #(.NAME("boot \\"rom\\""), .BASE(32\'hf0000000), .FAST(1)) \\reg  (',
+       "  video_core video (\n    .clk(clk_1_clk),\n    .reset(clk_1_reset),",
        "    .pulse(video$sync$pulse),\n    .level(video$sync$level),\n    .other(3'd0),", "  inout wire [15:0] pins_dq,", "    .a(memory_address),",
        "    .clk(pll$outclk$clk),\n    .reset(reset | pll$locked$reset),\n    .reg$m$address(reg$m$address),"]
 
@@ -87,6 +88,24 @@ def run_script(example, folder):
     must(said in shown_in(example.folder), f"bench.py of {example.title()} prints what its README doesn't show", said)
 
 
+def check_refusals(example, folder):
+    """What top.py can't write is told in a line."""
+    (folder / "text.v").write_text(example.generate())
+    script = (example.folder / example.script).read_text()
+    cases = [("add_interface a conduit end\nset_interface_property a EXPORT_OF pll.first\n"
+              "add_interface a_b conduit end\nset_interface_property a_b EXPORT_OF pll.second\n", "two ports of the top level are named a_b_c"),
+             ("add_instance pins_hs pll\n", "pins_hs"), ("set_connection_parameter_value reg.irq/ram_0.irq irqNumber {9}\n", "interrupt 9")]
+    for text, word in cases:
+        (folder / "odd.tcl").write_text(script + text)
+        components = [folder / "pll.tcl" if Path(it).name == "pll.tcl" else it for it in example.components]
+        pll = (example.folder / "pll.tcl").read_text()
+        (folder / "pll.tcl").write_text(pll + "add_interface first conduit end\nadd_interface_port first f b_c Output 1\n"
+                                        "add_interface second conduit end\nadd_interface_port second s c Output 1\n")
+        words = [sys.executable, HELPERS / "top.py", folder / "text.v", folder / "odd.tcl", *components]
+        run = subprocess.run(words, capture_output=True, text=True, env=ENVIRONMENT, check=False)
+        must(run.returncode == 1 and word in run.stderr and not run.stdout, f"{text!r} isn't refused", run.stderr)
+
+
 def run_commands():
     """The commands that the README shows, from scripts to waves, as they stand there."""
     block = next(it for it in re.findall(r"^```sh\n(.*?)^```$", (TOP / "README.md").read_text(), re.S | re.M) if "--bench" in it)
@@ -108,6 +127,8 @@ def main():
     for example in found:
         with tempfile.TemporaryDirectory() as folder:
             take(example, Path(folder))
+            if example.folder.name == "odd":
+                check_refusals(example, Path(folder))
     for there in dict.fromkeys(example.folder for example in found):
         systems = [example for example in found if example.folder == there]
         with tempfile.TemporaryDirectory() as folder:
