@@ -1,0 +1,3 @@
+pub mod PlaneLemmas
+pub mod Halves
+pub mod Shifts
