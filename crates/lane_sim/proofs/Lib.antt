@@ -1,0 +1,16 @@
+pub mod Values
+pub mod Places
+pub mod Lines
+pub mod Inputs
+pub mod Evaluation
+pub mod Words
+pub mod Access
+pub mod Next
+pub mod Runs
+pub mod Blocks
+pub mod Settling
+pub mod Steps
+pub mod Orders
+pub mod LaneLists
+pub mod CellLists
+pub mod LaneInputs

@@ -1,0 +1,2 @@
+pub mod LaneSims
+pub mod Changes
