@@ -1,0 +1,4 @@
+pub mod Computed
+pub mod RightRuns
+pub mod Swallowed
+pub mod Waiting
