@@ -1,0 +1,4 @@
+pub mod Beats
+pub mod Multiplexing
+pub mod Demultiplexing
+pub mod Gathering
