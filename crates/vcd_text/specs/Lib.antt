@@ -1,0 +1,4 @@
+pub mod Text
+pub mod Dumps
+pub mod Sinks
+pub mod Worked
