@@ -2,3 +2,4 @@ pub mod Text
 pub mod Dumps
 pub mod Sinks
 pub mod Worked
+pub mod CodeLaws

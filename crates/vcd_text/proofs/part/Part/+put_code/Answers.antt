@@ -1,6 +1,6 @@
 use Rattle.std.proofs.Common.{◌-◌, ◌/◌, ◌++◌, List, ℕ, length, append_assoc, length-append, sym, ap, ◌∙◌, arith}
 use Rattle.vcd_text.specs.Text.{code}
-use Rattle.vcd_text.proofs.Codes.{code_low, code_high, code_some}
+use Rattle.vcd_text.specs.CodeLaws.{code_low, code_high, code_some}
 use Rattle.vcd_text.proofs.part.Part.+put_code.Goals as goal
 
 pub push-requires : goal.push-requires

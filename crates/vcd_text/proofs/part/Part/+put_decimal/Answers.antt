@@ -1,7 +1,7 @@
 use Rattle.std.proofs.Common.{◌++◌, ◌/◌, length, append_assoc, length-append, List, ℕ, sym, ap, ◌∙◌, arith}
 use Rattle.std.specs.Prelude.{decimal}
 use Rattle.std.proofs.lemmas.Fmt.{decimal_digit, decimal_step}
-use Rattle.vcd_text.proofs.Codes.{more_digits}
+use Rattle.vcd_text.specs.CodeLaws.{more_digits}
 use Rattle.vcd_text.proofs.part.Part.+put_decimal.Goals as goal
 
 pub push-requires : goal.push-requires

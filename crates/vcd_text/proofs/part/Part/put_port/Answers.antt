@@ -1,6 +1,6 @@
 use Rattle.std.proofs.Common.{length, ap, arith, length-append}
 use Rattle.vcd_text.specs.Text.{code}
-use Rattle.vcd_text.proofs.Codes.{code_short}
+use Rattle.vcd_text.specs.CodeLaws.{code_short}
 use Rattle.vcd_text.proofs.part.Part.put_port.Goals as goal
 
 pub put_code-requires : goal.put_code-requires
