@@ -1,0 +1,4 @@
+mod Spell
+mod Lines
+mod Whole
+mod Told

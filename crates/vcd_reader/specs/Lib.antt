@@ -1,0 +1,5 @@
+pub mod Rules
+pub mod Found
+pub mod Spellings
+pub mod Readings
+pub mod Worked
