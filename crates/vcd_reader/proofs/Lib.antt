@@ -2,3 +2,5 @@ mod Spell
 mod Lines
 mod Whole
 mod Told
+mod Sound
+mod DumpTold

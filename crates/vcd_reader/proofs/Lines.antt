@@ -137,7 +137,7 @@ first_are_read k (width ∷ widths) (value ∷ row) rest are =
 
 -- ---- changes
 
-change_by : (k : ℕ) (one value : Word) (t : Bool) → (value.bits == one.bits) ≡ t → line_of_change k one value ≡ cond t [] (line_of_value k value)
+pub change_by : (k : ℕ) (one value : Word) (t : Bool) → (value.bits == one.bits) ≡ t → line_of_change k one value ≡ cond t [] (line_of_value k value)
 change_by k one value t e = ap (λ (b : Bool). cond b [] (line_of_value k value)) e
 
 some_change_by : (one value : Word) (before now : List Word) (t : Bool) → (value.bits == one.bits) ≡ t → some_change (one ∷ before) (value ∷ now) ≡ (not t || some_change before now)

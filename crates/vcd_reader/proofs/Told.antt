@@ -141,7 +141,7 @@ port_by lets_in k m run true e is same =
     let here = some_same m k same in record { spelled = is ∙ ap code here; let_in = ap lets_in (sym here) ∙ e }
 port_by lets_in k m run false e is same = cc
 
-port_told : (lets_in : ℕ → Bool) (run : List ℕ) (k : ℕ) → list_all is_of_code run ≡ true → port_in lets_in run ≡ Some k → IsPortTold lets_in run k
+pub port_told : (lets_in : ℕ → Bool) (run : List ℕ) (k : ℕ) → list_all is_of_code run ≡ true → port_in lets_in run ≡ Some k → IsPortTold lets_in run k
 port_told lets_in [] k all e = cc
 port_told lets_in (byte ∷ more) k all e = port_by lets_in k (port_number (byte ∷ more)) (byte ∷ more) (lets_in (port_number (byte ∷ more))) refl (code_of_bytes byte more all) e
 

@@ -21,7 +21,7 @@ use Rattle.vcd_reader.proofs.Lines.{port_is_read, AreValues, first_are_read, cha
 
 -- ---- the ports
 
-port_form : (width code name rest : List ℕ) → codes "$var wire " ++ width ++ codes " " ++ code ++ codes " " ++ name ++ codes " $end\n" ++ rest
+pub port_form : (width code name rest : List ℕ) → codes "$var wire " ++ width ++ codes " " ++ code ++ codes " " ++ name ++ codes " $end\n" ++ rest
     ≡ 36 ∷ (codes "var wire " ++ (width ++ (codes " " ++ (code ++ (codes " " ++ (name ++ (codes " $end\n" ++ rest)))))))
 port_form width code name rest = simp append_assoc
 
@@ -68,17 +68,17 @@ ports_are_read (suc few) done (port ∷ more) rest each apart room last =
 -- ---- the rows
 
 -- each row has values of these widths
-abbrev AreRows : List ℕ → List (List Word) → Type 0
+abbrev pub AreRows : List ℕ → List (List Word) → Type 0
 AreRows widths [] = Unit {0}
 AreRows widths (row ∷ rows) = AreValues widths row × AreRows widths rows
 
-later_by : (time : ℕ) (before row : List Word) (t : Bool) → some_change before row ≡ t → later_text time before row ≡ cond t (line_of_time time ++ changes_text 0 before row) []
+pub later_by : (time : ℕ) (before row : List Word) (t : Bool) → some_change before row ≡ t → later_text time before row ≡ cond t (line_of_time time ++ changes_text 0 before row) []
 later_by time before row t e = ap (λ (b : Bool). cond b (line_of_time time ++ changes_text 0 before row) []) e
 
 time_form : (time rest : List ℕ) → codes "#" ++ time ++ codes "\n" ++ rest ≡ codes "#" ++ (time ++ (codes "\n" ++ rest))
 time_form time rest = simp append_assoc
 
-later_form : (time changes later rest : List ℕ) → codes "#" ++ time ++ codes "\n" ++ changes ++ later ++ rest ≡ codes "#" ++ (time ++ (codes "\n" ++ (changes ++ (later ++ rest))))
+pub later_form : (time changes later rest : List ℕ) → codes "#" ++ time ++ codes "\n" ++ changes ++ later ++ rest ≡ codes "#" ++ (time ++ (codes "\n" ++ (changes ++ (later ++ rest))))
 later_form time changes later rest = simp append_assoc
 
 -- behind the changes of a row stands the line of a time
@@ -145,7 +145,7 @@ turns few last time end widths front row next rows low high some here there wide
 later_long : (time : ℕ) (before row : List Word) → some_change before row ≡ true → 1 ≤ length (later_text time before row)
 later_long time before row some = subst (λ (bs : List ℕ). 1 ≤ length bs) (sym (later_by time before row true some)) (omega arith)
 
-values_count : (widths : List ℕ) (row : List Word) → AreValues widths row → length row ≡ length widths
+pub values_count : (widths : List ℕ) (row : List Word) → AreValues widths row → length row ≡ length widths
 values_count [] [] are = refl
 values_count [] (value ∷ row) are = absurd are
 values_count (width ∷ widths) [] are = absurd are
@@ -204,7 +204,7 @@ regrouped : (a name b ports c d e first f later time : List ℕ)
     → a ++ name ++ b ++ ports ++ (c ++ d) ++ (e ++ first ++ f ++ later) ++ time ≡ a ++ (name ++ (b ++ (ports ++ (c ++ (d ++ (e ++ (first ++ (f ++ (later ++ time)))))))))
 regrouped a name b ports c d e first f later time = simp append_assoc
 
-dump_form : (name ports first later time : List ℕ)
+pub dump_form : (name ports first later time : List ℕ)
     → codes "$timescale 1 ns $end\n$scope module " ++ name ++ codes " $end\n" ++ ports ++ codes "$upscope $end\n$enddefinitions $end\n" ++ (codes "#0\n$dumpvars\n" ++ first ++ codes "$end\n" ++ later) ++ time
     ≡ codes "$timescale 1 ns $end\n$scope module " ++ (name ++ (codes " $end\n" ++ (ports ++ (codes "$" ++ (codes "upscope $end\n$enddefinitions $end\n" ++ (codes "#0\n$dumpvars\n" ++ (first ++ (codes "$end\n" ++ (later ++ time)))))))))
 dump_form name ports first later time =

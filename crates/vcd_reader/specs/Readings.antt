@@ -1,9 +1,9 @@
 -- Dumps as they are read.
-use Rattle.std.specs.Prelude.{ℕ, zero, suc, ◌+◌, ◌-◌, Bool, true, false, ◌&&◌, not, ◌==◌, nat_lt, List, [], ◌∷◌, ◌++◌, length, slice_index_or, slice_set, map, Option, Some, None, codes, if◌then◌else◌}
+use Rattle.std.specs.Prelude.{◌≡◌, ℕ, zero, suc, ◌+◌, ◌-◌, Bool, true, false, ◌&&◌, not, ◌==◌, nat_lt, List, [], ◌∷◌, ◌++◌, length, slice_index_or, slice_set, map, Option, Some, None, codes, if◌then◌else◌}
 use Rattle.av_base.specs.Word.{Word, word}
 use Rattle.vcd_text.specs.declared.port.DumpPort.{DumpPort}
-use Rattle.vcd_text.specs.Text.{DumpValue}
-use Rattle.vcd_text.specs.Dumps.{widths_of}
+use Rattle.vcd_text.specs.Text.{DumpValue, dump_text}
+use Rattle.vcd_text.specs.Dumps.{widths_of, IsDump}
 use Rattle.vcd_reader.specs.declared.rule.Rule.{Rule}
 use Rattle.vcd_reader.specs.declared.rule.Rule.TheVariants.{OtherByte, Name, Width, Code, Time, Value}
 use Rattle.vcd_reader.specs.Found.{Found, followed, fixed, hole}
@@ -128,3 +128,9 @@ dump_read text =
     followed (fixed (codes " $end\n") text) (λ _ text. followed (port_lines (suc (length text)) [] text) (λ ports text.
     followed (fixed (codes "upscope $end\n$enddefinitions $end\n") text) (λ _ text. followed (row_lines (widths_of ports) text) (λ rows text.
     Found.told (record { name = name; ports = ports; rows = rows }) text))))))
+
+-- the text is that of a dump, and nothing stands behind it
+pub record IsDumpText (text : List ℕ) (dump : DumpValue) (rest : List ℕ) : Type 0 where
+  pub is : text ≡ dump_text dump
+  pub is_dump : IsDump dump
+  pub ends : rest ≡ []

@@ -1,13 +1,13 @@
 //! What holds of the reading of dumps. The functions do nothing; their contracts are the laws.
 
-ghost use Rattle.std.specs.Prelude.{◌≡◌, ◌++◌, [], ◌∷◌, codes};
+ghost use Rattle.std.specs.Prelude.{◌≡◌, ◌++◌, [], ◌∷◌, ℕ, List, codes};
 ghost use Rattle.av_base.specs.Word.{word};
 ghost use Rattle.vcd_text.specs.Text.{DumpValue, dump_text};
 ghost use Rattle.vcd_text.specs.Dumps.{IsDump};
 ghost use Rattle.vcd_text.specs.Worked.{inverter, inverter_text, counter, counter_text, portless, portless_text, port};
 ghost use Rattle.vcd_reader.specs.declared.rule.Rule.TheVariants.{OtherByte, Name, Width, Code, Time, Value};
 ghost use Rattle.vcd_reader.specs.Found.{Found};
-ghost use Rattle.vcd_reader.specs.Readings.{dump_read};
+ghost use Rattle.vcd_reader.specs.Readings.{dump_read, IsDumpText};
 ghost use Rattle.vcd_reader.specs.Worked.{two_ports, two_values, IsReadAs, IsRefused};
 
 /// Small dumps are read back.
@@ -61,6 +61,11 @@ pub fn changes_are_refused()
 /// A dump's text is read as that dump.
 pub fn texts_are_read()
     ensures { (dump : DumpValue) → IsDump dump → dump_read (dump_text dump) ≡ Found.told dump [] }
+{}
+
+/// A text that is read as a dump is that dump's.
+pub fn only_dumps_are_read()
+    ensures { (text rest : List ℕ) (dump : DumpValue) → dump_read text ≡ Found.told dump rest → IsDumpText text dump rest }
 {}
 
 /// No two dumps have one text.
