@@ -1,0 +1,6 @@
+pub mod Pushes
+pub mod Feeding
+pub mod Resting
+pub mod Writing
+pub mod Readings
+pub mod Packets
