@@ -13,7 +13,7 @@ use Rattle.marked_bytes.specs.declared.unpacker.Awaits.TheVariants.{Symbol, Chan
 use Rattle.marked_bytes.specs.declared.unpacker.Unpacker.{Unpacker}
 use Rattle.marked_bytes.specs.Symbols.{symbol_of, is_plain_symbol, is_mark_symbol, begins_mark}
 use Rattle.marked_bytes.specs.Items.{Spelled, Mark, Item, value_of, spelling, is_spelled, mark_spelling, is_mark, is_item, marks_spelling, item_spelling, items_spelling, marks_first, marks_last, has_first, has_last, channel_marked, channel_of, packet_byte, given, channel_behind, is_inside_behind, may_stand, are_in_packets}
-use Rattle.marked_bytes.specs.Unpacking.{begun, awaits_some, may_begin, may_follow, IsFed, Follows}
+use Rattle.marked_bytes.specs.Unpacking.{begun, awaits_some, may_begin, may_follow, IsFed, IsGiven, Follows, is_escaped, is_escaping}
 use Rattle.marked_bytes.specs.Steps.{Step, step, step_of, step_at, symbol_step, channel_step, awaits_next, refuses, gives, marks_channel, channel_now, may_give}
 use Rattle.marked_bytes.proofs.Pushes.{spelled_push, all_push, any_push, with_true, with_false, marked_push, given_push, channel_push, inside_push, in_packets_push, shifted}
 
@@ -95,14 +95,10 @@ stand_same fed items u h =
     ∙ ap (λ c. may_stand (is_inside_behind false (given 0 items)) (channel_behind 0 (given 0 items)) c u.first) (channel_same fed items u h)
     ∙ ap (λ f. may_stand (is_inside_behind false (given 0 items)) (channel_behind 0 (given 0 items)) (channel_of (channel_behind 0 (given 0 items)) h.marks) f) h.first
 
-given_item : (fed : List ℕ) (items : List Item) (u : Unpacker) → IsFed fed items u → Spelled → Item
-given_item fed items u h s = record { marks = h.marks; byte = s }
-
-pub given_more : (fed more : List ℕ) (items : List Item) (u : Unpacker) (s : Spelled) (byte : ℕ) (h : IsFed fed items u) → more ≡ items_spelling items ++ (marks_spelling h.marks ++ spelling s)
-    → is_spelled s ≡ true → value_of s ≡ byte → may_follow items h.marks ≡ true
-    → (item : Item) × (record { channel = channel_now u; first = u.first; last = u.last; byte = byte } ≡ packet_byte (channel_behind 0 (given 0 items)) item)
-    × IsFed more (items ++ item ∷ []) (gives u byte).after
-given_more fed more items u s byte h e p v m =
+given_more : (fed : List ℕ) (next : ℕ) (items : List Item) (u : Unpacker) (s : Spelled) (byte : ℕ) (h : IsFed fed items u) → fed ++ next ∷ [] ≡ items_spelling items ++ (marks_spelling h.marks ++ spelling s)
+    → is_spelled s ≡ true → value_of s ≡ byte → may_follow items h.marks ≡ true → is_escaped s ≡ is_escaping u.awaits
+    → (item : Item) × IsGiven fed items u next (record { channel = channel_now u; first = u.first; last = u.last; byte = byte }) item (gives u byte).after
+given_more fed next items u s byte h e p v m w =
     let before = channel_behind 0 (given 0 items) in
     let item : Item = record { marks = h.marks; byte = s } in
     let bytes = given_push 0 items item in
@@ -110,11 +106,13 @@ given_more fed more items u s byte h e p v m =
     let proper : are_in_packets false 0 (given 0 (items ++ item ∷ [])) ≡ true =
     ap (are_in_packets false 0) bytes ∙ in_packets_push false 0 (given 0 items) (packet_byte before item) parts.1 m in (
       item,
-      ap (λ c. record { channel = c; first = u.first; last = u.last; byte = byte }) (channel_same fed items u h)
+      record {
+      is = ap (λ c. record { channel = c; first = u.first; last = u.last; byte = byte }) (channel_same fed items u h)
           ∙ ap (λ f. record { channel = channel_of before h.marks; first = f; last = u.last; byte = byte }) h.first
           ∙ ap (λ l. record { channel = channel_of before h.marks; first = has_first h.marks; last = l; byte = byte }) h.last
-          ∙ ap (λ b. record { channel = channel_of before h.marks; first = has_first h.marks; last = has_last h.marks; byte = b }) (sym v),
-      record {
+          ∙ ap (λ b. record { channel = channel_of before h.marks; first = has_first h.marks; last = has_last h.marks; byte = b }) (sym v);
+      escaped = w;
+      read = record {
         marks = [];
         bytes = e ∙ sym (spelled_push item_spelling items item) ∙ sym (append-nil (items_spelling (items ++ item ∷ [])));
         proper = and_from (list_all is_item (items ++ item ∷ [])) (are_in_packets false 0 (given 0 (items ++ item ∷ [])))
@@ -127,12 +125,13 @@ given_more fed more items u s byte h e p v m =
         first = refl;
         last = refl;
         marked = refl;
+      };
       },
     )
 
 -- ---- where a byte is at fault
 
-mark_for_channel : (fed : List ℕ) (items : List Item) (u : Unpacker) (byte : ℕ) → IsFed fed items u → u.awaits ≡ Channel → begins_mark byte ≡ true → Follows fed items byte (Bad 1) (refuses u 1).after
+mark_for_channel : (fed : List ℕ) (items : List Item) (u : Unpacker) (byte : ℕ) → IsFed fed items u → u.awaits ≡ Channel → begins_mark byte ≡ true → Follows fed items u byte (Bad 1) (refuses u 1).after
 mark_for_channel fed items u byte h a m = (
   inl (
     refl,
@@ -148,7 +147,7 @@ mark_for_channel fed items u byte h a m = (
 )
 
 out_of_place : (fed : List ℕ) (items : List Item) (u : Unpacker) (byte : ℕ) → IsFed fed items u → u.awaits ≡ Symbol → begins_mark byte ≡ false → may_give u ≡ false
-    → Follows fed items byte (Bad 2) (refuses u 2).after
+    → Follows fed items u byte (Bad 2) (refuses u 2).after
 out_of_place fed items u byte h a d n = (
   inr (
     refl,
@@ -166,8 +165,8 @@ out_of_place fed items u byte h a d n = (
 
 -- ---- by what is due
 
-StepFollows : List ℕ → List Item → ℕ → Step → Type 0
-StepFollows fed items byte s = Follows fed items byte s.fed s.after
+StepFollows : List ℕ → List Item → Unpacker → ℕ → Step → Type 0
+StepFollows fed items u byte s = Follows fed items u byte s.fed s.after
 
 by_first : (fed : List ℕ) (items : List Item) (u : Unpacker) (byte : ℕ) → IsFed fed items u → u.awaits ≡ Symbol → byte ≡ 0x7a → IsFed (fed ++ byte ∷ []) items (record u { first = true })
 by_first fed items u byte h a b =
@@ -183,20 +182,20 @@ by_channel fed items u byte old s h a e p =
     marked_more fed (fed ++ byte ∷ []) items u (marks_channel u (value_of s)).after (Mark.OnChannel s) h (behind fed items u byte old (0x7c ∷ spelling s) h a e) p refl refl refl (with_false u.first) (with_false u.last) refl
 
 plain_step : (fed : List ℕ) (items : List Item) (u : Unpacker) (byte : ℕ) → IsFed fed items u → u.awaits ≡ Symbol → symbol_of byte ≡ kind.Plain → (b : Bool) → may_give u ≡ b
-    → StepFollows fed items byte (cond b (gives u byte) (refuses u 2))
+    → StepFollows fed items u byte (cond b (gives u byte) (refuses u 2))
 unfolding StepFollows
 plain_step fed items u byte h a k true m =
-    given_more fed (fed ++ byte ∷ []) items u (Spelled.Itself byte) byte h (behind fed items u byte Symbol (byte ∷ []) h a refl) (ap is_plain_symbol k) refl (sym (stand_same fed items u h) ∙ m)
+    given_more fed byte items u (Spelled.Itself byte) byte h (behind fed items u byte Symbol (byte ∷ []) h a refl) (ap is_plain_symbol k) refl (sym (stand_same fed items u h) ∙ m) (sym (ap is_escaping a))
 plain_step fed items u byte h a k false m = out_of_place fed items u byte h a (ap is_mark_symbol k) m
 
 escape_step : (fed : List ℕ) (items : List Item) (u : Unpacker) (byte : ℕ) → IsFed fed items u → u.awaits ≡ Symbol → symbol_of byte ≡ kind.Escape → (b : Bool) → may_give u ≡ b
-    → StepFollows fed items byte (cond b (awaits_next u EscapedByte) (refuses u 2))
+    → StepFollows fed items u byte (cond b (awaits_next u EscapedByte) (refuses u 2))
 unfolding StepFollows
 escape_step fed items u byte h a k true m =
     begun_more fed items u byte Symbol EscapedByte h a (ap (λ x. x ∷ []) (sym (escape_is byte k))) refl (sym (stand_same fed items u h) ∙ m)
 escape_step fed items u byte h a k false m = out_of_place fed items u byte h a (ap is_mark_symbol k) m
 
-symbol_follows : (fed : List ℕ) (items : List Item) (u : Unpacker) (byte : ℕ) → IsFed fed items u → u.awaits ≡ Symbol → (k : Kind) → symbol_of byte ≡ k → StepFollows fed items byte (symbol_step u byte k)
+symbol_follows : (fed : List ℕ) (items : List Item) (u : Unpacker) (byte : ℕ) → IsFed fed items u → u.awaits ≡ Symbol → (k : Kind) → symbol_of byte ≡ k → StepFollows fed items u byte (symbol_step u byte k)
 unfolding StepFollows
 symbol_follows fed items u byte h a kind.First k = by_first fed items u byte h a (first_is byte k)
 symbol_follows fed items u byte h a kind.Last k = by_last fed items u byte h a (last_is byte k)
@@ -204,7 +203,7 @@ symbol_follows fed items u byte h a kind.Channel k = begun_more fed items u byte
 symbol_follows fed items u byte h a kind.Escape k = escape_step fed items u byte h a k (may_give u) refl
 symbol_follows fed items u byte h a kind.Plain k = plain_step fed items u byte h a k (may_give u) refl
 
-channel_follows : (fed : List ℕ) (items : List Item) (u : Unpacker) (byte : ℕ) → IsFed fed items u → u.awaits ≡ Channel → (k : Kind) → symbol_of byte ≡ k → StepFollows fed items byte (channel_step u byte k)
+channel_follows : (fed : List ℕ) (items : List Item) (u : Unpacker) (byte : ℕ) → IsFed fed items u → u.awaits ≡ Channel → (k : Kind) → symbol_of byte ≡ k → StepFollows fed items u byte (channel_step u byte k)
 unfolding StepFollows
 channel_follows fed items u byte h a kind.First k = mark_for_channel fed items u byte h a (ap is_mark_symbol k)
 channel_follows fed items u byte h a kind.Last k = mark_for_channel fed items u byte h a (ap is_mark_symbol k)
@@ -212,15 +211,15 @@ channel_follows fed items u byte h a kind.Channel k = mark_for_channel fed items
 channel_follows fed items u byte h a kind.Escape k = begun_more fed items u byte Channel EscapedChannel h a (ap (λ x. 0x7c ∷ x ∷ []) (sym (escape_is byte k))) refl refl
 channel_follows fed items u byte h a kind.Plain k = by_channel fed items u byte Channel (Spelled.Itself byte) h a refl (ap is_plain_symbol k)
 
-step_at_follows : (fed : List ℕ) (items : List Item) (u : Unpacker) (byte : ℕ) → IsFed fed items u → (a : Awaits) → u.awaits ≡ a → StepFollows fed items byte (step_at a u byte)
+step_at_follows : (fed : List ℕ) (items : List Item) (u : Unpacker) (byte : ℕ) → IsFed fed items u → (a : Awaits) → u.awaits ≡ a → StepFollows fed items u byte (step_at a u byte)
 unfolding StepFollows
 step_at_follows fed items u byte h Symbol a = symbol_follows fed items u byte h a (symbol_of byte) refl
 step_at_follows fed items u byte h Channel a = channel_follows fed items u byte h a (symbol_of byte) refl
 step_at_follows fed items u byte h EscapedChannel a = by_channel fed items u byte EscapedChannel (Spelled.Escaped byte) h a refl refl
 step_at_follows fed items u byte h EscapedByte a =
-    given_more fed (fed ++ byte ∷ []) items u (Spelled.Escaped byte) (bit_xor byte 0x20) h (behind fed items u byte EscapedByte (0x7d ∷ byte ∷ []) h a refl) refl refl (ap (λ w. may_begin w items h.marks) (sym a) ∙ h.begins)
+    given_more fed byte items u (Spelled.Escaped byte) (bit_xor byte 0x20) h (behind fed items u byte EscapedByte (0x7d ∷ byte ∷ []) h a refl) refl refl (ap (λ w. may_begin w items h.marks) (sym a) ∙ h.begins) (sym (ap is_escaping a))
 step_at_follows fed items u byte h (Nothing rule) a = absurd (cc (ap awaits_some (sym a) ∙ h.reads))
 
-pub step_follows : (fed : List ℕ) (items : List Item) (u after : Unpacker) (byte : ℕ) (answer : Fed) → step after answer ≡ step_of u byte → IsFed fed items u → Follows fed items byte answer after
+pub step_follows : (fed : List ℕ) (items : List Item) (u after : Unpacker) (byte : ℕ) (answer : Fed) → step after answer ≡ step_of u byte → IsFed fed items u → Follows fed items u byte answer after
 unfolding StepFollows
-step_follows fed items u after byte answer e h = subst (λ s. StepFollows fed items byte s) (sym e) (step_at_follows fed items u byte h u.awaits refl)
+step_follows fed items u after byte answer e h = subst (λ s. StepFollows fed items u byte s) (sym e) (step_at_follows fed items u byte h u.awaits refl)

@@ -1,13 +1,14 @@
 -- What was fed to an unpacker, and what is wrong with a byte.
 use Rattle.std.specs.Prelude.{◌≡◌, ◌⊎◌, ℕ, Bool, true, false, ◌&&◌, List, [], ◌∷◌, ◌++◌, None}
 use Rattle.std.specs.List.{list_all}
+use Rattle.marked_bytes.specs.declared.unpacker.PacketByte.{PacketByte}
 use Rattle.marked_bytes.specs.declared.unpacker.Fed.{Fed}
 use Rattle.marked_bytes.specs.declared.unpacker.Fed.TheVariants.{More, Byte, Bad}
 use Rattle.marked_bytes.specs.declared.unpacker.Awaits.{Awaits}
 use Rattle.marked_bytes.specs.declared.unpacker.Awaits.TheVariants.{Symbol, Channel, EscapedChannel, EscapedByte, Nothing}
 use Rattle.marked_bytes.specs.declared.unpacker.Unpacker.{Unpacker}
 use Rattle.marked_bytes.specs.Symbols.{begins_mark}
-use Rattle.marked_bytes.specs.Items.{Mark, Item, is_mark, is_item, marks_spelling, items_spelling, has_first, has_last, channel_marked, channel_of, packet_byte, given, channel_behind, is_inside_behind, may_stand, are_in_packets}
+use Rattle.marked_bytes.specs.Items.{Spelled, Mark, Item, is_mark, is_item, marks_spelling, items_spelling, has_first, has_last, channel_marked, channel_of, packet_byte, given, channel_behind, is_inside_behind, may_stand, are_in_packets}
 
 -- what stands behind whole marks of an item that isn't whole: nothing, the mark of a channel, that and an escape, or an escape
 abbrev pub begun : Awaits → List ℕ
@@ -81,12 +82,29 @@ IsFaulty fed items byte rule = ((rule ≡ 1) × IsMarkForChannel fed items byte)
 abbrev pub IsBad : ℕ → Unpacker → Type 0
 IsBad rule unpacker = unpacker.awaits ≡ Nothing rule
 
+-- data is due behind an escape
+abbrev pub is_escaping : Awaits → Bool
+is_escaping Symbol = false
+is_escaping Channel = false
+is_escaping EscapedChannel = false
+is_escaping EscapedByte = true
+is_escaping (Nothing rule) = false
+
+abbrev pub is_escaped : Spelled → Bool
+is_escaped (Spelled.Itself byte) = false
+is_escaped (Spelled.Escaped byte) = true
+
+-- the item that an unpacker gives behind items, at this byte: its data is escaped where it was due so
+pub record IsGiven (fed : List ℕ) (items : List Item) (before : Unpacker) (byte : ℕ) (shown : PacketByte) (item : Item) (after : Unpacker) : Type 0 where
+  pub is : shown ≡ packet_byte (channel_behind 0 (given 0 items)) item
+  pub escaped : is_escaped item.byte ≡ is_escaping before.awaits
+  pub read : IsFed (fed ++ byte ∷ []) (items ++ item ∷ []) after
+
 -- what an answer says of a byte behind what was fed, and of the unpacker behind it
-abbrev pub Follows : List ℕ → List Item → ℕ → Fed → Unpacker → Type 0
-Follows fed items byte More after = IsFed (fed ++ byte ∷ []) items after
-Follows fed items byte (Byte «given_byte») after =
-    (item : Item) × («given_byte» ≡ packet_byte (channel_behind 0 (given 0 items)) item) × IsFed (fed ++ byte ∷ []) (items ++ item ∷ []) after
-Follows fed items byte (Bad rule) after = IsFaulty fed items byte rule × IsBad rule after
+abbrev pub Follows : List ℕ → List Item → Unpacker → ℕ → Fed → Unpacker → Type 0
+Follows fed items before byte More after = IsFed (fed ++ byte ∷ []) items after
+Follows fed items before byte (Byte shown) after = (item : Item) × IsGiven fed items before byte shown item after
+Follows fed items before byte (Bad rule) after = IsFaulty fed items byte rule × IsBad rule after
 
 -- bytes that spell items whose packets are whole
 pub record IsWhole (fed : List ℕ) (items : List Item) : Type 0 where

@@ -58,7 +58,7 @@ impl Unpacker {
     ghost use Rattle.marked_bytes.specs.declared.unpacker.Awaits.TheVariants.{Nothing};
     ghost use Rattle.marked_bytes.specs.Steps.{step, step_of, symbol_step, channel_step, goes_on, awaits_next, refuses, gives, marks_channel, channel_now, may_give, rests};
     ghost use Rattle.marked_bytes.specs.Symbols.{symbol_of};
-    ghost use Rattle.marked_bytes.specs.Unpacking.{IsFed, IsBad, Follows, IsWhole};
+    ghost use Rattle.marked_bytes.specs.Unpacking.{IsFed, IsBad, Follows, IsWhole, is_escaping};
 
     /// An unpacker that was fed nothing.
     pub fn new() -> Unpacker
@@ -177,11 +177,18 @@ impl Unpacker {
     /// Reads the next byte.
     pub fn feed(&mut self, byte: u8) -> Fed
         // Behind bytes without a fault: whether this one ends an item, is inside one, or is at fault.
-        ensures follows { (fed : Sequence ℕ) (items : Sequence Item) → IsFed fed items self.old → Follows fed items byte result self.new }
+        ensures follows { (fed : Sequence ℕ) (items : Sequence Item) → IsFed fed items self.old → Follows fed items self.old byte result self.new }
         // Behind one at fault all answers are the same.
         ensures stays { (rule : ℕ) → IsBad rule self.old → (result ≡ Fed.Bad rule) × (self.new ≡ self.old) }
     {
         self.step(byte)
+    }
+
+    /// Whether the next byte is data behind an escape.
+    pub fn is_escaping(&self) -> bool
+        ensures { result ≡ is_escaping self.now.awaits }
+    {
+        matches!(self.awaits, Awaits::EscapedByte)
     }
 
     /// Whether no item and no packet is begun.
