@@ -112,6 +112,7 @@ given_more fed next items u s byte h e p v m w =
           ∙ ap (λ l. record { channel = channel_of before h.marks; first = has_first h.marks; last = l; byte = byte }) h.last
           ∙ ap (λ b. record { channel = channel_of before h.marks; first = has_first h.marks; last = has_last h.marks; byte = b }) (sym v);
       escaped = w;
+        spelled = e ∙ sym (spelled_push item_spelling items item);
       read = record {
         marks = [];
         bytes = e ∙ sym (spelled_push item_spelling items item) ∙ sym (append-nil (items_spelling (items ++ item ∷ [])));

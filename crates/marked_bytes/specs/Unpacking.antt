@@ -98,6 +98,7 @@ is_escaped (Spelled.Escaped byte) = true
 pub record IsGiven (fed : List ℕ) (items : List Item) (before : Unpacker) (byte : ℕ) (shown : PacketByte) (item : Item) (after : Unpacker) : Type 0 where
   pub is : shown ≡ packet_byte (channel_behind 0 (given 0 items)) item
   pub escaped : is_escaped item.byte ≡ is_escaping before.awaits
+  pub spelled : fed ++ byte ∷ [] ≡ items_spelling (items ++ item ∷ [])
   pub read : IsFed (fed ++ byte ∷ []) (items ++ item ∷ []) after
 
 -- what an answer says of a byte behind what was fed, and of the unpacker behind it
