@@ -107,26 +107,26 @@ given_more fed next items u s byte h e p v m w =
     ap (are_in_packets false 0) bytes ∙ in_packets_push false 0 (given 0 items) (packet_byte before item) parts.1 m in (
       item,
       record {
-      is = ap (λ c. record { channel = c; first = u.first; last = u.last; byte = byte }) (channel_same fed items u h)
-          ∙ ap (λ f. record { channel = channel_of before h.marks; first = f; last = u.last; byte = byte }) h.first
-          ∙ ap (λ l. record { channel = channel_of before h.marks; first = has_first h.marks; last = l; byte = byte }) h.last
-          ∙ ap (λ b. record { channel = channel_of before h.marks; first = has_first h.marks; last = has_last h.marks; byte = b }) (sym v);
-      escaped = w;
+        is = ap (λ c. record { channel = c; first = u.first; last = u.last; byte = byte }) (channel_same fed items u h)
+            ∙ ap (λ f. record { channel = channel_of before h.marks; first = f; last = u.last; byte = byte }) h.first
+            ∙ ap (λ l. record { channel = channel_of before h.marks; first = has_first h.marks; last = l; byte = byte }) h.last
+            ∙ ap (λ b. record { channel = channel_of before h.marks; first = has_first h.marks; last = has_last h.marks; byte = b }) (sym v);
+        escaped = w;
         spelled = e ∙ sym (spelled_push item_spelling items item);
-      read = record {
-        marks = [];
-        bytes = e ∙ sym (spelled_push item_spelling items item) ∙ sym (append-nil (items_spelling (items ++ item ∷ [])));
-        proper = and_from (list_all is_item (items ++ item ∷ [])) (are_in_packets false 0 (given 0 (items ++ item ∷ [])))
-            (all_push is_item items item parts.0 (and_from (list_all is_mark h.marks) (is_spelled s) h.proper_marks p)) proper;
-        proper_marks = refl;
-        reads = refl;
-        begins = refl;
-        channel = channel_same fed items u h ∙ sym (channel_push 0 (given 0 items) (packet_byte before item)) ∙ ap (channel_behind 0) (sym bytes);
-        inside = ap not h.last ∙ sym (inside_push false (given 0 items) (packet_byte before item)) ∙ ap (is_inside_behind false) (sym bytes);
-        first = refl;
-        last = refl;
-        marked = refl;
-      };
+        read = record {
+          marks = [];
+          bytes = e ∙ sym (spelled_push item_spelling items item) ∙ sym (append-nil (items_spelling (items ++ item ∷ [])));
+          proper = and_from (list_all is_item (items ++ item ∷ [])) (are_in_packets false 0 (given 0 (items ++ item ∷ [])))
+              (all_push is_item items item parts.0 (and_from (list_all is_mark h.marks) (is_spelled s) h.proper_marks p)) proper;
+          proper_marks = refl;
+          reads = refl;
+          begins = refl;
+          channel = channel_same fed items u h ∙ sym (channel_push 0 (given 0 items) (packet_byte before item)) ∙ ap (channel_behind 0) (sym bytes);
+          inside = ap not h.last ∙ sym (inside_push false (given 0 items) (packet_byte before item)) ∙ ap (is_inside_behind false) (sym bytes);
+          first = refl;
+          last = refl;
+          marked = refl;
+        };
       },
     )
 

@@ -1,11 +1,11 @@
 -- The packets of the items that were read so far.
-use Rattle.std.proofs.Common.{◌≡◌, ℕ, zero, suc, ◌+◌, ◌-◌, ◌<◌, ◌≤◌, cond, Bool, true, false, List, [], ◌∷◌, ◌++◌, length, take, drop, get_or, refl, sym, ap, subst, ◌∙◌, append_assoc, length-append, inl, inr, arith}
-use Rattle.std.specs.Prelude.{flat_map, slice_index, IsTrue, ◌↔◌}
-use Rattle.std.proofs.lemmas.List.{append-nil, take_more, length-take-le, take_all, flat_map_more}
+use Rattle.std.proofs.Common.{◌≡◌, ℕ, ◌+◌, ◌<◌, cond, Bool, true, false, List, [], ◌∷◌, ◌++◌, length, take, get_or, refl, sym, ap, subst, ◌∙◌, length-append, inl, arith}
+use Rattle.std.specs.Prelude.{IsTrue, ◌↔◌}
+use Rattle.std.proofs.lemmas.List.{take_more, flat_map_more}
 use Rattle.marked_bytes.specs.declared.unpacker.PacketByte.{PacketByte}
 use Rattle.marked_bytes.specs.declared.unpacker.Unpacker.{Unpacker}
 use Rattle.marked_bytes.specs.Items.{Spelled, Item, spelling, marks_spelling, item_spelling, items_spelling, packet_byte, given, channel_behind}
-use Rattle.marked_bytes.specs.Unpacking.{are_items, is_escaped, is_escaping, IsFed, IsGiven, IsFaulty, IsWhole, Follows}
+use Rattle.marked_bytes.specs.Unpacking.{is_escaped, is_escaping, IsFed, IsGiven, IsFaulty, IsWhole, Follows}
 use Rattle.packet_bytes.specs.declared.faults.PacketFault.{PacketFault}
 use Rattle.packet_bytes.specs.declared.faults.PacketFault.TheVariants.{Refused, NoMemory}
 use Rattle.std.specs.Bool.{OnTrue, OnFalse}
@@ -14,7 +14,6 @@ use Rattle.packet_bytes.specs.declared.packets.Reader.{Reader}
 use Rattle.packet_bytes.specs.Reading.{IsReading, IsRefusedAt}
 use Rattle.packet_bytes.specs.Streams.{IsStreamFault, AreRead, IsOpen}
 use Rattle.packet_bytes.specs.declared.gathering.Gathering.{Gathering}
-use Rattle.packet_bytes.specs.declared.gathering.Packet.{Packet}
 use Rattle.packet_bytes.specs.Gathering.{Placed, placed, Gathered, with_byte, with_bytes, nothing_gathered, gathered, held_by, data_place}
 
 with_bytes_push : (before : Gathered) (bytes : List Placed) (p : Placed) → with_bytes before (bytes ++ p ∷ []) ≡ with_byte (with_bytes before bytes) p
@@ -31,7 +30,7 @@ placed_push from before (i ∷ rest) item =
     let more = from + length (item_spelling i) in
     let made : ℕ → List Placed = λ p. placed from before (i ∷ rest) ++ record { byte = packet_byte (channel_behind before (given before (i ∷ rest))) item; place = p } ∷ [] in
     let e : more + length (items_spelling rest) + length (marks_spelling item.marks) ≡ from + length (items_spelling (i ∷ rest)) + length (marks_spelling item.marks) =
-          omega (arith, length-append (item_spelling i) (items_spelling rest)) in
+    omega (arith, length-append (item_spelling i) (items_spelling rest)) in
     ap (λ ps. record { byte = packet_byte before i; place = from + length (marks_spelling i.marks) } ∷ ps) (placed_push more (packet_byte before i).channel rest item) ∙ ap made e
 
 spelling_length : (s : Spelled) → length (spelling s) ≡ cond (is_escaped s) 2 1
@@ -49,11 +48,11 @@ pub given_gathered : (fed : List ℕ) (items : List Item) (before after : Unpack
     → held_by more ≡ gathered (items ++ item ∷ [])
 given_gathered fed items before after byte place shown item gathering more n g h e =
     let long : length fed + 1 ≡ length (items_spelling items) + (length (marks_spelling item.marks) + cond (is_escaped item.byte) 2 1) =
-          sym (length-append fed (byte ∷ [])) ∙ ap length (g.spelled ∙ sym (flat_map_more item_spelling [] items item))
-          ∙ length-append (items_spelling items) (item_spelling item)
-          ∙ ap (λ k. length (items_spelling items) + k) (length-append (marks_spelling item.marks) (spelling item.byte) ∙ ap (λ k. length (marks_spelling item.marks) + k) (spelling_length item.byte)) in
+    sym (length-append fed (byte ∷ [])) ∙ ap length (g.spelled ∙ sym (flat_map_more item_spelling [] items item))
+    ∙ length-append (items_spelling items) (item_spelling item)
+    ∙ ap (λ k. length (items_spelling items) + k) (length-append (marks_spelling item.marks) (spelling item.byte) ∙ ap (λ k. length (marks_spelling item.marks) + k) (spelling_length item.byte)) in
     let at : data_place place (is_escaping before.awaits) ≡ 0 + length (items_spelling items) + length (marks_spelling item.marks) =
-          ap (λ w. data_place place w) (sym g.escaped) ∙ place_by place (length (items_spelling items)) (length (marks_spelling item.marks)) (is_escaped item.byte) (ap (λ k. k + 1) (sym n) ∙ long) in
+    ap (λ w. data_place place w) (sym g.escaped) ∙ place_by place (length (items_spelling items)) (length (marks_spelling item.marks)) (is_escaped item.byte) (ap (λ k. k + 1) (sym n) ∙ long) in
     let made : PacketByte → ℕ → Placed = λ b p. record { byte = b; place = p } in
     e ∙ ap (λ x. with_byte x (made shown (data_place place (is_escaping before.awaits)))) h ∙ ap (λ b. with_byte (gathered items) (made b (data_place place (is_escaping before.awaits)))) g.is
     ∙ ap (λ p. with_byte (gathered items) (made (packet_byte (channel_behind 0 (given 0 items)) item) p)) at

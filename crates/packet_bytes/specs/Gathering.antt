@@ -1,7 +1,7 @@
 -- The packets that the items of a stream make, with their places in it.
-use Rattle.std.specs.Prelude.{◌≡◌, ℕ, ◌+◌, ◌-◌, Bool, true, false, List, [], ◌∷◌, ◌++◌, length, if◌then◌else◌}
+use Rattle.std.specs.Prelude.{◌≡◌, ℕ, ◌+◌, ◌-◌, Bool, List, [], ◌∷◌, ◌++◌, length, if◌then◌else◌}
 use Rattle.marked_bytes.specs.declared.unpacker.PacketByte.{PacketByte}
-use Rattle.marked_bytes.specs.Items.{Item, marks_spelling, item_spelling, items_spelling, packet_byte, given, channel_behind}
+use Rattle.marked_bytes.specs.Items.{Item, marks_spelling, item_spelling, packet_byte}
 use Rattle.packet_bytes.specs.declared.gathering.Packet.{Packet}
 use Rattle.packet_bytes.specs.declared.gathering.Gathering.{Gathering}
 

@@ -1,13 +1,11 @@
 -- What a reader read so far.
-use Rattle.std.specs.Prelude.{◌≡◌, ℕ, true, List, Option, Some, None}
+use Rattle.std.specs.Prelude.{◌≡◌, ℕ, true, List}
 use Rattle.marked_bytes.specs.Items.{Item}
-use Rattle.marked_bytes.specs.Unpacking.{IsFed, IsWhole, IsFaulty}
-use Rattle.packet_bytes.specs.declared.gathering.Packet.{Packet}
+use Rattle.marked_bytes.specs.Unpacking.{IsFed, IsFaulty}
 use Rattle.packet_bytes.specs.declared.packets.Reader.{Reader}
 use Rattle.packet_bytes.specs.declared.faults.PacketFault.{PacketFault}
 use Rattle.packet_bytes.specs.declared.faults.PacketFault.TheVariants.{Refused, NoMemory}
 use Rattle.packet_bytes.specs.Gathering.{gathered, held_by}
-use Rattle.packet_bytes.specs.Streams.{AreRead}
 
 -- so many bytes were read without a fault, and the packets of their items gathered
 pub record IsReading (fed : List ℕ) (reader : Reader) : Type 0 where

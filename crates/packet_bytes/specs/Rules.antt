@@ -1,5 +1,5 @@
 -- Which rule a packet breaks.
-use Rattle.std.specs.Prelude.{◌≡◌, ◌⊎◌, ℕ, ◌+◌, ◌-◌, ◌*◌, ◌/◌, ◌%◌, ◌≤◌, Bool, true, false, ◌&&◌, ◌||◌, ◌==◌, not, nat_lt, List, [], ◌∷◌, length, Option, Some, None, slice_index, Contains, if◌then◌else◌}
+use Rattle.std.specs.Prelude.{◌≡◌, ◌⊎◌, ℕ, ◌+◌, ◌-◌, ◌/◌, ◌%◌, Bool, true, ◌&&◌, ◌==◌, not, nat_lt, List, [], ◌∷◌, length, Option, Some, None, slice_index, if◌then◌else◌}
 use Rattle.packet_bytes.specs.declared.codes.Code.{Code}
 use Rattle.packet_bytes.specs.declared.codes.Code.TheVariants.{WriteFixed, WriteIncrementing, ReadFixed, ReadIncrementing, NoTransaction}
 use Rattle.packet_bytes.specs.declared.gathering.Packet.{Packet}
@@ -56,9 +56,9 @@ most_commands = 4096
 abbrev pub transaction_fault : ℕ → ℕ → ℕ → Packet → Code → Option PacketFault
 transaction_fault word_bytes range before packet code =
     if has_length code packet.bytes then
-      (if is_in_place word_bytes range code packet.bytes then
-        (if nat_lt most_commands (before + words_of word_bytes packet.bytes) then Some (Refused packet.first_place 7) else None)
-      else Some (Refused packet.first_place 6))
+    (if is_in_place word_bytes range code packet.bytes then
+    (if nat_lt most_commands (before + words_of word_bytes packet.bytes) then Some (Refused packet.first_place 7) else None)
+    else Some (Refused packet.first_place 6))
     else Some (Refused packet.last_place 5)
 
 abbrev pub fault_by : ℕ → ℕ → ℕ → Packet → Option Code → Option PacketFault

@@ -1,5 +1,5 @@
 -- The packets of a stream, and its first fault.
-use Rattle.std.specs.Prelude.{◌≡◌, ◌≢◌, ◌⊎◌, ℕ, ◌<◌, Bool, true, false, List, [], ◌∷◌, length, take, slice_index}
+use Rattle.std.specs.Prelude.{◌≡◌, ◌⊎◌, ℕ, ◌<◌, true, List, length, take, slice_index}
 use Rattle.marked_bytes.specs.declared.unpacker.Unpacker.{Unpacker}
 use Rattle.marked_bytes.specs.Items.{Item}
 use Rattle.marked_bytes.specs.Unpacking.{are_items, IsFed, IsWhole, IsFaulty}

@@ -60,7 +60,8 @@ impl Reader {
         match self.unpacker.feed(byte) {
             Fed::More => Ok(()),
             Fed::Byte(given) => {
-                self.gathering.add(alloc, given, data_place(place, escaped))?;
+                self.gathering
+                    .add(alloc, given, data_place(place, escaped))?;
                 Ok(())
             }
             Fed::Bad(rule) => Err(refused(place, rule)),

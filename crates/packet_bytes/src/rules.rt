@@ -103,12 +103,7 @@ fn transaction_fault(
 }
 
 /// What refuses a packet behind so many commands.
-fn packet_fault(
-    word_bytes: u32,
-    range: u64,
-    before: u32,
-    packet: &Packet,
-) -> Option<PacketFault>
+fn packet_fault(word_bytes: u32, range: u64, before: u32, packet: &Packet) -> Option<PacketFault>
     requires words { IsWordSize word_bytes }
     requires few { before ≤ 4096 }
     ensures { result ≡ packet_fault word_bytes range before packet.now }
@@ -121,11 +116,7 @@ fn packet_fault(
 }
 
 /// What refuses the first packet at fault.
-pub(crate) fn first_fault(
-    word_bytes: u32,
-    range: u64,
-    packets: &[Packet],
-) -> Option<PacketFault>
+pub(crate) fn first_fault(word_bytes: u32, range: u64, packets: &[Packet]) -> Option<PacketFault>
     requires { IsWordSize word_bytes }
     ensures { result ≡ first_fault word_bytes range 0 packets.now }
 {
