@@ -1,32 +1,32 @@
 #!/usr/bin/env python3
-"""Packets of reads and writes for an Avalon bytes-to-packets link, and their replies, as lines.
+"""Packets of reads and writes as bytes, and the lines of their replies."""
+import argparse
+import sys
 
-    packets.py make <SCRIPT >BYTES             the packets that a script asks for
-    packets.py requests <BYTES                 the script that bytes ask for
-    packets.py replies SCRIPT <BYTES           what was answered to each line of a script
+from scripts import Fault, read_text, run
+
+LONG = """\
+packets.py make <SCRIPT >BYTES           the packets that a script asks for, as they are sent
+packets.py requests <BYTES               the script that bytes ask for
+packets.py replies SCRIPT <BYTES         what was answered to each line of a script
 
 A script has a transaction a line. Numbers are decimal, or hexadecimal behind 0x; the bytes of a write are hexadecimal.
 
-    write 0x10 de ad be ef     four bytes from address 0x10 on
-    read 0x10 4                four bytes from there
-    write-fixed 0x20 01 02     all bytes at one address, a word at a time
-    read-fixed 0x20 8
-    nothing                    no transaction: the other side answers that it is there
-    channel 3                  the channel of the lines below; 0 at first
+  write 0x10 de ad be ef     four bytes from address 0x10 on
+  read 0x10 4                four bytes from there
+  write-fixed 0x20 01 02     all bytes at one address, a word at a time
+  read-fixed 0x20 8
+  nothing                    no transaction: the other side answers that it is there
+  channel 3                  the channel of the lines below; 0 at first
 
-Empty lines and lines that begin with # count for nothing. Plain Python 3, no package.
+Empty lines and lines that begin with # count for nothing. It is the form of Platform Designer's bytes-to-packets converter and its
+packets-to-transactions converter, as they stand behind a serial port or JTAG.
 """
-
-import sys
 
 FIRST, LAST, CHANNEL, ESCAPE, TURNED = 0x7A, 0x7B, 0x7C, 0x7D, 0x20
 SPECIAL = (FIRST, LAST, CHANNEL, ESCAPE)
 CODES = {"write-fixed": 0x00, "write": 0x04, "read-fixed": 0x10, "read": 0x14, "nothing": 0x7F}
 NAMES = {code: name for name, code in CODES.items()}
-
-
-class Fault(Exception):
-    """What is wrong with a script or with bytes, and where."""
 
 
 # ---- marked bytes
@@ -165,6 +165,16 @@ def requests_of(text):
             raise Fault(f"line {count}: {fault}") from None
 
 
+def script_of(stream):
+    """The lines that ask for what the packets of a stream ask for."""
+    channel = 0
+    for other, data in unpack(stream):
+        if other != channel:
+            yield f"channel {other}"
+            channel = other
+        yield line_of(data)
+
+
 def make(text):
     """The packets that a script asks for, as they are sent."""
     return b"".join(pack(channel, transaction(words)) for _, channel, words in requests_of(text))
@@ -197,29 +207,20 @@ def replies(text, stream):
         yield f"besides: {data.hex(' ')} on channel {channel}"
 
 
-def main(words):
-    if words == ["make"]:
+def main():
+    words = argparse.ArgumentParser(description=LONG, formatter_class=argparse.RawDescriptionHelpFormatter)
+    words.add_argument("what", choices=["make", "requests", "replies"])
+    words.add_argument("script", nargs="?")
+    it = words.parse_args()
+    if (it.script is not None) != (it.what == "replies"):
+        words.error("replies has a script, and nothing else has one")
+    if it.what == "make":
         sys.stdout.buffer.write(make(sys.stdin.read()))
-    elif words == ["requests"]:
-        channel = 0
-        for other, data in unpack(sys.stdin.buffer.read()):
-            if other != channel:
-                print(f"channel {other}")
-                channel = other
-            print(line_of(data))
-    elif len(words) == 2 and words[0] == "replies":
-        with open(words[1]) as script:
-            for line in replies(script.read(), sys.stdin.buffer.read()):
-                print(line)
+    elif it.what == "requests":
+        print("\n".join(script_of(sys.stdin.buffer.read())))
     else:
-        print(__doc__.strip(), file=sys.stderr)
-        return 2
-    return 0
+        print("\n".join(replies(read_text(it.script), sys.stdin.buffer.read())))
 
 
 if __name__ == "__main__":
-    try:
-        sys.exit(main(sys.argv[1:]))
-    except (Fault, OSError) as fault:
-        print(f"packets.py: {fault}", file=sys.stderr)
-        sys.exit(1)
+    run(main)
