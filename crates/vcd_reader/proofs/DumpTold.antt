@@ -1,5 +1,5 @@
 -- A text of which a dump is told is that dump's.
-use Rattle.std.proofs.Common.{◌≡◌, ◌≢◌, ℕ, zero, suc, ◌+◌, ◌-◌, ◌^◌, ◌<◌, ◌≤◌, ◌==◌, ◌||◌, Bool, true, false, not, cond, inl, inr, List, [], ◌∷◌, ◌++◌, length, length-append, map, get_or, Option, Some, codes, decimal, refl, sym, ap, subst, ◌∙◌, append_assoc, append-nil, arith}
+use Rattle.std.proofs.Common.{◌≡◌, ◌≢◌, ℕ, zero, suc, ◌+◌, ◌-◌, ◌<◌, ◌≤◌, ◌==◌, ◌||◌, Bool, true, false, inl, inr, List, [], ◌∷◌, ◌++◌, length, length-append, map, get_or, codes, decimal, refl, sym, ap, subst, ◌∙◌, append_assoc, append-nil, arith}
 use Rattle.std.specs.Prelude.{All, AllPairs}
 use Rattle.std.specs.List.{list_any}
 use Rattle.std.specs.Str.{bytes_eq}
@@ -10,8 +10,8 @@ use Rattle.std.proofs.lemmas.Slice.Eq.{bytes_eq-Decides}
 use Rattle.std.proofs.Math.Seq.{get_or-append_seam}
 use Rattle.av_base.specs.Word.{Word}
 use Rattle.vcd_text.specs.declared.port.DumpPort.{DumpPort}
-use Rattle.vcd_text.specs.Text.{code, values_text, changes_text, some_change, later_text, later_texts, rows_text, time_line as line_of_time, port_line as line_of_port, ports_text, head_text, DumpValue, dump_text}
-use Rattle.vcd_text.specs.Dumps.{IsPort, IsValue, IsRow, IsDump, widths_of}
+use Rattle.vcd_text.specs.Text.{code, values_text, changes_text, some_change, later_texts, rows_text, time_line as line_of_time, port_line as line_of_port, ports_text, head_text, DumpValue}
+use Rattle.vcd_text.specs.Dumps.{IsPort, IsValue, IsRow, widths_of}
 use Rattle.netlist.specs.Names.{IsModuleName}
 use Rattle.vcd_reader.specs.declared.rule.Rule.TheVariants.{Name, Width, Code, Time}
 use Rattle.vcd_reader.specs.Found.{Found, followed, fixed, hole}
@@ -131,9 +131,9 @@ times_told (suc few) last widths front row rows text rest ok are e =
     by_end : ((last : ℕ) (widths : List ℕ) (front : List (List Word)) (row : List Word) (rows : List (List Word)) (text rest : List ℕ) → AreWidths widths → AreValues widths row
         → time_lines few widths last front row text ≡ Found.told rows rest → AreTimesTold last widths front row rows text rest)
         → (t : Bool) (time : ℕ) (middle : List ℕ) → IsTimeTold last text time middle → is_empty middle ≡ t → elim t [
-      | true ↦ Found.told (front ++ repeated (time - last - 1) row) middle
-      | false ↦ followed (change_lines (suc (length widths)) widths 0 row middle) (λ now text. time_lines few widths time (front ++ repeated (time - last - 1) row ++ now ∷ []) now text)
-    ] ≡ Found.told rows rest → AreTimesTold last widths front row rows text rest
+          | true ↦ Found.told (front ++ repeated (time - last - 1) row) middle
+          | false ↦ followed (change_lines (suc (length widths)) widths 0 row middle) (λ now text. time_lines few widths time (front ++ repeated (time - last - 1) row ++ now ∷ []) now text)
+        ] ≡ Found.told rows rest → AreTimesTold last widths front row rows text rest
     by_end told_on true time middle here none e = times_ended last time widths front row rows text middle rest are here none e
     by_end told_on false time middle here none e =
         let one = parted (change_lines (suc (length widths)) widths 0 row middle) (λ now text. time_lines few widths time (front ++ repeated (time - last - 1) row ++ now ∷ []) now text) rows rest e in
@@ -240,9 +240,9 @@ ports_told (suc few) done text ports rest apart e =
   where
     by_kind : ((done : List DumpPort) (text : List ℕ) (ports : List DumpPort) (rest : List ℕ) → AllPairs Apart done → port_lines few done text ≡ Found.told ports rest → ArePortsTold done ports text rest)
         → (t : Bool) (middle : List ℕ) → text ≡ codes "$" ++ middle → elim t [
-      | true ↦ followed (port_line done middle) (λ port text. port_lines few (done ++ port ∷ []) text)
-      | false ↦ Found.told done middle
-    ] ≡ Found.told ports rest → ArePortsTold done ports text rest
+          | true ↦ followed (port_line done middle) (λ port text. port_lines few (done ++ port ∷ []) text)
+          | false ↦ Found.told done middle
+        ] ≡ Found.told ports rest → ArePortsTold done ports text rest
     by_kind told_on true middle is e =
         let one = parted (port_line done middle) (λ port text. port_lines few (done ++ port ∷ []) text) ports rest e in
         let port = one.value in

@@ -1,15 +1,14 @@
 -- The lines of a dump's text, as they are read.
-use Rattle.std.proofs.Common.{◌≡◌, ◌≢◌, ℕ, zero, suc, ◌+◌, ◌-◌, ◌*◌, ◌^◌, ◌<◌, ◌≤◌, ◌==◌, ◌&&◌, ◌||◌, Bool, true, false, not, cond, inl, inr, List, [], ◌∷◌, ◌++◌, length, length-append, get_or, Option, Some, None, codes, decimal, refl, sym, ap, subst, ◌∙◌, eq-eqb, append_assoc, arith}
-use Rattle.std.specs.Prelude.{nat_lt, nat_eq, slice_set, slice_index_or, map}
+use Rattle.std.proofs.Common.{◌≡◌, ℕ, zero, suc, ◌+◌, ◌^◌, ◌<◌, ◌≤◌, ◌==◌, ◌&&◌, ◌||◌, Bool, true, false, not, cond, inl, inr, List, [], ◌∷◌, ◌++◌, length, length-append, Some, codes, decimal, refl, sym, ap, subst, ◌∙◌, eq-eqb, append_assoc, arith}
+use Rattle.std.specs.Prelude.{nat_lt, slice_set}
 use Rattle.std.specs.List.{list_any}
 use Rattle.std.specs.Str.{bytes_eq}
 use Rattle.std.proofs.lemmas.Bool.{lt-ltb, le-ltb, ne_eqb, eqb-true, cases_lt}
 use Rattle.std.proofs.Math.Seq.{set-append_seam, get_or-append_seam}
-use Rattle.av_base.specs.Word.{Word, IsWord, word}
+use Rattle.av_base.specs.Word.{Word, word}
 use Rattle.vcd_text.specs.declared.port.DumpPort.{DumpPort}
-use Rattle.vcd_text.specs.Text.{code, binary, value_line as line_of_value, change_line as line_of_change, values_text, changes_text, some_change, time_line as line_of_time, port_line as line_of_port}
+use Rattle.vcd_text.specs.Text.{code, binary, value_line as line_of_value, change_line as line_of_change, values_text, changes_text, some_change}
 use Rattle.vcd_text.specs.Dumps.{IsPort, IsValue}
-use Rattle.vcd_reader.specs.declared.rule.Rule.{Rule}
 use Rattle.vcd_reader.specs.declared.rule.Rule.TheVariants.{Name, Width, Code, Time, Value}
 use Rattle.vcd_reader.specs.Found.{Found, followed, fixed, hole}
 use Rattle.vcd_reader.specs.Spellings.{is_of_name, is_of_number, is_of_code, number_in, port_name_in, port_in, Spelled, value_in}

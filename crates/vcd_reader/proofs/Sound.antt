@@ -1,24 +1,16 @@
 -- What stands in a text of which a dump is told: the dump's own text.
-use Rattle.std.proofs.Common.{◌≡◌, ◌≢◌, ℕ, zero, suc, ◌+◌, ◌-◌, ◌*◌, ◌^◌, ◌<◌, ◌≤◌, ◌==◌, ◌&&◌, ◌||◌, Bool, true, false, not, cond, inl, inr, List, [], ◌∷◌, ◌++◌, length, length-append, map, get_or, Option, Some, None, codes, decimal, refl, sym, ap, subst, ◌∙◌, eq-eqb, append_assoc, append-nil, arith}
-use Rattle.std.specs.Prelude.{nat_lt, nat_eq, slice_set, All, AllPairs}
-use Rattle.std.specs.List.{list_any}
-use Rattle.std.specs.Str.{bytes_eq}
-use Rattle.std.proofs.lemmas.Bool.{lt-ltb, le-ltb, ne_eqb, eqb-true, ltb-true, cases_lt, and_parts}
-use Rattle.std.proofs.lemmas.List.{get_or_append_left}
-use Rattle.std.proofs.lemmas.List.Elements.{All-nil, All-cons}
-use Rattle.std.proofs.lemmas.Slice.Eq.{bytes_eq-Decides}
+use Rattle.std.proofs.Common.{◌≡◌, ℕ, zero, suc, ◌+◌, ◌-◌, ◌<◌, ◌≤◌, ◌==◌, ◌&&◌, ◌||◌, Bool, true, false, not, inl, inr, List, [], ◌∷◌, ◌++◌, length, length-append, refl, sym, ap, subst, ◌∙◌, eq-eqb, append_assoc, append-nil, arith}
+use Rattle.std.specs.Prelude.{nat_lt, slice_set}
+use Rattle.std.proofs.lemmas.Bool.{lt-ltb, eqb-true, ltb-true, cases_lt, and_parts}
 use Rattle.std.proofs.Math.Seq.{set-append_seam, get_or-append_seam}
-use Rattle.av_base.specs.Word.{Word, IsWord, word}
-use Rattle.vcd_text.specs.declared.port.DumpPort.{DumpPort}
-use Rattle.vcd_text.specs.Text.{code, value_line as line_of_value, values_text, changes_text, some_change, later_text, later_texts, rows_text, time_line as line_of_time, port_line as line_of_port, ports_text, head_text, DumpValue, dump_text}
-use Rattle.vcd_text.specs.Dumps.{IsPort, IsValue, IsRow, IsDump, widths_of}
-use Rattle.vcd_reader.specs.declared.rule.Rule.TheVariants.{OtherByte, Name, Width, Code, Time}
-use Rattle.vcd_reader.specs.Found.{Found, followed, fixed, hole}
-use Rattle.vcd_reader.specs.Spellings.{is_of_name, is_of_number, is_of_code, number_in, module_name_in, port_name_in, port_in}
-use Rattle.vcd_reader.specs.Readings.{begins, is_empty, port_line, port_lines, value_line, first_values, width_at, bits_at, change_line, change_lines, time_line, time_lines, repeated, row_lines, dump_read}
+use Rattle.av_base.specs.Word.{Word, word}
+use Rattle.vcd_text.specs.Text.{value_line as line_of_value, values_text, changes_text, some_change}
+use Rattle.vcd_text.specs.Dumps.{IsValue}
+use Rattle.vcd_reader.specs.Found.{Found, followed}
+use Rattle.vcd_reader.specs.Readings.{begins, value_line, first_values, width_at, bits_at, change_line, change_lines}
 use Rattle.vcd_reader.proofs.Lines.{AreValues, change_by}
-use Rattle.vcd_reader.proofs.Whole.{AreRows, later_by, values_count, dump_form, port_form, later_form}
-use Rattle.vcd_reader.proofs.Told.{Parted, parted, same_told, fixed_told, hole_told, number_told, port_told, module_told, name_told, value_line_told, IsValueTold}
+use Rattle.vcd_reader.proofs.Whole.{values_count}
+use Rattle.vcd_reader.proofs.Told.{parted, same_told, value_line_told, IsValueTold}
 
 -- ---- the first values
 
@@ -147,9 +139,11 @@ port_changes few k p front one width other done same old value later now text mi
   where
     count_here : k + length same ≡ p
     count_here = omega arith
+
     other_bits : (t : Bool) → not t ≡ true → t ≡ false
     other_bits true h = sym h
     other_bits false h = refl
+
     ended : (t : Bool) → elim t [
       | true ↦ Found.told (slice_set (done ++ (same ++ old ∷ later)) p value) middle
       | false ↦ change_lines few (front ++ (one ++ width ∷ other)) (p + 1) (slice_set (done ++ (same ++ old ∷ later)) p value) middle

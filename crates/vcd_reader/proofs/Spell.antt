@@ -1,21 +1,21 @@
 -- What the holes of a dump's text tell, where they spell a number, a code, a value or a name.
-use Rattle.std.proofs.Common.{◌≡◌, ◌≢◌, ℕ, zero, suc, ◌+◌, ◌-◌, ◌*◌, ◌/◌, ◌%◌, ◌^◌, ◌<◌, ◌≤◌, ◌==◌, ◌&&◌, ◌||◌, Bool, true, false, not, cond, inl, inr, List, [], ◌∷◌, ◌++◌, length, length-append, take, drop, Option, Some, None, codes, decimal, refl, sym, ap, subst, ◌∙◌, eq-eqb, arith}
-use Rattle.std.specs.Prelude.{nat_lt, nat_eq, All, if◌then◌else◌}
-use Rattle.std.specs.List.{list_all, list_any, prefix_len, ends_with}
+use Rattle.std.proofs.Common.{◌≡◌, ◌≢◌, ℕ, zero, suc, ◌+◌, ◌-◌, ◌*◌, ◌/◌, ◌%◌, ◌^◌, ◌<◌, ◌≤◌, ◌&&◌, Bool, true, false, not, cond, inl, inr, List, [], ◌∷◌, ◌++◌, length, take, drop, Option, Some, None, codes, decimal, refl, sym, ap, ◌∙◌, arith}
+use Rattle.std.specs.Prelude.{nat_lt, if◌then◌else◌}
+use Rattle.std.specs.List.{list_all, list_any, prefix_len}
 use Rattle.std.specs.Str.{bytes_eq}
-use Rattle.std.proofs.lemmas.Bool.{lt-ltb, le-ltb, ne_eqb, cases_lt, and_parts}
+use Rattle.std.proofs.lemmas.Bool.{lt-ltb, ne_eqb, cases_lt, and_parts}
 use Rattle.std.proofs.lemmas.Fmt.{decimal_digit, decimal_step}
-use Rattle.std.proofs.lemmas.List.Folds.{list_all-append, list_any_none}
+use Rattle.std.proofs.lemmas.List.Folds.{list_all-append}
 use Rattle.std.proofs.lemmas.Nat.{pow-add}
 use Rattle.std.proofs.lemmas.Slice.Eq.{bytes_eq-Decides}
-use Rattle.av_base.specs.Word.{Word, word}
-use Rattle.netlist.specs.Names.{is_name_byte, is_dollar, begins_with_letter, IsModuleName, IsPortName}
+use Rattle.av_base.specs.Word.{word}
+use Rattle.netlist.specs.Names.{is_name_byte, IsModuleName, IsPortName}
 use Rattle.vcd_text.specs.declared.port.DumpPort.{DumpPort}
 use Rattle.vcd_text.specs.Text.{code, binary, binary_digits}
 use Rattle.vcd_text.specs.CodeLaws.{code_low, code_high, digits_step}
 use Rattle.vcd_reader.specs.declared.rule.Rule.{Rule}
 use Rattle.vcd_reader.specs.Found.{Found, told_or, hole}
-use Rattle.vcd_reader.specs.Spellings.{is_of_name, is_of_number, is_of_code, number_behind, number_in, module_name_in, port_name_in, port_number, port_in, Spelled, is_bit, value_in}
+use Rattle.vcd_reader.specs.Spellings.{is_of_name, is_of_number, is_of_code, number_behind, number_in, module_name_in, port_name_in, port_number, port_in, Spelled, value_in}
 
 -- ---- holes
 

@@ -1,12 +1,12 @@
 -- What stands in a text where something is told of it.
-use Rattle.std.proofs.Common.{◌≡◌, ◌≢◌, ℕ, zero, suc, ◌+◌, ◌-◌, ◌*◌, ◌/◌, ◌%◌, ◌^◌, ◌<◌, ◌≤◌, ◌==◌, ◌&&◌, ◌||◌, Bool, true, false, not, cond, inl, inr, List, [], ◌∷◌, ◌++◌, length, length-append, take, drop, Option, Some, None, codes, decimal, refl, sym, ap, subst, ◌∙◌, eq-eqb, append_assoc, arith}
-use Rattle.std.specs.Prelude.{nat_lt, nat_eq, All, if◌then◌else◌}
+use Rattle.std.proofs.Common.{◌≡◌, ℕ, suc, ◌+◌, ◌-◌, ◌*◌, ◌/◌, ◌%◌, ◌^◌, ◌<◌, ◌≤◌, ◌==◌, ◌&&◌, ◌||◌, Bool, true, false, not, cond, List, [], ◌∷◌, ◌++◌, take, drop, Option, Some, None, codes, decimal, refl, sym, ap, subst, ◌∙◌, append_assoc, arith}
+use Rattle.std.specs.Prelude.{nat_lt, nat_eq, if◌then◌else◌}
 use Rattle.std.specs.List.{list_all, list_any, prefix_len, ends_with}
 use Rattle.std.specs.Str.{bytes_eq}
-use Rattle.std.proofs.lemmas.Bool.{lt-ltb, le-ltb, ne_eqb, eqb-true, ltb-true, cases_lt, and_parts}
+use Rattle.std.proofs.lemmas.Bool.{ne_eqb, eqb-true, ltb-true, and_parts}
 use Rattle.std.proofs.lemmas.List.{take-append-drop}
 use Rattle.std.proofs.lemmas.Slice.Eq.{bytes_eq-Decides}
-use Rattle.av_base.specs.Word.{Word, IsWord, word}
+use Rattle.av_base.specs.Word.{Word, word}
 use Rattle.netlist.specs.Names.{is_name_byte, is_dollar, begins_with_letter, IsModuleName, IsPortName}
 use Rattle.vcd_text.specs.declared.port.DumpPort.{DumpPort}
 use Rattle.vcd_text.specs.Text.{code, binary, value_line as line_of_value}
@@ -15,7 +15,7 @@ use Rattle.vcd_text.specs.CodeLaws.{code_low, code_high}
 use Rattle.vcd_reader.specs.declared.rule.Rule.{Rule}
 use Rattle.vcd_reader.specs.declared.rule.Rule.TheVariants.{OtherByte, Code, Value}
 use Rattle.vcd_reader.specs.Found.{Found, followed, fixed, told_or, hole}
-use Rattle.vcd_reader.specs.Spellings.{is_of_name, is_of_number, is_of_code, number_behind, number_in, module_name_in, port_name_in, port_number, port_in, Spelled, is_bit, value_in}
+use Rattle.vcd_reader.specs.Spellings.{is_of_name, is_of_number, is_of_code, number_behind, number_in, module_name_in, port_name_in, port_number, port_in, Spelled, value_in}
 use Rattle.vcd_reader.specs.Readings.{coded, spelled_behind, spelled_line, judged_value, judged, value_line}
 
 -- ---- parts

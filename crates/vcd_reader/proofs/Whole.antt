@@ -1,5 +1,5 @@
 -- The whole text of a dump, as it is read.
-use Rattle.std.proofs.Common.{◌≡◌, ◌≢◌, ℕ, zero, suc, ◌+◌, ◌-◌, ◌*◌, ◌^◌, ◌<◌, ◌≤◌, ◌==◌, Bool, true, false, not, cond, List, [], ◌∷◌, ◌++◌, length, length-append, map, get_or, Option, Some, None, codes, decimal, refl, sym, ap, subst, ◌∙◌, eq-eqb, append_assoc, append-nil, arith}
+use Rattle.std.proofs.Common.{◌≡◌, ◌≢◌, ℕ, zero, suc, ◌+◌, ◌-◌, ◌<◌, ◌≤◌, Bool, true, false, cond, List, [], ◌∷◌, ◌++◌, length, length-append, map, get_or, codes, decimal, refl, sym, ap, subst, ◌∙◌, append_assoc, append-nil, arith}
 use Rattle.std.specs.Prelude.{All, AllPairs}
 use Rattle.std.specs.List.{list_any}
 use Rattle.std.specs.Str.{bytes_eq}
@@ -8,14 +8,14 @@ use Rattle.std.proofs.lemmas.List.Folds.{list_any_none}
 use Rattle.std.proofs.lemmas.List.{get_or_append_left}
 use Rattle.std.proofs.lemmas.Slice.Eq.{bytes_eq-Decides}
 use Rattle.std.proofs.Math.Seq.{get_or-append_seam}
-use Rattle.av_base.specs.Word.{Word, IsWord}
+use Rattle.av_base.specs.Word.{Word}
 use Rattle.vcd_text.specs.declared.port.DumpPort.{DumpPort}
-use Rattle.vcd_text.specs.Text.{code, some_change, changes_text, values_text, later_text, later_texts, first_text, rows_text, time_line as line_of_time, port_line as line_of_port, ports_text, scope_text, head_text, DumpValue, dump_text}
+use Rattle.vcd_text.specs.Text.{code, some_change, changes_text, values_text, later_text, later_texts, rows_text, time_line as line_of_time, port_line as line_of_port, ports_text, head_text, DumpValue, dump_text}
 use Rattle.vcd_text.specs.Dumps.{IsPort, IsValue, IsRow, IsDump, widths_of}
-use Rattle.vcd_reader.specs.declared.rule.Rule.TheVariants.{OtherByte, Name}
+use Rattle.vcd_reader.specs.declared.rule.Rule.TheVariants.{Name}
 use Rattle.vcd_reader.specs.Found.{Found, followed, fixed, hole}
 use Rattle.vcd_reader.specs.Spellings.{is_of_name, module_name_in}
-use Rattle.vcd_reader.specs.Readings.{begins, is_empty, port_line, port_lines, first_values, change_lines, time_line, time_lines, repeated, row_lines, dump_read}
+use Rattle.vcd_reader.specs.Readings.{begins, is_empty, port_line, port_lines, change_lines, time_lines, repeated, row_lines, dump_read}
 use Rattle.vcd_reader.proofs.Spell.{hole_read, module_run, module_read}
 use Rattle.vcd_reader.proofs.Lines.{port_is_read, AreValues, first_are_read, changes_begin, is_still, changes_are_read, time_is_read}
 

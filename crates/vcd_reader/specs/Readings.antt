@@ -1,10 +1,9 @@
 -- Dumps as they are read.
-use Rattle.std.specs.Prelude.{◌≡◌, ℕ, zero, suc, ◌+◌, ◌-◌, Bool, true, false, ◌&&◌, not, ◌==◌, nat_lt, List, [], ◌∷◌, ◌++◌, length, slice_index_or, slice_set, map, Option, Some, None, codes, if◌then◌else◌}
+use Rattle.std.specs.Prelude.{◌≡◌, ℕ, zero, suc, ◌+◌, ◌-◌, Bool, true, false, ◌&&◌, not, ◌==◌, nat_lt, List, [], ◌∷◌, ◌++◌, length, slice_index_or, slice_set, Option, Some, None, codes, if◌then◌else◌}
 use Rattle.av_base.specs.Word.{Word, word}
 use Rattle.vcd_text.specs.declared.port.DumpPort.{DumpPort}
 use Rattle.vcd_text.specs.Text.{DumpValue, dump_text}
 use Rattle.vcd_text.specs.Dumps.{widths_of, IsDump}
-use Rattle.vcd_reader.specs.declared.rule.Rule.{Rule}
 use Rattle.vcd_reader.specs.declared.rule.Rule.TheVariants.{OtherByte, Name, Width, Code, Time, Value}
 use Rattle.vcd_reader.specs.Found.{Found, followed, fixed, hole}
 use Rattle.vcd_reader.specs.Spellings.{is_of_name, is_of_number, is_of_code, number_in, module_name_in, port_name_in, port_in, Spelled, value_in}

@@ -1,5 +1,5 @@
 -- Texts that are read as dumps, and texts that aren't.
-use Rattle.std.specs.Prelude.{◌≡◌, ℕ, ◌-◌, List, [], ◌∷◌, ◌++◌, length, Option, Some, None, codes}
+use Rattle.std.specs.Prelude.{◌≡◌, ℕ, ◌-◌, List, [], ◌++◌, length, Option, Some, None, codes}
 use Rattle.vcd_text.specs.Text.{DumpValue}
 use Rattle.vcd_reader.specs.declared.rule.Rule.{Rule}
 use Rattle.vcd_reader.specs.Found.{Found}
