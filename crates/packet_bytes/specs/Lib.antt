@@ -3,3 +3,5 @@ pub mod Streams
 pub mod Codes
 pub mod Rules
 pub mod Reading
+pub mod WordSizes
+pub mod Commands

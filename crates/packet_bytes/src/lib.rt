@@ -2,6 +2,7 @@
 #![tactic(auto)]
 
 mod codes;
+mod commands;
 mod faults;
 mod gathering;
 mod header;

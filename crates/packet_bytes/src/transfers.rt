@@ -1,22 +1,33 @@
 //! Transactions as a stream asks for them.
 
-ghost use Rattle.std.specs.Prelude.{◌≡◌, IfOk, IfErr};
+ghost use Rattle.std.specs.Prelude.{◌≡◌, true, IfOk, IfErr};
+ghost use Rattle.packet_bytes.specs.WordSizes.{is_word_size};
 
+use crate::commands::put_packets;
 use crate::faults::PacketFault;
 use crate::gathering::Packet;
 use crate::packets::packets_of;
 use crate::rules::first_fault;
+use av_base::{Bytes, NoMemory};
 use std::alloc::Global;
+use std::fmt::Write;
 
 /// The transactions of a stream, for a host of words of one size.
 #[derive(Drop)]
 pub struct Transfers {
     word_bytes: u32,
     packets: Vec<Packet>,
+    ghost sized: { is_word_size word_bytes ≡ true },
 }
 
 impl Transfers {
     ghost use Rattle.packet_bytes.specs.Rules.{IsWordSize, AreTransfers, IsFaultOf};
+    ghost use Rattle.packet_bytes.specs.Commands.{scenario_text};
+
+    /// The size of a word is known by its test.
+    fn size_is_known(&self)
+        ensures { IsWordSize self.now.word_bytes }
+    {}
 
     /// Reads the transactions of a stream, for a host of such words, in bytes, that reaches so many bytes.
     pub fn read(
@@ -38,5 +49,16 @@ impl Transfers {
             word_bytes,
             packets,
         })
+    }
+
+    /// A scenario of so many cycles, in which a host does the commands of the transactions, one after the other.
+    pub fn scenario(&self, alloc: Global, host: &str, cycles: u32) -> Result<Bytes, NoMemory>
+        ensures { IfOk result (λ bytes. bytes ≡ scenario_text host.now cycles self.now.word_bytes self.now.packets.items) }
+    {
+        self.size_is_known();
+        let mut text = String::new(alloc);
+        write!(text, "cycles {cycles}\n")?;
+        put_packets(&mut text, host, self.word_bytes, self.packets.as_slice())?;
+        Ok(Bytes::from(text))
     }
 }
