@@ -1,5 +1,5 @@
 -- A word's size and its test.
-use Rattle.std.proofs.Common.{◌≡◌, ◌⊎◌, inl, inr, ℕ, Bool, true, ap}
+use Rattle.std.proofs.Common.{◌≡◌, inl, inr, ℕ, true, ap}
 use Rattle.std.specs.Prelude.{◌==◌, ◌||◌}
 use Rattle.std.proofs.lemmas.Bool.{or_cases, eqb-true}
 use Rattle.packet_bytes.specs.WordSizes.{is_word_size}

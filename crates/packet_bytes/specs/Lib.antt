@@ -5,3 +5,4 @@ pub mod Rules
 pub mod Reading
 pub mod WordSizes
 pub mod Commands
+pub mod Worked

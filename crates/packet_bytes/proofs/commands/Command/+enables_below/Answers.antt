@@ -1,4 +1,4 @@
-use Rattle.std.proofs.Common.{◌≡◌, ◌+◌, ◌-◌, ◌^◌, ◌<◌, sym, ◌∙◌, arith}
+use Rattle.std.proofs.Common.{◌≡◌, ◌-◌, ◌^◌, ◌<◌, sym, ◌∙◌, arith}
 use Rattle.packet_bytes.proofs.Lanes.{enables_same, doubled}
 use Rattle.packet_bytes.proofs.commands.Command.+enables_below.Goals as goal
 

@@ -1,0 +1,53 @@
+//! Small streams, their packets, faults and statements. The functions do nothing; their contracts are worked rows.
+
+ghost use Rattle.std.specs.Prelude.{◌≡◌, [], ◌∷◌, ◌++◌, Some, None, codes};
+ghost use Rattle.packet_bytes.specs.declared.faults.PacketFault.TheVariants.{Refused};
+ghost use Rattle.packet_bytes.specs.Rules.{packet_fault, command_count};
+ghost use Rattle.packet_bytes.specs.Commands.{packet_text};
+ghost use Rattle.packet_bytes.specs.Worked.{packet, escaped_items, header};
+ghost use Rattle.packet_bytes.specs.Gathering.{gathered};
+
+/// The places of a packet are those at which the data of its first and of its last byte is spelled: of an escaped one that of the escape.
+pub fn packets_have_places()
+    ensures { (gathered escaped_items).packets ≡ record { channel = 0; bytes = 0x7f ∷ 0x7a ∷ []; first_place = 1; last_place = 3 } ∷ [] }
+{}
+
+/// Each rule with its place and its nearest neighbour, for words of 4 bytes and a range of 64.
+pub fn packets_are_refused()
+    ensures other_code { packet_fault 4 64 0 (packet (0x05 ∷ [])) ≡ Some (Refused 1 4) }
+    ensures no_transaction { packet_fault 4 64 4096 (packet (0x7f ∷ 0x7a ∷ [])) ≡ None }
+    ensures no_bytes { packet_fault 4 64 0 (packet (header 0x14 0 0)) ≡ Some (Refused 9 5) }
+    ensures long_read { packet_fault 4 64 0 (packet (header 0x14 1 0 ++ 0 ∷ [])) ≡ Some (Refused 9 5) }
+    ensures short_write { packet_fault 4 64 0 (packet (header 0x04 2 0 ++ 0x11 ∷ [])) ≡ Some (Refused 9 5) }
+    ensures code_alone { packet_fault 4 64 0 (packet (0x14 ∷ [])) ≡ Some (Refused 9 5) }
+    ensures right_write { packet_fault 4 64 0 (packet (header 0x04 2 0 ++ 0x11 ∷ 0x22 ∷ [])) ≡ None }
+    ensures unaligned_fixed { packet_fault 4 64 0 (packet (header 0x10 4 2)) ≡ Some (Refused 1 6) }
+    ensures part_of_a_word { packet_fault 4 64 0 (packet (header 0x10 6 4)) ≡ Some (Refused 1 6) }
+    ensures fixed { packet_fault 4 64 0 (packet (header 0x10 8 60)) ≡ None }
+    ensures unaligned { packet_fault 4 64 0 (packet (header 0x14 3 61)) ≡ None }
+    ensures past_the_range { packet_fault 4 64 0 (packet (header 0x14 3 62)) ≡ Some (Refused 1 6) }
+    ensures fixed_past_the_range { packet_fault 4 64 0 (packet (header 0x10 4 64)) ≡ Some (Refused 1 6) }
+    ensures too_many { packet_fault 4 64 4095 (packet (header 0x14 5 0)) ≡ Some (Refused 1 7) }
+    ensures just_enough { packet_fault 4 64 4095 (packet (header 0x14 4 0)) ≡ None }
+{}
+
+/// How many commands packets stand for.
+pub fn commands_are_counted()
+    ensures aligned { command_count 4 (header 0x14 8 4) ≡ 2 }
+    ensures unaligned { command_count 4 (header 0x14 8 3) ≡ 3 }
+    ensures within_a_word { command_count 4 (header 0x14 2 1) ≡ 1 }
+    ensures fixed { command_count 4 (header 0x10 12 8) ≡ 3 }
+    ensures bytes { command_count 1 (header 0x14 5 7) ≡ 5 }
+    ensures no_transaction { command_count 4 (0x7f ∷ []) ≡ 0 }
+{}
+
+/// The statements of transactions: one for each word that their bytes touch, with just the lanes of these bytes.
+pub fn commands_are_stated()
+    ensures whole_write { packet_text (codes "h.m") 4 (packet (header 0x04 4 0 ++ 0x11 ∷ 0x22 ∷ 0x33 ∷ 0x44 ∷ [])) ≡ codes "write h.m 0000000000 000f 44332211\n" }
+    ensures whole_read { packet_text (codes "h.m") 4 (packet (header 0x14 4 0)) ≡ codes "read h.m 0000000000 000f 1\n" }
+    ensures unaligned { packet_text (codes "h.m") 4 (packet (header 0x04 2 0x103 ++ 0xaa ∷ 0xbb ∷ [])) ≡ codes "write h.m 0000000100 0008 aa000000\nwrite h.m 0000000104 0001 000000bb\n" }
+    ensures inside { packet_text (codes "h.m") 4 (packet (header 0x14 2 1)) ≡ codes "read h.m 0000000000 0006 1\n" }
+    ensures fixed { packet_text (codes "h.m") 2 (packet (header 0x00 4 6 ++ 1 ∷ 2 ∷ 3 ∷ 4 ∷ [])) ≡ codes "write h.m 0000000006 0003 0201\nwrite h.m 0000000006 0003 0403\n" }
+    ensures nothing { packet_text (codes "h.m") 4 (packet (0x7f ∷ 0x7a ∷ [])) ≡ [] }
+    ensures lane_too_many { ¬ (packet_text (codes "h.m") 4 (packet (header 0x14 2 1)) ≡ codes "read h.m 0000000000 0007 1\n") }
+{}
