@@ -3,8 +3,9 @@
 
 FURTHER are files with what THEIRS may be made of. Agents with readdatavalid, which have waitrequest too, give a word only where they owe
 one, as the rules ask, since the two may differ where a word comes that nobody asked. So hosts with burstcount keep its rules too.
-What an output shows counts only where it means something: a host's word where it is valid, a command where it is shown, the address and the
-burstcount of a burst in its first beat.
+What an output shows counts only where it means something: a host's word where it is valid, and of it the lanes that its read enabled; a
+command where it is shown, its word only where it writes; the address and the burstcount of a burst in its first beat. At an agent with
+waitrequest a beat that waits stands unchanged, its word too, and a module that changes it is told.
 """
 import re
 import subprocess
@@ -12,6 +13,7 @@ import sys
 from pathlib import Path
 
 CYCLES = 40000
+MOST_WORDS = 1024  # more than a host can be owed
 
 
 def ports_of(text):
@@ -31,6 +33,12 @@ def end_of(name):
 
 def random(bits):
     return "{" + ", ".join(["$random"] * ((bits + 31) // 32)) + "}"
+
+
+def told(condition, what, *values):
+    """Counts a difference, and tells of the first ones."""
+    shown = "".join(f", {value}" for value in values)
+    return f'if ({condition}) begin errors = errors + 1; if (errors < 5) $display("cycle %0d: {what}{" %h" * len(values)}", cycle{shown}); end'
 
 
 def bench(ports):
@@ -53,6 +61,19 @@ def bench(ports):
         lines.append(f"  integer owed_{flat(agent)} = 0;")
     for host in hosts:
         lines.append(f"  reg stands_{flat(host)} = 0;")
+    # the lanes of the words that a host is still to be given
+    lanes = {end_of(n)[0]: bits for _, bits, n in inputs if end_of(n)[1] == "byteenable"}
+    for host, bits in lanes.items():
+        h = flat(host)
+        lines += [f"  reg [{bits - 1}:0] lanes_{h} [0:{MOST_WORDS - 1}]; integer asked_{h} = 0, given_{h} = 0, word_{h};"]
+        lines += [f"  wire [{bits - 1}:0] enabled_{h} = {f'lanes_{h}[given_{h} % {MOST_WORDS}]' if f'{host}$readdatavalid' in names else f'{h}_byteenable'};"]
+    # what a beat at an agent was that waited, and whether one did
+    commands = {agent: [n for _, _, n in outputs if end_of(n)[0] == agent and end_of(n)[1] != "grant"] for agent in agents}
+    waiting = [agent for agent in agents if f"{agent}$waitrequest" in names]
+    widths = {name: bits for _, bits, name in ports}
+    for agent in waiting:
+        for which in "ab":
+            lines.append(f"  reg [{sum(widths[n] for n in commands[agent]) - 1}:0] was_{which}_{flat(agent)}; reg waited_{which}_{flat(agent)} = 0;")
     bursting = sorted({end_of(n)[0] for _, _, n in ports if end_of(n)[-1] == "burstcount"})
     for end in bursting:
         lines.append(f"  integer left_{flat(end)} = 0;")
@@ -87,11 +108,15 @@ def bench(ports):
         end, role = end_of(name)
         f = flat(name)
         e = flat(end)
+        differs = f"a_{f} !== b_{f}"
         if role in ("readdata",):
             when = f"a_{e}_readdatavalid" if f"{end}$readdatavalid" in names else f"{e}_read && !a_{e}_waitrequest"
+            if end in lanes:
+                mask = ", ".join(f"{{8{{enabled_{e}[{lane}]}}}}" for lane in reversed(range(lanes[end])))
+                differs = f"((a_{f} ^ b_{f}) & {{{mask}}}) !== 0"
         elif role in ("address", "writedata", "byteenable", "burstcount", "grant"):
             shows = [f"a_{e}_{k}" for k in ("read", "write") if f"{end}${k}" in names]
-            if role in ("writedata", "byteenable"):
+            if role == "writedata":
                 shows = [s for s in shows if s.endswith("write")]
             when = " || ".join(shows) or "1"
             if end in bursting and role in ("address", "burstcount"):
@@ -100,7 +125,15 @@ def bench(ports):
             when = f"{e}_read || {e}_write"
         else:
             when = "1"
-        lines.append(f"      if (({when}) && a_{f} !== b_{f}) begin errors = errors + 1; if (errors < 5) $display(\"cycle %0d: {name} %h %h\", cycle, a_{f}, b_{f}); end")
+        lines.append("      " + told(f"({when}) && {differs}", name, f"a_{f}", f"b_{f}"))
+    for agent in waiting:
+        a = flat(agent)
+        for which in "ab":
+            command = "{" + ", ".join(f"{which}_{flat(n)}" for n in commands[agent]) + "}"
+            shown = " || ".join(f"{which}_{flat(n)}" for n in commands[agent] if end_of(n)[1] in ("read", "write"))
+            changed = told(f"waited_{which}_{a} && was_{which}_{a} !== {command}", f"{'ours' if which == 'a' else 'theirs'} changes what waits at {agent}")
+            lines.append(f"      {changed}")
+            lines.append(f"      was_{which}_{a} = {command}; waited_{which}_{a} = ({shown}) && {a}_waitrequest;")
     for agent in saying:
         a = flat(agent)
         asked = f"a_{a}_burstcount" if agent in bursting else "1"
@@ -110,6 +143,14 @@ def bench(ports):
         beat, wait = (f"a_{e}", f"{e}_waitrequest") if end in agents else (e, f"a_{e}_waitrequest")
         if f"{end}$write" in names:
             lines.append(f"      if ({beat}_write && !{wait}) left_{e} = (left_{e} ? left_{e} : {beat}_burstcount) - 1;")
+    for host in lanes:
+        h = flat(host)
+        words = f"{h}_burstcount" if host in bursting else "1"
+        lines.append(f"      if ({h}_read && !a_{h}_waitrequest) for (word_{h} = {words}; word_{h} > 0; word_{h} = word_{h} - 1) begin")
+        lines.append(f"        lanes_{h}[asked_{h} % {MOST_WORDS}] = {h}_byteenable; asked_{h} = asked_{h} + 1;")
+        lines.append("      end")
+        if f"{host}$readdatavalid" in names:
+            lines.append(f"      given_{h} = given_{h} + a_{h}_readdatavalid;")
     for host in hosts:
         h = flat(host)
         lines.append(f"      stands_{h} = ({h}_read || {h}_write) && a_{h}_waitrequest;")
