@@ -14,5 +14,5 @@ for k in $(seq 1 64); do
   files+=("$folder/$k.tcl")
 done
 began=$(date +%s.%N)
-"$top/.avalon/avalon" generate "${files[@]}" || true
+"$top/avalon" generate "${files[@]}" || true
 echo "64 files of 1 MiB: $(echo "$(date +%s.%N) - $began" | bc) s"
