@@ -8,12 +8,12 @@ ghost use Rattle.net_parts.specs.Nets.{IsBit, IsNetOfWidth};
 ghost use Rattle.net_parts.specs.Growth.{AddsNets, GrowsBy, StillWait, WaitsBeside};
 ghost use Rattle.net_parts.specs.Groups.{AreNets, AreWaiting, AreNumberedFrom, InGroup, StartAllLow, group_widths};
 ghost use Rattle.command_nets.specs.Nets.{AreCommandNets};
-ghost use Rattle.mm_drop.specs.Nets.{AreStandingNets, AreRegisters, IsNextCount, AreNextNets, now_in, beat_group, registers_of, likes_of};
+ghost use Rattle.mm_drop.specs.Nets.{AreStandingNets, AreRegisters, AreNextNets, now_in, beat_group, registers_of, likes_of};
 
-use crate::bits::is_some;
 use crate::shows::StandingNets;
-use command_nets::{CommandNets, both, either, turned, unless};
-use net_parts::{choose_all, fit_bits, low_registers};
+use command_nets::CommandNets;
+use net_parts::{choose_all, low_registers};
+use net_terms::{Add, And, Bit, Bus, Fit, NonZero, Not, Or, Sub, Wire, Word};
 use netlist::{Builder, Net, NetFault};
 
 /// The registers. Of a kept beat neither read nor write is kept: it is a write.
@@ -126,85 +126,6 @@ pub(crate) fn hold(
     Ok(DropRegisters::of_group(made))
 }
 
-/// Whether the accepted beat is kept: a write beat with a lane that another may follow.
-#[tactic(auto, using(net_parts::specs::Laws::growing))]
-fn keeps_beat(builder: &mut Builder, now: &StandingNets, accepted: Net) -> Result<Net, NetFault>
-    requires now { AreStandingNets builder.old now.now }
-    requires accepted { IsBit builder.old accepted }
-    ensures net { IfOk result (λ net. IsBit builder.new net) }
-    ensures value { IfOk result (λ net. Always builder.new (λ cycle. is_raised (cycle.net net.number) ≡ (is_raised (cycle.net accepted.number) && (((now_in cycle now.now).writes && (now_in cycle now.now).more) && (now_in cycle now.now).acts)))) }
-    ensures adds { AddsNets 3 builder.old builder.new }
-    ensures full { result ≡ Err NetFault.TooManyNets → 2 ^ 20 < length builder.old.lines + 3 }
-{
-    let joins = both(builder, now.writes, now.more)?;
-    let acting = both(builder, joins, now.acts)?;
-    both(builder, accepted, acting)
-}
-
-/// Whether the accepted beat is a read without a lane, which is given its word in the next cycle.
-#[tactic(auto, using(net_parts::specs::Laws::growing))]
-fn owes_word(builder: &mut Builder, now: &StandingNets, accepted: Net) -> Result<Net, NetFault>
-    requires now { AreStandingNets builder.old now.now }
-    requires accepted { IsBit builder.old accepted }
-    ensures net { IfOk result (λ net. IsBit builder.new net) }
-    ensures value { IfOk result (λ net. Always builder.new (λ cycle. is_raised (cycle.net net.number) ≡ (is_raised (cycle.net accepted.number) && (not (now_in cycle now.now).writes && not (now_in cycle now.now).acts)))) }
-    ensures adds { AddsNets 4 builder.old builder.new }
-    ensures full { result ≡ Err NetFault.TooManyNets → 2 ^ 20 < length builder.old.lines + 4 }
-{
-    let reads = turned(builder, now.writes)?;
-    let empty = unless(builder, reads, now.acts)?;
-    both(builder, accepted, empty)
-}
-
-/// Whether a beat is kept in the next cycle.
-#[tactic(auto, using(net_parts::specs::Laws::growing))]
-fn next_holds(builder: &mut Builder, holds: Net, keeps: Net, taken: Net) -> Result<Net, NetFault>
-    requires holds { IsBit builder.old holds }
-    requires keeps { IsBit builder.old keeps }
-    requires taken { IsBit builder.old taken }
-    ensures net { IfOk result (λ net. IsBit builder.new net) }
-    ensures value { IfOk result (λ net. Always builder.new (λ cycle. is_raised (cycle.net net.number) ≡ (is_raised (cycle.net keeps.number) || (is_raised (cycle.net holds.number) && not (is_raised (cycle.net taken.number)))))) }
-    ensures adds { AddsNets 3 builder.old builder.new }
-    ensures full { result ≡ Err NetFault.TooManyNets → 2 ^ 20 < length builder.old.lines + 3 }
-{
-    let stays = unless(builder, holds, taken)?;
-    either(builder, keeps, stays)
-}
-
-/// Whether a word that comes from below is owed.
-#[tactic(auto, using(net_parts::specs::Laws::growing))]
-fn is_owed(builder: &mut Builder, reads: Net, comes: Net, valid: Net) -> Result<Net, NetFault>
-    requires reads { IsNet builder.old reads }
-    requires comes { IsBit builder.old comes }
-    requires valid { IsBit builder.old valid }
-    ensures net { IfOk result (λ net. IsBit builder.new net) }
-    ensures value { IfOk result (λ net. Always builder.new (λ cycle. is_raised (cycle.net net.number) ≡ (is_raised (cycle.net valid.number) && (nat_lt 0 (cycle.net reads.number) || is_raised (cycle.net comes.number))))) }
-    ensures adds { AddsNets 4 builder.old builder.new }
-    ensures full { result ≡ Err NetFault.TooManyNets → 2 ^ 20 < length builder.old.lines + 4 }
-{
-    let some = is_some(builder, reads)?;
-    let owed = either(builder, some, comes)?;
-    both(builder, valid, owed)
-}
-
-/// The count after a cycle in which a read comes or one goes.
-#[tactic(auto, using(net_parts::specs::Laws::growing))]
-fn next_count(builder: &mut Builder, count: Net, comes: Net, goes: Net) -> Result<Net, NetFault>
-    requires count { IsNet builder.old count }
-    requires comes { IsBit builder.old comes }
-    requires goes { IsBit builder.old goes }
-    ensures net { IfOk result (λ next. IsNetOfWidth builder.new next count.width) }
-    ensures value { IfOk result (λ next. Always builder.new (λ cycle. IsNextCount count.width (cycle.net count.number) (cycle.net comes.number) (cycle.net goes.number) (cycle.net next.number))) }
-    ensures adds { AddsNets 6 builder.old builder.new }
-    ensures full { result ≡ Err NetFault.TooManyNets → 2 ^ 20 < length builder.old.lines + 6 }
-{
-    let bits = builder.width(count);
-    let more = fit_bits(builder, comes, 1, bits)?;
-    let fewer = fit_bits(builder, goes, 1, bits)?;
-    let sum = builder.add(count, more)?;
-    builder.sub(sum, fewer)
-}
-
 /// The words owed below in the next cycle. A word that isn't owed leaves the count at 0.
 #[tactic(auto, using(net_parts::specs::Laws::growing))]
 fn next_reads(builder: &mut Builder, reads: Net, comes: Net, valid: Net) -> Result<Net, NetFault>
@@ -213,11 +134,27 @@ fn next_reads(builder: &mut Builder, reads: Net, comes: Net, valid: Net) -> Resu
     requires valid { IsBit builder.old valid }
     ensures net { IfOk result (λ next. IsNetOfWidth builder.new next reads.width) }
     ensures value { IfOk result (λ next. Always builder.new (λ cycle. cycle.net reads.number + one_if (is_raised (cycle.net comes.number)) < 2 ^ reads.width → cycle.net next.number ≡ (cycle.net reads.number + one_if (is_raised (cycle.net comes.number))) - one_if (is_raised (cycle.net valid.number)))) }
-    ensures adds { AddsNets 10 builder.old builder.new }
-    ensures full { result ≡ Err NetFault.TooManyNets → 2 ^ 20 < length builder.old.lines + 10 }
+    ensures adds { AddsNets 9 builder.old builder.new }
+    ensures full { result ≡ Err NetFault.TooManyNets → 2 ^ 20 < length builder.old.lines + 9 }
 {
-    let goes = is_owed(builder, reads, comes, valid)?;
-    next_count(builder, reads, comes, goes)
+    let bits = builder.width(reads);
+    let owed = Or(NonZero(Bus(reads)), Wire(comes));
+    let goes = And(Wire(valid), owed).emit(builder)?;
+    let sum = Add(
+        Bus(reads),
+        Fit {
+            word: Bus(comes),
+            bits,
+        },
+    );
+    Sub(
+        sum,
+        Fit {
+            word: Bus(goes),
+            bits,
+        },
+    )
+    .emit_word(builder)
 }
 
 /// What happens in a cycle, as bits.
@@ -252,11 +189,14 @@ pub(crate) fn next_registers(
     ensures nets { IfOk result (λ next. AreNets builder.new (registers_of next)) }
     ensures widths { IfOk result (λ next. group_widths (registers_of registers.now) ≡ group_widths (registers_of next)) }
     ensures value { IfOk result (λ next. AreNextNets builder.new from.now registers.now now.now moves.now.accepted moves.now.taken moves.now.writes moves.now.valid next) }
-    ensures adds { AddsNets 27 builder.old builder.new }
-    ensures full { result ≡ Err NetFault.TooManyNets → 2 ^ 20 < length builder.old.lines + 27 }
+    ensures adds { AddsNets 26 builder.old builder.new }
+    ensures full { result ≡ Err NetFault.TooManyNets → 2 ^ 20 < length builder.old.lines + 26 }
 {
-    let keeps = keeps_beat(builder, now, moves.accepted)?;
-    let holds = next_holds(builder, registers.holds, keeps, moves.taken)?;
+    // a write beat is kept where another may follow it
+    let joins = And(Wire(now.writes), Wire(now.more));
+    let keeps = And(Wire(moves.accepted), And(joins, Wire(now.acts))).emit(builder)?;
+    let stays = And(Wire(registers.holds), Not(Wire(moves.taken)));
+    let holds = Or(Wire(keeps), stays).emit(builder)?;
     let shown = [from.address, from.word, from.enables, from.count, from.tag];
     let kept = [
         registers.address,
@@ -266,9 +206,11 @@ pub(crate) fn next_registers(
         registers.tag,
     ];
     let items = choose_all(builder, keeps, &shown, &kept)?;
-    let comes = unless(builder, moves.taken, moves.writes)?;
+    let comes = And(Wire(moves.taken), Not(Wire(moves.writes))).emit(builder)?;
     let reads = next_reads(builder, registers.reads, comes, moves.valid)?;
-    let own = owes_word(builder, now, moves.accepted)?;
+    // a read without a lane is given its word in the next cycle
+    let empty = And(Not(Wire(now.writes)), Not(Wire(now.acts)));
+    let own = And(Wire(moves.accepted), empty).emit(builder)?;
     let beat = BeatNets::of_group(items);
     Ok(DropRegisters {
         holds,

@@ -1,6 +1,6 @@
 //! What is shown below: the kept beat, or what stands above.
 
-ghost use Rattle.std.specs.Prelude.{◌≡◌, ◌+◌, ◌^◌, ◌<◌, ◌≤◌, ◌&&◌, if◌then◌else◌, length, IfOk};
+ghost use Rattle.std.specs.Prelude.{◌≡◌, ◌+◌, ◌^◌, ◌<◌, ◌≤◌, length, IfOk};
 ghost use Rattle.histories.specs.History.{is_raised};
 ghost use Rattle.netlist.specs.Netlists.{IsNet};
 ghost use Rattle.netlist.specs.Runs.{Always};
@@ -11,10 +11,10 @@ ghost use Rattle.command_nets.specs.Groups.{HaveSameWidths, hidden};
 ghost use Rattle.mm_links.specs.Drops.{sends};
 ghost use Rattle.mm_drop.specs.Nets.{AreStandingNets, AreRegisters, now_in, now_of, held_in, shown_in};
 
-use crate::bits::{choose_bit, is_less};
 use crate::registers::DropRegisters;
-use command_nets::{CommandNets, both, choose_command, either, shown, shown_while, turned};
+use command_nets::{CommandNets, choose_command, shown, shown_while, turned};
 use net_parts::{constant, is_above};
+use net_terms::{And, Bit, Bus, Less, Mux, Or, Wire};
 use netlist::{Builder, Net, NetFault};
 
 /// What stands above in a cycle, with the registers that it is judged by.
@@ -63,26 +63,6 @@ pub(crate) fn stand(
     })
 }
 
-/// Whether a beat with a lane may go below while none is kept: a write that ends its command, or a read that there is room for.
-#[tactic(auto, using(net_parts::specs::Laws::growing))]
-fn goes_straight(
-    builder: &mut Builder,
-    now: &StandingNets,
-    last: Net,
-    free: Net,
-) -> Result<Net, NetFault>
-    requires now { AreStandingNets builder.old now.now }
-    requires last { IsBit builder.old last }
-    requires free { IsBit builder.old free }
-    ensures net { IfOk result (λ net. IsBit builder.new net) }
-    ensures value { IfOk result (λ net. Always builder.new (λ cycle. is_raised (cycle.net net.number) ≡ ((now_in cycle now.now).acts && (if (now_in cycle now.now).writes then is_raised (cycle.net last.number) else is_raised (cycle.net free.number))))) }
-    ensures adds { AddsNets 2 builder.old builder.new }
-    ensures full { result ≡ Err NetFault.TooManyNets → 2 ^ 20 < length builder.old.lines + 2 }
-{
-    let ends = choose_bit(builder, now.writes, last, free)?;
-    both(builder, now.acts, ends)
-}
-
 /// Whether a beat is shown below, where `room` tells how many words may be owed.
 #[tactic(auto, using(net_parts::specs::Laws::growing))]
 pub(crate) fn shows_below(
@@ -99,11 +79,17 @@ pub(crate) fn shows_below(
     ensures full { result ≡ Err NetFault.TooManyNets → 2 ^ 20 < length builder.old.lines + 7 }
 {
     let last = turned(builder, now.more)?;
-    let free = is_less(builder, now.reads, room)?;
-    let straight = goes_straight(builder, now, last, free)?;
-    let joined = either(builder, now.acts, last)?;
-    let goes = choose_bit(builder, now.holds, joined, straight)?;
-    both(builder, now.shown, goes)
+    // while none is kept, a beat with a lane goes straight: a write that ends its command, or a read that there is room for
+    let straight = And(
+        Wire(now.acts),
+        Mux(
+            Wire(now.writes),
+            Wire(last),
+            Less(Bus(now.reads), Bus(room)),
+        ),
+    );
+    let joined = Or(Wire(now.acts), Wire(last));
+    And(Wire(now.shown), Mux(Wire(now.holds), joined, straight)).emit(builder)
 }
 
 /// The command below: the kept beat, or what stands above, while `sends` is high.
