@@ -18,8 +18,11 @@ use crate::gather::fill_word;
 use crate::lanes::{Search, find};
 use crate::registers::SplitRegisters;
 use crate::sizes::Sizes;
-use command_nets::{AnswerNets, CommandNets, both, either, shown, turned, unless};
-use net_parts::{choose, constant, fit_bits};
+use command_nets::{AnswerNets, CommandNets};
+use net_parts::{constant, fit_bits};
+use net_terms::{
+    Add, And, Bit, Bus, Constant, Less, MuxWord, NonZero, Not, Or, Sub, Wire, Word, Xor, emit_two,
+};
 use netlist::{Builder, Net, NetFault};
 
 /// Whether the piece that comes is the last one of its word. The place and the count have five bits.
@@ -33,10 +36,8 @@ fn completes(builder: &mut Builder, place: Net, count: Net) -> Result<Net, NetFa
     ensures adds { AddsNets 4 builder.old builder.new }
     ensures full { result ≡ Err NetFault.TooManyNets → 2 ^ 20 < length builder.old.lines + 4 }
 {
-    let one = constant(builder, 5, 1)?;
-    let next = builder.add(place, one)?;
-    let more = builder.less(next, count)?;
-    turned(builder, more)
+    let next = Add(Bus(place), Constant { bits: 5, value: 1 });
+    Not(Less(next, Bus(count))).emit(builder)
 }
 
 /// The greater one of two nets of one width.
@@ -49,8 +50,7 @@ fn greater(builder: &mut Builder, one: Net, other: Net) -> Result<Net, NetFault>
     ensures adds { AddsNets 2 builder.old builder.new }
     ensures full { result ≡ Err NetFault.TooManyNets → 2 ^ 20 < length builder.old.lines + 2 }
 {
-    let less = builder.less(one, other)?;
-    choose(builder, less, other, one)
+    MuxWord(Less(Bus(one), Bus(other)), Bus(other), Bus(one)).emit_word(builder)
 }
 
 /// The word that stands above with the piece that comes.
@@ -122,14 +122,12 @@ pub(crate) fn take(
     ensures adds { AddsNets 9 builder.old builder.new }
     ensures full { result ≡ Err NetFault.TooManyNets → 2 ^ 20 < length builder.old.lines + 9 }
 {
-    let shows = shown(builder, &part.below)?;
-    let below = unless(builder, shows, wait)?;
-    let closes = both(builder, below, part.above.last)?;
-    let done = either(builder, part.above.none, closes)?;
-    let goes = both(builder, part.opens, done)?;
-    let waits = turned(builder, goes)?;
-    let stands = shown(builder, from)?;
-    let above = both(builder, stands, goes)?;
+    let shows = Or(Wire(part.below.read), Wire(part.below.write));
+    let below = And(shows, Not(Wire(wait))).emit(builder)?;
+    let closes = And(Wire(below), Wire(part.above.last));
+    let done = And(Wire(part.opens), Or(Wire(part.above.none), closes)).emit(builder)?;
+    let stands = Or(Wire(from.read), Wire(from.write));
+    let (waits, above) = emit_two(builder, &Not(Wire(done)), &And(stands, Wire(done)))?;
     Ok(Taken {
         waits,
         above,
@@ -156,10 +154,12 @@ fn step(
     ensures adds { AddsNets 3 builder.old builder.new }
     ensures full { result ≡ Err NetFault.TooManyNets → 2 ^ 20 < length builder.old.lines + 3 }
 {
-    let width = builder.width(register);
-    let zeros = constant(builder, width, 0)?;
-    let taken = choose(builder, clears, zeros, next)?;
-    choose(builder, moves, taken, register)
+    let zeros = Constant {
+        bits: builder.width(register),
+        value: 0,
+    };
+    let taken = MuxWord(Wire(clears), zeros, Bus(next));
+    MuxWord(Wire(moves), taken, Bus(register)).emit_word(builder)
 }
 
 /// What a count takes that goes on by one, or back to 0.
@@ -174,26 +174,12 @@ fn step_on(builder: &mut Builder, register: Net, moves: Net, clears: Net) -> Res
     ensures adds { AddsNets 5 builder.old builder.new }
     ensures full { result ≡ Err NetFault.TooManyNets → 2 ^ 20 < length builder.old.lines + 5 }
 {
-    let width = builder.width(register);
-    let one = constant(builder, width, 1)?;
-    let next = builder.add(register, one)?;
+    let one = Constant {
+        bits: builder.width(register),
+        value: 1,
+    };
+    let next = Add(Bus(register), one).emit_word(builder)?;
     step(builder, register, moves, clears, next)
-}
-
-/// One less, but no less than 0, in five bits.
-#[tactic(auto, using(net_parts::specs::Laws::growing))]
-fn one_fewer(builder: &mut Builder, count: Net, one: Net) -> Result<Net, NetFault>
-    requires count { IsNetOfWidth builder.old count 5 }
-    requires one { IsNetOfWidth builder.old one 5 }
-    requires unit { Always builder.old (λ cycle. cycle.net one.number ≡ 1) }
-    ensures net { IfOk result (λ net. IsNetOfWidth builder.new net 5) }
-    ensures value { IfOk result (λ net. Always builder.new (λ cycle. cycle.net net.number ≡ cycle.net count.number - 1)) }
-    ensures adds { AddsNets 3 builder.old builder.new }
-    ensures full { result ≡ Err NetFault.TooManyNets → 2 ^ 20 < length builder.old.lines + 3 }
-{
-    let some = builder.any(count)?;
-    let fewer = builder.sub(count, one)?;
-    choose(builder, some, fewer, count)
 }
 
 /// What the count of reads takes, in five bits: one more where a read comes, one less where one goes.
@@ -209,11 +195,9 @@ fn count_reads(builder: &mut Builder, count: Net, comes: Net, goes: Net) -> Resu
     ensures full { result ≡ Err NetFault.TooManyNets → 2 ^ 20 < length builder.old.lines + 8 }
 {
     let one = constant(builder, 5, 1)?;
-    let more = builder.add(count, one)?;
-    let fewer = one_fewer(builder, count, one)?;
-    let next = choose(builder, comes, more, fewer)?;
-    let changes = builder.xor(comes, goes)?;
-    choose(builder, changes, next, count)
+    let fewer = MuxWord(NonZero(Bus(count)), Sub(Bus(count), Bus(one)), Bus(count));
+    let next = MuxWord(Wire(comes), Add(Bus(count), Bus(one)), fewer);
+    MuxWord(Xor(Wire(comes), Wire(goes)), next, Bus(count)).emit_word(builder)
 }
 
 /// What the registers of a splitter take. `valid` says that a word is given above.
@@ -241,11 +225,11 @@ pub(crate) fn next_registers(
     ensures adds { AddsNets 30 builder.old builder.new }
     ensures full { result ≡ Err NetFault.TooManyNets → 2 ^ 20 < length builder.old.lines + 30 }
 {
-    let moves = either(builder, taken.above, taken.below)?;
+    let moves = Or(Wire(taken.above), Wire(taken.below)).emit(builder)?;
     let place = step_on(builder, registers.place, moves, taken.above)?;
-    let reads_below = unless(builder, taken.below, part.below.write)?;
-    let set = choose(builder, reads_below, part.asked, registers.set)?;
-    let reads_above = unless(builder, taken.above, from.write)?;
+    let reads_below = And(Wire(taken.below), Not(Wire(part.below.write)));
+    let set = MuxWord(reads_below, Bus(part.asked), Bus(registers.set)).emit_word(builder)?;
+    let reads_above = And(Wire(taken.above), Not(Wire(from.write))).emit(builder)?;
     let reads = count_reads(builder, registers.reads, reads_above, valid)?;
     let come = step_on(builder, registers.come, arrives, coming.completes)?;
     let word = step(

@@ -7,163 +7,145 @@ use Rattle.command_nets.specs.Levels.{one_fits}
 use Rattle.mm_split.proofs.command.part_below.Goals as goal
 
 pub returns-in_err-read-clause-adds : goal.returns-in_err-read-clause-adds
-returns-in_err-read-clause-adds c = adds_fewer _ _ _ _ (omega (arith)) (c.unless.ensures.adds)
+returns-in_err-read-clause-adds c = adds_fewer _ _ _ _ (omega arith) (c.emit_two.ensures.adds)
 
 pub returns-in_err-read-clause-full : goal.returns-in_err-read-clause-full
 returns-in_err-read-clause-full c e =
-    let full = c.unless.ensures.full (handed_on _ _ _ _ c.in_err-read.was c.from_residual.ensures.1 e) in
+    let full = c.emit_two.ensures.full (handed_on _ _ _ _ c.in_err-read.was c.from_residual.ensures.1 e) in
     omega (arith, full)
 
-pub returns-in_err-write-clause-adds : goal.returns-in_err-write-clause-adds
-returns-in_err-write-clause-adds c = adds_fewer _ _ _ _ (omega (arith)) (adds_twice _ _ _ _ _ c.unless.ensures.adds c.both.ensures.adds)
-
-pub returns-in_err-write-clause-full : goal.returns-in_err-write-clause-full
-returns-in_err-write-clause-full c e =
-    let most0 = c.unless.ensures.adds.most in
-    let full = c.both.ensures.full (handed_on _ _ _ _ c.in_err-write.was c.from_residual-in_err-write.ensures.1 e) in
-    omega (arith, most0, full)
-
 pub returns-in_err-offset-clause-adds : goal.returns-in_err-offset-clause-adds
-returns-in_err-offset-clause-adds c = adds_fewer _ _ _ _ (omega (arith)) (adds_twice _ _ _ _ _ (adds_twice _ _ _ _ _ c.unless.ensures.adds c.both.ensures.adds) c.pick_offset.ensures.adds)
+returns-in_err-offset-clause-adds c = adds_fewer _ _ _ _ (omega arith) (adds_twice _ _ _ _ _ c.emit_two.ensures.adds c.pick_offset.ensures.adds)
 
 pub returns-in_err-offset-clause-full : goal.returns-in_err-offset-clause-full
 returns-in_err-offset-clause-full c e =
-    let most0 = c.unless.ensures.adds.most in
-    let most1 = c.both.ensures.adds.most in
+    let most0 = c.emit_two.ensures.adds.most in
     let full = c.pick_offset.ensures.full (handed_on _ _ _ _ c.in_err-offset.was c.from_residual-in_err-offset.ensures.1 e) in
-    omega (arith, most0, most1, full)
+    omega (arith, most0, full)
 
 pub returns-in_err-address-clause-adds : goal.returns-in_err-address-clause-adds
-returns-in_err-address-clause-adds c = adds_fewer _ _ _ _ (omega (arith)) (adds_twice _ _ _ _ _ (adds_twice _ _ _ _ _ (adds_twice _ _ _ _ _ c.unless.ensures.adds c.both.ensures.adds) c.pick_offset.ensures.adds) c.piece_address.ensures.adds)
+returns-in_err-address-clause-adds c = adds_fewer _ _ _ _ (omega arith) (adds_twice _ _ _ _ _ (adds_twice _ _ _ _ _ c.emit_two.ensures.adds c.pick_offset.ensures.adds) c.piece_address.ensures.adds)
 
 pub returns-in_err-address-clause-full : goal.returns-in_err-address-clause-full
 returns-in_err-address-clause-full c e =
-    let most0 = c.unless.ensures.adds.most in
-    let most1 = c.both.ensures.adds.most in
-    let most2 = c.pick_offset.ensures.adds.most in
+    let most0 = c.emit_two.ensures.adds.most in
+    let most1 = c.pick_offset.ensures.adds.most in
     let full = c.piece_address.ensures.full (handed_on _ _ _ _ c.in_err-address.was c.from_residual-in_err-address.ensures.1 e) in
-    omega (arith, most0, most1, most2, full)
+    omega (arith, most0, most1, full)
 
 pub returns-in_err-word-clause-adds : goal.returns-in_err-word-clause-adds
-returns-in_err-word-clause-adds c = adds_fewer _ _ _ _ (omega (arith)) (adds_twice _ _ _ _ _ (adds_twice _ _ _ _ _ (adds_twice _ _ _ _ _ (adds_twice _ _ _ _ _ c.unless.ensures.adds c.both.ensures.adds) c.pick_offset.ensures.adds) c.piece_address.ensures.adds) c.piece_word.ensures.adds)
+returns-in_err-word-clause-adds c = adds_fewer _ _ _ _ (omega arith) (adds_twice _ _ _ _ _ (adds_twice _ _ _ _ _ (adds_twice _ _ _ _ _ c.emit_two.ensures.adds c.pick_offset.ensures.adds) c.piece_address.ensures.adds) c.piece_word.ensures.adds)
 
 pub returns-in_err-word-clause-full : goal.returns-in_err-word-clause-full
 returns-in_err-word-clause-full c e =
-    let most0 = c.unless.ensures.adds.most in
-    let most1 = c.both.ensures.adds.most in
-    let most2 = c.pick_offset.ensures.adds.most in
-    let most3 = c.piece_address.ensures.adds.most in
+    let most0 = c.emit_two.ensures.adds.most in
+    let most1 = c.pick_offset.ensures.adds.most in
+    let most2 = c.piece_address.ensures.adds.most in
     let full = c.piece_word.ensures.full (handed_on _ _ _ _ c.in_err-word.was c.from_residual-in_err-word.ensures.1 e) in
-    omega (arith, most0, most1, most2, most3, full)
+    omega (arith, most0, most1, most2, full)
 
 pub returns-in_err-enables-clause-adds : goal.returns-in_err-enables-clause-adds
-returns-in_err-enables-clause-adds c = adds_fewer _ _ _ _ (omega (arith)) (adds_twice _ _ _ _ _ (adds_twice _ _ _ _ _ (adds_twice _ _ _ _ _ (adds_twice _ _ _ _ _ (adds_twice _ _ _ _ _ c.unless.ensures.adds c.both.ensures.adds) c.pick_offset.ensures.adds) c.piece_address.ensures.adds) c.piece_word.ensures.adds) c.pick_piece.ensures.adds)
+returns-in_err-enables-clause-adds c = adds_fewer _ _ _ _ (omega arith) (adds_twice _ _ _ _ _ (adds_twice _ _ _ _ _ (adds_twice _ _ _ _ _ (adds_twice _ _ _ _ _ c.emit_two.ensures.adds c.pick_offset.ensures.adds) c.piece_address.ensures.adds) c.piece_word.ensures.adds) c.pick_piece.ensures.adds)
 
 pub returns-in_err-enables-clause-full : goal.returns-in_err-enables-clause-full
 returns-in_err-enables-clause-full c e =
-    let most0 = c.unless.ensures.adds.most in
-    let most1 = c.both.ensures.adds.most in
-    let most2 = c.pick_offset.ensures.adds.most in
-    let most3 = c.piece_address.ensures.adds.most in
-    let most4 = c.piece_word.ensures.adds.most in
+    let most0 = c.emit_two.ensures.adds.most in
+    let most1 = c.pick_offset.ensures.adds.most in
+    let most2 = c.piece_address.ensures.adds.most in
+    let most3 = c.piece_word.ensures.adds.most in
     let full = c.pick_piece.ensures.full (handed_on _ _ _ _ c.in_err-enables.was c.from_residual-in_err-enables.ensures.1 e) in
-    omega (arith, most0, most1, most2, most3, most4, full)
+    omega (arith, most0, most1, most2, most3, full)
 
 pub returns-in_err-count-clause-adds : goal.returns-in_err-count-clause-adds
-returns-in_err-count-clause-adds c = adds_fewer _ _ _ _ (omega (arith)) (adds_twice _ _ _ _ _ (adds_twice _ _ _ _ _ (adds_twice _ _ _ _ _ (adds_twice _ _ _ _ _ (adds_twice _ _ _ _ _ (adds_twice _ _ _ _ _ c.unless.ensures.adds c.both.ensures.adds) c.pick_offset.ensures.adds) c.piece_address.ensures.adds) c.piece_word.ensures.adds) c.pick_piece.ensures.adds) c.constant.ensures.adds)
+returns-in_err-count-clause-adds c = adds_fewer _ _ _ _ (omega arith) (adds_twice _ _ _ _ _ (adds_twice _ _ _ _ _ (adds_twice _ _ _ _ _ (adds_twice _ _ _ _ _ (adds_twice _ _ _ _ _ c.emit_two.ensures.adds c.pick_offset.ensures.adds) c.piece_address.ensures.adds) c.piece_word.ensures.adds) c.pick_piece.ensures.adds) c.constant.ensures.adds)
 
 pub returns-in_err-count-clause-full : goal.returns-in_err-count-clause-full
 returns-in_err-count-clause-full c e =
-    let most0 = c.unless.ensures.adds.most in
-    let most1 = c.both.ensures.adds.most in
-    let most2 = c.pick_offset.ensures.adds.most in
-    let most3 = c.piece_address.ensures.adds.most in
-    let most4 = c.piece_word.ensures.adds.most in
-    let most5 = c.pick_piece.ensures.adds.most in
+    let most0 = c.emit_two.ensures.adds.most in
+    let most1 = c.pick_offset.ensures.adds.most in
+    let most2 = c.piece_address.ensures.adds.most in
+    let most3 = c.piece_word.ensures.adds.most in
+    let most4 = c.pick_piece.ensures.adds.most in
     let full = c.constant.ensures.full (handed_on _ _ _ _ c.in_err-count.was c.from_residual-in_err-count.ensures.1 e) in
-    omega (arith, most0, most1, most2, most3, most4, most5, full)
+    omega (arith, most0, most1, most2, most3, most4, full)
 
 pub returns-in_err-one-clause-adds : goal.returns-in_err-one-clause-adds
-returns-in_err-one-clause-adds c = adds_fewer _ _ _ _ (omega (arith)) (adds_twice _ _ _ _ _ (adds_twice _ _ _ _ _ (adds_twice _ _ _ _ _ (adds_twice _ _ _ _ _ (adds_twice _ _ _ _ _ (adds_twice _ _ _ _ _ (adds_twice _ _ _ _ _ c.unless.ensures.adds c.both.ensures.adds) c.pick_offset.ensures.adds) c.piece_address.ensures.adds) c.piece_word.ensures.adds) c.pick_piece.ensures.adds) c.constant.ensures.adds) c.level.ensures.adds)
+returns-in_err-one-clause-adds c = adds_fewer _ _ _ _ (omega arith) (adds_twice _ _ _ _ _ (adds_twice _ _ _ _ _ (adds_twice _ _ _ _ _ (adds_twice _ _ _ _ _ (adds_twice _ _ _ _ _ (adds_twice _ _ _ _ _ c.emit_two.ensures.adds c.pick_offset.ensures.adds) c.piece_address.ensures.adds) c.piece_word.ensures.adds) c.pick_piece.ensures.adds) c.constant.ensures.adds) c.level.ensures.adds)
 
 pub returns-in_err-one-clause-full : goal.returns-in_err-one-clause-full
 returns-in_err-one-clause-full c e =
-    let most0 = c.unless.ensures.adds.most in
-    let most1 = c.both.ensures.adds.most in
-    let most2 = c.pick_offset.ensures.adds.most in
-    let most3 = c.piece_address.ensures.adds.most in
-    let most4 = c.piece_word.ensures.adds.most in
-    let most5 = c.pick_piece.ensures.adds.most in
-    let most6 = c.constant.ensures.adds.most in
+    let most0 = c.emit_two.ensures.adds.most in
+    let most1 = c.pick_offset.ensures.adds.most in
+    let most2 = c.piece_address.ensures.adds.most in
+    let most3 = c.piece_word.ensures.adds.most in
+    let most4 = c.pick_piece.ensures.adds.most in
+    let most5 = c.constant.ensures.adds.most in
     let full = c.level.ensures.full (handed_on _ _ _ _ c.in_err-one.was c.from_residual-in_err-one.ensures.1 e) in
-    omega (arith, most0, most1, most2, most3, most4, most5, most6, full)
+    omega (arith, most0, most1, most2, most3, most4, most5, full)
 
 pub returns-in_err-more-clause-adds : goal.returns-in_err-more-clause-adds
-returns-in_err-more-clause-adds c = adds_fewer _ _ _ _ (omega (arith)) (adds_twice _ _ _ _ _ (adds_twice _ _ _ _ _ (adds_twice _ _ _ _ _ (adds_twice _ _ _ _ _ (adds_twice _ _ _ _ _ (adds_twice _ _ _ _ _ (adds_twice _ _ _ _ _ (adds_twice _ _ _ _ _ c.unless.ensures.adds c.both.ensures.adds) c.pick_offset.ensures.adds) c.piece_address.ensures.adds) c.piece_word.ensures.adds) c.pick_piece.ensures.adds) c.constant.ensures.adds) c.level.ensures.adds) c.choose.ensures.adds)
+returns-in_err-more-clause-adds c = adds_fewer _ _ _ _ (omega arith) (adds_twice _ _ _ _ _ (adds_twice _ _ _ _ _ (adds_twice _ _ _ _ _ (adds_twice _ _ _ _ _ (adds_twice _ _ _ _ _ (adds_twice _ _ _ _ _ (adds_twice _ _ _ _ _ c.emit_two.ensures.adds c.pick_offset.ensures.adds) c.piece_address.ensures.adds) c.piece_word.ensures.adds) c.pick_piece.ensures.adds) c.constant.ensures.adds) c.level.ensures.adds) c.choose.ensures.adds)
 
 pub returns-in_err-more-clause-full : goal.returns-in_err-more-clause-full
 returns-in_err-more-clause-full c e =
-    let most0 = c.unless.ensures.adds.most in
-    let most1 = c.both.ensures.adds.most in
-    let most2 = c.pick_offset.ensures.adds.most in
-    let most3 = c.piece_address.ensures.adds.most in
-    let most4 = c.piece_word.ensures.adds.most in
-    let most5 = c.pick_piece.ensures.adds.most in
-    let most6 = c.constant.ensures.adds.most in
-    let most7 = c.level.ensures.adds.most in
+    let most0 = c.emit_two.ensures.adds.most in
+    let most1 = c.pick_offset.ensures.adds.most in
+    let most2 = c.piece_address.ensures.adds.most in
+    let most3 = c.piece_word.ensures.adds.most in
+    let most4 = c.pick_piece.ensures.adds.most in
+    let most5 = c.constant.ensures.adds.most in
+    let most6 = c.level.ensures.adds.most in
     let full = c.choose.ensures.full (handed_on _ _ _ _ c.in_err-more.was c.from_residual-in_err-more.ensures.1 e) in
-    omega (arith, most0, most1, most2, most3, most4, most5, most6, most7, full)
+    omega (arith, most0, most1, most2, most3, most4, most5, most6, full)
 
 pub returns-clause-adds : goal.returns-clause-adds
-returns-clause-adds c = adds_fewer _ _ _ _ (omega (arith)) (adds_twice _ _ _ _ _ (adds_twice _ _ _ _ _ (adds_twice _ _ _ _ _ (adds_twice _ _ _ _ _ (adds_twice _ _ _ _ _ (adds_twice _ _ _ _ _ (adds_twice _ _ _ _ _ (adds_twice _ _ _ _ _ c.unless.ensures.adds c.both.ensures.adds) c.pick_offset.ensures.adds) c.piece_address.ensures.adds) c.piece_word.ensures.adds) c.pick_piece.ensures.adds) c.constant.ensures.adds) c.level.ensures.adds) c.choose.ensures.adds)
+returns-clause-adds c = adds_fewer _ _ _ _ (omega arith) (adds_twice _ _ _ _ _ (adds_twice _ _ _ _ _ (adds_twice _ _ _ _ _ (adds_twice _ _ _ _ _ (adds_twice _ _ _ _ _ (adds_twice _ _ _ _ _ (adds_twice _ _ _ _ _ c.emit_two.ensures.adds c.pick_offset.ensures.adds) c.piece_address.ensures.adds) c.piece_word.ensures.adds) c.pick_piece.ensures.adds) c.constant.ensures.adds) c.level.ensures.adds) c.choose.ensures.adds)
 
 pub returns-clause-full : goal.returns-clause-full
 returns-clause-full c e = cc
 
 pub piece_word-requires-clause-from : goal.piece_word-requires-clause-from
-piece_word-requires-clause-from c = command_lasts _ _ _ (extends_twice _ _ _ c.unless.ensures.adds.grows.extends (extends_twice _ _ _ c.both.ensures.adds.grows.extends (extends_twice _ _ _ c.pick_offset.ensures.adds.grows.extends c.piece_address.ensures.adds.grows.extends))) c.requires.from
+piece_word-requires-clause-from c = command_lasts _ _ _ (extends_twice _ _ _ c.emit_two.ensures.adds.grows.extends (extends_twice _ _ _ c.pick_offset.ensures.adds.grows.extends c.piece_address.ensures.adds.grows.extends)) c.requires.from
 
 pub piece_word-requires-clause-here : goal.piece_word-requires-clause-here
-piece_word-requires-clause-here c = net_lasts _ _ _ _ (extends_twice _ _ _ c.unless.ensures.adds.grows.extends (extends_twice _ _ _ c.both.ensures.adds.grows.extends (extends_twice _ _ _ c.pick_offset.ensures.adds.grows.extends c.piece_address.ensures.adds.grows.extends))) c.requires.here
+piece_word-requires-clause-here c = net_lasts _ _ _ _ (extends_twice _ _ _ c.emit_two.ensures.adds.grows.extends (extends_twice _ _ _ c.pick_offset.ensures.adds.grows.extends c.piece_address.ensures.adds.grows.extends)) c.requires.here
 
 pub pick_piece-requires-clause-mask : goal.pick_piece-requires-clause-mask
-pick_piece-requires-clause-mask c = (extends_twice _ _ _ c.unless.ensures.adds.grows.extends (extends_twice _ _ _ c.both.ensures.adds.grows.extends (extends_twice _ _ _ c.pick_offset.ensures.adds.grows.extends (extends_twice _ _ _ c.piece_address.ensures.adds.grows.extends c.piece_word.ensures.adds.grows.extends)))).nets _ _ c.requires.here.is_net
+pick_piece-requires-clause-mask c = (extends_twice _ _ _ c.emit_two.ensures.adds.grows.extends (extends_twice _ _ _ c.pick_offset.ensures.adds.grows.extends (extends_twice _ _ _ c.piece_address.ensures.adds.grows.extends c.piece_word.ensures.adds.grows.extends))).nets _ _ c.requires.here.is_net
 
 pub pick_piece-requires-clause-word : goal.pick_piece-requires-clause-word
-pick_piece-requires-clause-word c = (extends_twice _ _ _ c.unless.ensures.adds.grows.extends (extends_twice _ _ _ c.both.ensures.adds.grows.extends (extends_twice _ _ _ c.pick_offset.ensures.adds.grows.extends (extends_twice _ _ _ c.piece_address.ensures.adds.grows.extends c.piece_word.ensures.adds.grows.extends)))).nets _ _ c.requires.from.enables
+pick_piece-requires-clause-word c = (extends_twice _ _ _ c.emit_two.ensures.adds.grows.extends (extends_twice _ _ _ c.pick_offset.ensures.adds.grows.extends (extends_twice _ _ _ c.piece_address.ensures.adds.grows.extends c.piece_word.ensures.adds.grows.extends))).nets _ _ c.requires.from.enables
 
 pub width-width-requires : goal.width-width-requires
-width-width-requires c = (extends_twice _ _ _ c.unless.ensures.adds.grows.extends (extends_twice _ _ _ c.both.ensures.adds.grows.extends (extends_twice _ _ _ c.pick_offset.ensures.adds.grows.extends (extends_twice _ _ _ c.piece_address.ensures.adds.grows.extends (extends_twice _ _ _ c.piece_word.ensures.adds.grows.extends c.pick_piece.ensures.adds.grows.extends))))).nets _ _ c.requires.from.count
+width-width-requires c = (extends_twice _ _ _ c.emit_two.ensures.adds.grows.extends (extends_twice _ _ _ c.pick_offset.ensures.adds.grows.extends (extends_twice _ _ _ c.piece_address.ensures.adds.grows.extends (extends_twice _ _ _ c.piece_word.ensures.adds.grows.extends c.pick_piece.ensures.adds.grows.extends)))).nets _ _ c.requires.from.count
 
 pub constant-requires-clause-fits : goal.constant-requires-clause-fits
 constant-requires-clause-fits c = one_fits _ c.width-width.ensures.bounds.0
 
 pub choose-requires-clause-bit : goal.choose-requires-clause-bit
-choose-requires-clause-bit c = net_lasts _ _ _ _ (extends_twice _ _ _ c.unless.ensures.adds.grows.extends (extends_twice _ _ _ c.both.ensures.adds.grows.extends (extends_twice _ _ _ c.pick_offset.ensures.adds.grows.extends (extends_twice _ _ _ c.piece_address.ensures.adds.grows.extends (extends_twice _ _ _ c.piece_word.ensures.adds.grows.extends (extends_twice _ _ _ c.pick_piece.ensures.adds.grows.extends (extends_twice _ _ _ c.constant.ensures.adds.grows.extends c.level.ensures.adds.grows.extends))))))) c.requires.above.last
+choose-requires-clause-bit c = net_lasts _ _ _ _ (extends_twice _ _ _ c.emit_two.ensures.adds.grows.extends (extends_twice _ _ _ c.pick_offset.ensures.adds.grows.extends (extends_twice _ _ _ c.piece_address.ensures.adds.grows.extends (extends_twice _ _ _ c.piece_word.ensures.adds.grows.extends (extends_twice _ _ _ c.pick_piece.ensures.adds.grows.extends (extends_twice _ _ _ c.constant.ensures.adds.grows.extends c.level.ensures.adds.grows.extends)))))) c.requires.above.last
 
 pub choose-requires-clause-one : goal.choose-requires-clause-one
 choose-requires-clause-one c =
-    let more = net_lasts _ _ _ _ (extends_twice _ _ _ c.unless.ensures.adds.grows.extends (extends_twice _ _ _ c.both.ensures.adds.grows.extends (extends_twice _ _ _ c.pick_offset.ensures.adds.grows.extends (extends_twice _ _ _ c.piece_address.ensures.adds.grows.extends (extends_twice _ _ _ c.piece_word.ensures.adds.grows.extends (extends_twice _ _ _ c.pick_piece.ensures.adds.grows.extends (extends_twice _ _ _ c.constant.ensures.adds.grows.extends c.level.ensures.adds.grows.extends))))))) c.requires.from.more in
+    let more = net_lasts _ _ _ _ (extends_twice _ _ _ c.emit_two.ensures.adds.grows.extends (extends_twice _ _ _ c.pick_offset.ensures.adds.grows.extends (extends_twice _ _ _ c.piece_address.ensures.adds.grows.extends (extends_twice _ _ _ c.piece_word.ensures.adds.grows.extends (extends_twice _ _ _ c.pick_piece.ensures.adds.grows.extends (extends_twice _ _ _ c.constant.ensures.adds.grows.extends c.level.ensures.adds.grows.extends)))))) c.requires.from.more in
     let one = c.in_ok-one.ensures.net in cc
 
 pub choose-requires-clause-other : goal.choose-requires-clause-other
 choose-requires-clause-other c =
-    let more = net_lasts _ _ _ _ (extends_twice _ _ _ c.unless.ensures.adds.grows.extends (extends_twice _ _ _ c.both.ensures.adds.grows.extends (extends_twice _ _ _ c.pick_offset.ensures.adds.grows.extends (extends_twice _ _ _ c.piece_address.ensures.adds.grows.extends (extends_twice _ _ _ c.piece_word.ensures.adds.grows.extends (extends_twice _ _ _ c.pick_piece.ensures.adds.grows.extends (extends_twice _ _ _ c.constant.ensures.adds.grows.extends c.level.ensures.adds.grows.extends))))))) c.requires.from.more in
+    let more = net_lasts _ _ _ _ (extends_twice _ _ _ c.emit_two.ensures.adds.grows.extends (extends_twice _ _ _ c.pick_offset.ensures.adds.grows.extends (extends_twice _ _ _ c.piece_address.ensures.adds.grows.extends (extends_twice _ _ _ c.piece_word.ensures.adds.grows.extends (extends_twice _ _ _ c.pick_piece.ensures.adds.grows.extends (extends_twice _ _ _ c.constant.ensures.adds.grows.extends c.level.ensures.adds.grows.extends)))))) c.requires.from.more in
     let one = c.in_ok-one.ensures.net in cc
 
 pub returns-clause-command : goal.returns-clause-command
-returns-clause-command c =
-    let whole = (extends_twice _ _ _ c.unless.ensures.adds.grows.extends (extends_twice _ _ _ c.both.ensures.adds.grows.extends (extends_twice _ _ _ c.pick_offset.ensures.adds.grows.extends (extends_twice _ _ _ c.piece_address.ensures.adds.grows.extends (extends_twice _ _ _ c.piece_word.ensures.adds.grows.extends (extends_twice _ _ _ c.pick_piece.ensures.adds.grows.extends (extends_twice _ _ _ c.constant.ensures.adds.grows.extends (extends_twice _ _ _ c.level.ensures.adds.grows.extends c.choose.ensures.adds.grows.extends)))))))) in
-    record {
-      read = net_lasts _ _ _ _ (extends_twice _ _ _ c.both.ensures.adds.grows.extends (extends_twice _ _ _ c.pick_offset.ensures.adds.grows.extends (extends_twice _ _ _ c.piece_address.ensures.adds.grows.extends (extends_twice _ _ _ c.piece_word.ensures.adds.grows.extends (extends_twice _ _ _ c.pick_piece.ensures.adds.grows.extends (extends_twice _ _ _ c.constant.ensures.adds.grows.extends (extends_twice _ _ _ c.level.ensures.adds.grows.extends c.choose.ensures.adds.grows.extends))))))) c.in_ok-read.ensures.net;
-      write = net_lasts _ _ _ _ (extends_twice _ _ _ c.pick_offset.ensures.adds.grows.extends (extends_twice _ _ _ c.piece_address.ensures.adds.grows.extends (extends_twice _ _ _ c.piece_word.ensures.adds.grows.extends (extends_twice _ _ _ c.pick_piece.ensures.adds.grows.extends (extends_twice _ _ _ c.constant.ensures.adds.grows.extends (extends_twice _ _ _ c.level.ensures.adds.grows.extends c.choose.ensures.adds.grows.extends)))))) c.in_ok-write.ensures.net;
-      address = (extends_twice _ _ _ c.piece_word.ensures.adds.grows.extends (extends_twice _ _ _ c.pick_piece.ensures.adds.grows.extends (extends_twice _ _ _ c.constant.ensures.adds.grows.extends (extends_twice _ _ _ c.level.ensures.adds.grows.extends c.choose.ensures.adds.grows.extends)))).nets _ _ c.in_ok-address.ensures.net.is_net;
-      word = (extends_twice _ _ _ c.pick_piece.ensures.adds.grows.extends (extends_twice _ _ _ c.constant.ensures.adds.grows.extends (extends_twice _ _ _ c.level.ensures.adds.grows.extends c.choose.ensures.adds.grows.extends))).nets _ _ c.in_ok-word.ensures.net.is_net;
-      enables = (extends_twice _ _ _ c.constant.ensures.adds.grows.extends (extends_twice _ _ _ c.level.ensures.adds.grows.extends c.choose.ensures.adds.grows.extends)).nets _ _ c.in_ok-enables.ensures.net.is_net;
-      count = (extends_twice _ _ _ c.level.ensures.adds.grows.extends c.choose.ensures.adds.grows.extends).nets _ _ c.in_ok-count.ensures.net.is_net;
-      more = record { is_net = c.in_ok-more.ensures.net.is_net; has_width = let one = c.in_ok-one.ensures.net.has_width in let above = c.requires.from.more.has_width in let more = c.in_ok-more.ensures.net.has_width in cc };
-      tag = whole.nets _ _ c.requires.from.tag;
-    }
+returns-clause-command c = record {
+  read = net_lasts _ _ _ _ (extends_twice _ _ _ c.pick_offset.ensures.adds.grows.extends (extends_twice _ _ _ c.piece_address.ensures.adds.grows.extends (extends_twice _ _ _ c.piece_word.ensures.adds.grows.extends (extends_twice _ _ _ c.pick_piece.ensures.adds.grows.extends (extends_twice _ _ _ c.constant.ensures.adds.grows.extends (extends_twice _ _ _ c.level.ensures.adds.grows.extends c.choose.ensures.adds.grows.extends)))))) c.in_ok-read.ensures.nets.0;
+  write = net_lasts _ _ _ _ (extends_twice _ _ _ c.pick_offset.ensures.adds.grows.extends (extends_twice _ _ _ c.piece_address.ensures.adds.grows.extends (extends_twice _ _ _ c.piece_word.ensures.adds.grows.extends (extends_twice _ _ _ c.pick_piece.ensures.adds.grows.extends (extends_twice _ _ _ c.constant.ensures.adds.grows.extends (extends_twice _ _ _ c.level.ensures.adds.grows.extends c.choose.ensures.adds.grows.extends)))))) c.in_ok-read.ensures.nets.1;
+  address = (extends_twice _ _ _ c.piece_word.ensures.adds.grows.extends (extends_twice _ _ _ c.pick_piece.ensures.adds.grows.extends (extends_twice _ _ _ c.constant.ensures.adds.grows.extends (extends_twice _ _ _ c.level.ensures.adds.grows.extends c.choose.ensures.adds.grows.extends)))).nets _ _ c.in_ok-address.ensures.net.is_net;
+  word = (extends_twice _ _ _ c.pick_piece.ensures.adds.grows.extends (extends_twice _ _ _ c.constant.ensures.adds.grows.extends (extends_twice _ _ _ c.level.ensures.adds.grows.extends c.choose.ensures.adds.grows.extends))).nets _ _ c.in_ok-word.ensures.net.is_net;
+  enables = (extends_twice _ _ _ c.constant.ensures.adds.grows.extends (extends_twice _ _ _ c.level.ensures.adds.grows.extends c.choose.ensures.adds.grows.extends)).nets _ _ c.in_ok-enables.ensures.net.is_net;
+  count = (extends_twice _ _ _ c.level.ensures.adds.grows.extends c.choose.ensures.adds.grows.extends).nets _ _ c.in_ok-count.ensures.net.is_net;
+  more = record { is_net = c.in_ok-more.ensures.net.is_net; has_width = let one = c.in_ok-one.ensures.net.has_width in let above = c.requires.from.more.has_width in let more = c.in_ok-more.ensures.net.has_width in cc };
+  tag = (extends_twice _ _ _ c.emit_two.ensures.adds.grows.extends (extends_twice _ _ _ c.pick_offset.ensures.adds.grows.extends (extends_twice _ _ _ c.piece_address.ensures.adds.grows.extends (extends_twice _ _ _ c.piece_word.ensures.adds.grows.extends (extends_twice _ _ _ c.pick_piece.ensures.adds.grows.extends (extends_twice _ _ _ c.constant.ensures.adds.grows.extends (extends_twice _ _ _ c.level.ensures.adds.grows.extends c.choose.ensures.adds.grows.extends))))))).nets _ _ c.requires.from.tag;
+}
 
 pub returns-clause-widths : goal.returns-clause-widths
 returns-clause-widths c =
@@ -175,21 +157,21 @@ returns-clause-widths c =
 
 pub returns-clause-value : goal.returns-clause-value
 returns-clause-value c cycle v =
-    let v7 = c.choose.ensures.adds.grows.extends.valuations cycle v in
-    let v6 = c.level.ensures.adds.grows.extends.valuations cycle v7 in
-    let v5 = c.constant.ensures.adds.grows.extends.valuations cycle v6 in
-    let v4 = c.pick_piece.ensures.adds.grows.extends.valuations cycle v5 in
-    let v3 = c.piece_word.ensures.adds.grows.extends.valuations cycle v4 in
-    let v2 = c.piece_address.ensures.adds.grows.extends.valuations cycle v3 in
-    let v1 = c.pick_offset.ensures.adds.grows.extends.valuations cycle v2 in
-    let v0 = c.both.ensures.adds.grows.extends.valuations cycle v1 in
+    let v6 = c.choose.ensures.adds.grows.extends.valuations cycle v in
+    let v5 = c.level.ensures.adds.grows.extends.valuations cycle v6 in
+    let v4 = c.constant.ensures.adds.grows.extends.valuations cycle v5 in
+    let v3 = c.pick_piece.ensures.adds.grows.extends.valuations cycle v4 in
+    let v2 = c.piece_word.ensures.adds.grows.extends.valuations cycle v3 in
+    let v1 = c.piece_address.ensures.adds.grows.extends.valuations cycle v2 in
+    let v0 = c.pick_offset.ensures.adds.grows.extends.valuations cycle v1 in
+    let shown = c.in_ok-read.ensures.values cycle v0 in
     record {
-      read = bit_is _ _ (bit_fits _ _ c.in_ok-read.ensures.net cycle v0) (c.in_ok-read.ensures.value cycle v0);
-      write = bit_is _ _ (bit_fits _ _ c.in_ok-write.ensures.net cycle v1) (c.in_ok-write.ensures.value cycle v1);
-      address = c.in_ok-address.ensures.value cycle v3 ∙ ap₂ (λ x y. cycle.net c.args.from.now.address.number / 2 ^ x * 2 ^ x + y) c.in_ok-offset.ensures.net.has_width (c.in_ok-offset.ensures.value cycle v2);
-      word = c.in_ok-word.ensures.value cycle v4;
-      enables = c.in_ok-enables.ensures.value cycle v5;
-      count = c.in_ok-count.ensures.value cycle v6;
-      more = let one = c.in_ok-one.ensures.value cycle v7 in let chosen = chosen_raised (cycle.net c.args.above.now.last.number) (cycle.net c.args.from.now.more.number) (cycle.net c.in_ok-one.one.number) in let more = c.in_ok-more.ensures.value cycle v in cc;
+      read = bit_is _ _ (bit_fits _ _ c.in_ok-read.ensures.nets.0 cycle v0) shown.0;
+      write = bit_is _ _ (bit_fits _ _ c.in_ok-read.ensures.nets.1 cycle v0) shown.1;
+      address = c.in_ok-address.ensures.value cycle v2 ∙ ap₂ (λ x y. cycle.net c.args.from.now.address.number / 2 ^ x * 2 ^ x + y) c.in_ok-offset.ensures.net.has_width (c.in_ok-offset.ensures.value cycle v1);
+      word = c.in_ok-word.ensures.value cycle v3;
+      enables = c.in_ok-enables.ensures.value cycle v4;
+      count = c.in_ok-count.ensures.value cycle v5;
+      more = let one = c.in_ok-one.ensures.value cycle v6 in let chosen = chosen_raised (cycle.net c.args.above.now.last.number) (cycle.net c.args.from.now.more.number) (cycle.net c.in_ok-one.one.number) in let more = c.in_ok-more.ensures.value cycle v in cc;
       tag = refl;
     }

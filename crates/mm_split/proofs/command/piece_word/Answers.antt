@@ -1,44 +1,32 @@
-use Rattle.std.proofs.Common.{◌≡◌, ◌*◌, if◌then◌else◌, ap₂, ◌∙◌, arith}
+use Rattle.std.proofs.Common.{◌≡◌, ◌*◌, if◌then◌else◌, ap, ◌∙◌, arith}
 use Rattle.net_parts.specs.Laws.{if_ok, adds_twice, adds_fewer}
 use Rattle.net_parts.specs.Refusing.{handed_on}
 use Rattle.netlist.specs.Runs.{Always}
 use Rattle.histories.specs.History.{is_raised}
 use Rattle.mm_split.specs.Pieces.{lane, is_marked, pick}
-use Rattle.command_nets.specs.Groups.{chosen_raised}
 use Rattle.mm_split.proofs.command.piece_word.Goals as goal
 
 pub returns-in_err-word-clause-adds : goal.returns-in_err-word-clause-adds
-returns-in_err-word-clause-adds c = adds_fewer _ _ _ _ (omega (arith)) (c.pick_piece.ensures.adds)
+returns-in_err-word-clause-adds c = adds_fewer _ _ _ _ (omega arith) (c.pick_piece.ensures.adds)
 
 pub returns-in_err-word-clause-full : goal.returns-in_err-word-clause-full
 returns-in_err-word-clause-full c e =
     let full = c.pick_piece.ensures.full (handed_on _ _ _ _ c.in_err-word.was c.from_residual.ensures.1 e) in
     omega (arith, full)
 
-pub returns-in_err-zeros-clause-adds : goal.returns-in_err-zeros-clause-adds
-returns-in_err-zeros-clause-adds c = adds_fewer _ _ _ _ (omega (arith)) (adds_twice _ _ _ _ _ c.pick_piece.ensures.adds c.constant.ensures.adds)
-
-pub returns-in_err-zeros-clause-full : goal.returns-in_err-zeros-clause-full
-returns-in_err-zeros-clause-full c e =
-    let most0 = c.pick_piece.ensures.adds.most in
-    let full = c.constant.ensures.full (handed_on _ _ _ _ c.in_err-zeros.was c.from_residual-in_err-zeros.ensures.1 e) in
-    omega (arith, most0, full)
-
 pub returns-clause-adds : goal.returns-clause-adds
-returns-clause-adds c = adds_fewer _ _ _ _ (omega (arith)) (adds_twice _ _ _ _ _ (adds_twice _ _ _ _ _ c.pick_piece.ensures.adds c.constant.ensures.adds) c.choose.ensures.adds)
+returns-clause-adds c = adds_fewer _ _ _ _ (omega arith) (adds_twice _ _ _ _ _ c.pick_piece.ensures.adds c.emit_word.ensures.adds)
 
 pub returns-clause-full : goal.returns-clause-full
 returns-clause-full c e =
     let most0 = c.pick_piece.ensures.adds.most in
-    let most1 = c.constant.ensures.adds.most in
-    let full = c.choose.ensures.full e in
-    omega (arith, most0, most1, full)
+    let full = c.emit_word.ensures.full e in
+    omega (arith, most0, full)
 
 pub returns-clause-value : goal.returns-clause-value
 returns-clause-value c =
-    if_ok c.choose.result _ (λ net. Always c.choose.new.builder (λ cycle. cycle.net net.number ≡ (if is_raised (cycle.net c.args.from.now.write.number) then lane (c.args.sizes.now.narrow_bytes * 8) (cycle.net c.args.from.now.word.number) (pick (is_marked (cycle.net c.args.here.number)) c.args.sizes.now.pieces) else 0)))
+    if_ok c.emit_word.result _ (λ net. Always c.emit_word.new.builder (λ cycle. cycle.net net.number ≡ (if is_raised (cycle.net c.args.from.now.write.number) then lane (c.args.sizes.now.narrow_bytes * 8) (cycle.net c.args.from.now.word.number) (pick (is_marked (cycle.net c.args.here.number)) c.args.sizes.now.pieces) else 0)))
     (λ net value cycle v. (
-    let v1 = c.choose.ensures.adds.grows.extends.valuations cycle v in
-    let v0 = c.constant.ensures.adds.grows.extends.valuations cycle v1 in
-    value cycle v ∙ chosen_raised (cycle.net c.args.from.now.write.number) (cycle.net c.in_ok-word.word.number) (cycle.net c.in_ok-zeros.zeros.number) ∙ ap₂ (λ x y. if is_raised (cycle.net c.args.from.now.write.number) then x else y) (c.in_ok-word.ensures.value cycle v0) (c.in_ok-zeros.ensures.value cycle v1)))
-    c.choose.ensures.value
+    let v0 = c.emit_word.ensures.adds.grows.extends.valuations cycle v in
+    value cycle v ∙ ap (λ x. if is_raised (cycle.net c.args.from.now.write.number) then x else 0) (c.in_ok-word.ensures.value cycle v0)))
+    c.emit_word.ensures.value
