@@ -2,4 +2,6 @@ pub mod Rules
 pub mod Found
 pub mod Spellings
 pub mod Readings
+pub mod Reads
 pub mod Worked
+pub mod Walks

@@ -1,0 +1,12 @@
+use Rattle.std.proofs.Common.{sym, ◌∙◌}
+use Rattle.vcd_reader.specs.Spellings.{is_of_number, number_in}
+use Rattle.vcd_reader.proofs.Steps.{hole_tells, hole_breaks}
+use Rattle.vcd_reader.proofs.reader.Reader.number.Goals as goal
+
+pub returns-in-Some-clause-read : goal.returns-in-Some-clause-read
+returns-in-Some-clause-read c =
+    hole_tells is_of_number c.args.rule (number_in c.args.above c.args.most) c.args.self.now c.run-run.result.now c.run-run.new.self c.in-Some.number c.run-run.ensures.run c.run-run.ensures.rest (sym c.in-Some.ensures)
+
+pub returns-in-None-clause-read : goal.returns-in-None-clause-read
+returns-in-None-clause-read c =
+    hole_breaks is_of_number c.args.rule (number_in c.args.above c.args.most) c.args.self.now c.run-run.result.now c.go_on.new.self c.run-run.ensures.run (c.go_on.ensures ∙ c.rest-text.ensures) (sym c.in-None.ensures)
