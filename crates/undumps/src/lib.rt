@@ -1,12 +1,15 @@
 //! Value change dumps, written row by row.
 #![tactic(auto)]
 
+mod laws;
+
 ghost use Rattle.std.specs.Prelude.{◌≡◌, ◌⊎◌, ◌+◌, ◌^◌, ◌<◌, ◌++◌, length, string_bytes, OnOk, IfOk, IfErr};
 ghost use Rattle.vcd_text.specs.Dumps.{IsDump};
 ghost use Rattle.undumps.specs.declared.UndumpFault.TheVariants.{NoMemory as NoRoom};
 ghost use Rattle.undumps.specs.Undumps.{value_text, values_text, row_line, end_line, rows_text, IsUndumpOf, IsUndumpFault};
 
 use av_base::{Bytes, NoMemory, Val};
+pub use laws::dumps_are_written_or_refused;
 use std::alloc::Global;
 use std::fmt::Write;
 use thiserror::Error;
