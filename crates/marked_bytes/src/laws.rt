@@ -1,12 +1,12 @@
 //! What holds of all marked bytes, and small streams that show it. The functions do nothing; their contracts are the laws.
 
-ghost use Rattle.std.specs.Prelude.{◌≡◌, ℕ, ◌<◌, List, [], ◌∷◌, ◌++◌, length, true};
+ghost use Rattle.std.specs.Prelude.{◌≡◌, ℕ, ◌<◌, Bool, true, false, List, [], ◌∷◌, ◌++◌, length, Option};
 ghost use Rattle.std.specs.List.{list_all};
 ghost use Rattle.marked_bytes.specs.declared.unpacker.Awaits.{Awaits as Due};
 ghost use Rattle.marked_bytes.specs.declared.unpacker.Unpacker.{Unpacker};
 ghost use Rattle.marked_bytes.specs.Items.{Spelled, Mark, Item, Packet, is_mark, is_item, marks_spelling, item_spelling, items_spelling, IsUnpacked};
 ghost use Rattle.marked_bytes.specs.Unpacking.{IsFed, IsFaulty, begun, awaits_some};
-ghost use Rattle.marked_bytes.specs.Packing.{packed};
+ghost use Rattle.marked_bytes.specs.Packing.{packed, Writes};
 
 /// What is packed is unpacked as the one packet.
 pub fn packed_is_one_packet()
@@ -27,6 +27,14 @@ pub fn one_unpacking()
 pub fn begun_items()
     ensures { (marks : List Mark) (due : Due) → list_all is_mark marks ≡ true → awaits_some due ≡ true
         → (item : Item) × (rest : List ℕ) × (is_item item ≡ true) × (0 < length rest) × (item_spelling item ≡ (marks_spelling marks ++ begun due) ++ rest) }
+{}
+
+/// A text that is written behind another is written with it: whole where both are, and else in part.
+pub fn texts_are_written_in_order()
+    ensures both { (one other : List ℕ) (held between holds : Option (List ℕ)) (before amid after : ℕ) (whole : Bool) → Writes one held between before amid true → Writes other between holds amid after whole
+        → Writes (one ++ other) held holds before after whole }
+    ensures first { (one other : List ℕ) (held holds : Option (List ℕ)) (before after : ℕ) → Writes one held holds before after false → Writes (one ++ other) held holds before after false }
+    ensures none { (held : Option (List ℕ)) (faults : ℕ) → Writes [] held held faults faults true }
 {}
 
 /// Packets as they are packed: a byte that means something of its own stands behind an escape, as data and as a channel.

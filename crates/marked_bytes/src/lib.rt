@@ -8,7 +8,7 @@ mod unpacker;
 
 pub use laws::{
     begun_items, faulty_bytes, one_reading, one_unpacking, packed_bytes, packed_is_one_packet,
-    unpacked_bytes,
+    texts_are_written_in_order, unpacked_bytes,
 };
 pub use packing::pack;
 pub use unpacker::{Fed, PacketByte, Unpacker};
