@@ -5,7 +5,7 @@ use Rattle.packet_bytes.specs.declared.codes.Code.{Code}
 use Rattle.packet_bytes.specs.declared.codes.Code.TheVariants.{WriteFixed, WriteIncrementing, ReadFixed, ReadIncrementing, NoTransaction}
 use Rattle.packet_bytes.specs.declared.gathering.Packet.{Packet}
 use Rattle.packet_bytes.specs.Codes.{code_of, is_fixed, is_write, size_in, address_in}
-use Rattle.packet_bytes.specs.Rules.{words_of}
+use Rattle.packet_bytes.specs.Counts.{words_of}
 
 -- the lane of its first word at which a transaction begins: its bytes take the lanes from there on, word after word
 abbrev pub first_lane : ℕ → List ℕ → ℕ

@@ -1,8 +1,11 @@
 pub mod Gathering
 pub mod Streams
 pub mod Codes
+pub mod Counts
 pub mod Rules
 pub mod Reading
 pub mod WordSizes
 pub mod Commands
+pub mod Answers
+pub mod Noted
 pub mod Worked

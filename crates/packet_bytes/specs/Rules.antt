@@ -1,5 +1,5 @@
 -- Which rule a packet breaks.
-use Rattle.std.specs.Prelude.{◌≡◌, ◌⊎◌, ℕ, ◌+◌, ◌-◌, ◌/◌, ◌%◌, Bool, true, ◌&&◌, ◌==◌, not, nat_lt, List, [], ◌∷◌, length, Option, Some, None, slice_index, if◌then◌else◌}
+use Rattle.std.specs.Prelude.{◌≡◌, ◌⊎◌, ℕ, ◌+◌, ◌%◌, Bool, true, ◌&&◌, ◌==◌, not, nat_lt, List, [], ◌∷◌, length, Option, Some, None, slice_index, if◌then◌else◌}
 use Rattle.packet_bytes.specs.declared.codes.Code.{Code}
 use Rattle.packet_bytes.specs.declared.codes.Code.TheVariants.{WriteFixed, WriteIncrementing, ReadFixed, ReadIncrementing, NoTransaction}
 use Rattle.packet_bytes.specs.declared.gathering.Packet.{Packet}
@@ -7,30 +7,12 @@ use Rattle.packet_bytes.specs.declared.faults.PacketFault.{PacketFault}
 use Rattle.packet_bytes.specs.declared.faults.PacketFault.TheVariants.{Refused, NoMemory}
 use Rattle.packet_bytes.specs.declared.transfers.Transfers.{Transfers}
 use Rattle.packet_bytes.specs.Codes.{code_of, is_fixed, is_write, size_in, address_in}
+use Rattle.packet_bytes.specs.Counts.{words_of, command_count}
 use Rattle.packet_bytes.specs.Streams.{AreRead, IsStreamFault}
 
 -- the sizes of a host's words in bytes
 abbrev pub IsWordSize : ℕ → Type 0
 IsWordSize bytes = (bytes ≡ 1) ⊎ ((bytes ≡ 2) ⊎ ((bytes ≡ 4) ⊎ ((bytes ≡ 8) ⊎ (bytes ≡ 16))))
-
--- how many words hold so many bytes, the first of which has this address
-abbrev pub words_for : ℕ → ℕ → ℕ → ℕ
-words_for word_bytes address size = (address % word_bytes + size + (word_bytes - 1)) / word_bytes
-
-abbrev pub words_of : ℕ → List ℕ → ℕ
-words_of word_bytes bytes = words_for word_bytes (address_in bytes) (size_in bytes)
-
--- the commands of a packet: one for each word that its bytes touch
-abbrev pub commands_by : ℕ → List ℕ → Option Code → ℕ
-commands_by word_bytes bytes None = 0
-commands_by word_bytes bytes (Some WriteFixed) = words_of word_bytes bytes
-commands_by word_bytes bytes (Some WriteIncrementing) = words_of word_bytes bytes
-commands_by word_bytes bytes (Some ReadFixed) = words_of word_bytes bytes
-commands_by word_bytes bytes (Some ReadIncrementing) = words_of word_bytes bytes
-commands_by word_bytes bytes (Some NoTransaction) = 0
-
-abbrev pub command_count : ℕ → List ℕ → ℕ
-command_count word_bytes bytes = commands_by word_bytes bytes (code_of (slice_index bytes 0))
 
 -- how long the packet of a transaction is
 abbrev pub due_length : Code → ℕ → ℕ

@@ -1,7 +1,8 @@
 //! The commands of a transaction, and the statements that ask for them.
 
 ghost use Rattle.std.specs.Prelude.{◌≡◌, ◌<◌, ◌≤◌, ◌^◌, ◌++◌, string_bytes, flat_map, OnOk};
-ghost use Rattle.packet_bytes.specs.Rules.{IsWordSize, words_of};
+ghost use Rattle.packet_bytes.specs.Counts.{words_of};
+ghost use Rattle.packet_bytes.specs.Rules.{IsWordSize};
 ghost use Rattle.packet_bytes.specs.Commands.{lanes_text, operand, keyword, place_text, statement, statements_below, packet_text};
 
 use crate::codes::Code;

@@ -2,10 +2,12 @@
 
 ghost use Rattle.std.specs.Prelude.{◌≡◌, [], ◌∷◌, ◌++◌, Some, None, codes};
 ghost use Rattle.packet_bytes.specs.declared.faults.PacketFault.TheVariants.{Refused};
-ghost use Rattle.packet_bytes.specs.Rules.{packet_fault, command_count};
+ghost use Rattle.packet_bytes.specs.Counts.{command_count};
+ghost use Rattle.packet_bytes.specs.Rules.{packet_fault};
 ghost use Rattle.packet_bytes.specs.Commands.{packet_text};
 ghost use Rattle.packet_bytes.specs.Worked.{packet, escaped_items, header};
 ghost use Rattle.packet_bytes.specs.Gathering.{gathered};
+ghost use Rattle.packet_bytes.specs.Answers.{answer, replies_of, replies_text, bytes_of};
 
 /// The places of a packet are those at which the data of its first and of its last byte is spelled: of an escaped one that of the escape.
 pub fn packets_have_places()
@@ -50,4 +52,20 @@ pub fn commands_are_stated()
     ensures fixed { packet_text (codes "h.m") 2 (packet (header 0x00 4 6 ++ 1 ∷ 2 ∷ 3 ∷ 4 ∷ [])) ≡ codes "write h.m 0000000006 0003 0201\nwrite h.m 0000000006 0003 0403\n" }
     ensures nothing { packet_text (codes "h.m") 4 (packet (0x7f ∷ 0x7a ∷ [])) ≡ [] }
     ensures lane_too_many { ¬ (packet_text (codes "h.m") 4 (packet (header 0x14 2 1)) ≡ codes "read h.m 0000000000 0007 1\n") }
+{}
+
+/// Replies, each on the channel of its request: a write's has its code and 80, and its size, a read's the bytes that it asks for of its words. There
+/// is none for a transaction that isn't whole, nor for any behind it.
+pub fn replies_are_sent()
+    ensures both { replies_text (replies_of 4 (packet (header 0x04 4 0 ++ 0x11 ∷ 0x22 ∷ 0x33 ∷ 0x44 ∷ []) ∷ packet (header 0x14 4 0) ∷ []) 1 (bytes_of 4 (0x44332211 ∷ [])))
+        ≡ 0x7c ∷ 0 ∷ 0x7a ∷ 0x84 ∷ 0 ∷ 0 ∷ 0x7b ∷ 4 ∷ 0x7c ∷ 0 ∷ 0x7a ∷ 0x11 ∷ 0x22 ∷ 0x33 ∷ 0x7b ∷ 0x44 ∷ [] }
+    ensures nothing { replies_text (replies_of 4 (packet (0x7f ∷ 0x7a ∷ []) ∷ []) 0 []) ≡ 0x7c ∷ 0 ∷ 0x7a ∷ 0xff ∷ 0 ∷ 0 ∷ 0x7b ∷ 0 ∷ [] }
+    ensures unaligned { answer 4 (header 0x14 2 0x103) (bytes_of 4 (0xaabbccdd ∷ 0x11223344 ∷ [])) ≡ 0xaa ∷ 0x44 ∷ [] }
+    ensures inside { answer 4 (header 0x14 2 1) (bytes_of 4 (0xaabbccdd ∷ [])) ≡ 0xcc ∷ 0xbb ∷ [] }
+    ensures lane_too_many { ¬ (answer 4 (header 0x14 2 1) (bytes_of 4 (0xaabbccdd ∷ [])) ≡ 0xcc ∷ 0xbb ∷ 0xaa ∷ []) }
+    ensures fixed { answer 2 (header 0x10 4 6) (bytes_of 2 (0x0201 ∷ 0x0403 ∷ [])) ≡ 1 ∷ 2 ∷ 3 ∷ 4 ∷ [] }
+    ensures fixed_write { answer 2 (header 0x00 4 6 ++ 1 ∷ 2 ∷ 3 ∷ 4 ∷ []) [] ≡ 0x80 ∷ 0 ∷ 0 ∷ 4 ∷ [] }
+    ensures one_word_of_two { replies_of 4 (packet (header 0x14 2 0x103) ∷ packet (0x7f ∷ []) ∷ []) 1 (bytes_of 4 (0xaabbccdd ∷ [])) ≡ [] }
+    ensures no_beat { replies_of 4 (packet (header 0x04 1 0 ++ 0x11 ∷ []) ∷ packet (header 0x14 4 0) ∷ []) 0 (bytes_of 4 (0xaabbccdd ∷ [])) ≡ [] }
+    ensures first_alone { replies_of 4 (packet (0x7f ∷ []) ∷ packet (header 0x14 4 0) ∷ []) 0 [] ≡ record { channel = 0; bytes = 0xff ∷ 0 ∷ 0 ∷ 0 ∷ [] } ∷ [] }
 {}

@@ -1,6 +1,7 @@
 //! Transactions in packets: from marked bytes to the commands of a host, and from its words to reply packets.
 #![tactic(auto)]
 
+mod answers;
 mod codes;
 mod commands;
 mod faults;
@@ -8,12 +9,15 @@ mod gathering;
 mod header;
 mod laws;
 mod packets;
+mod replies;
 mod rules;
 mod transfers;
 
 pub use faults::PacketFault;
 pub use laws::{
     commands_are_counted, commands_are_stated, packets_are_refused, packets_have_places,
+    replies_are_sent,
 };
 pub use marked_bytes::{Fed, PacketByte, Unpacker, pack};
+pub use replies::Replies;
 pub use transfers::Transfers;

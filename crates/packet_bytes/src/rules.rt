@@ -2,7 +2,8 @@
 
 ghost use Rattle.std.specs.Prelude.{◌≡◌, ◌≤◌, ◌<◌, ◌^◌, MatchOption, Some, None, Ok, Err, IfOk, IfErr};
 ghost use Rattle.packet_bytes.specs.declared.faults.PacketFault.TheVariants.{Refused};
-ghost use Rattle.packet_bytes.specs.Rules.{IsWordSize, words_of, command_count, has_length, is_in_place, end_of, is_aligned, transaction_fault, packet_fault, first_fault};
+ghost use Rattle.packet_bytes.specs.Counts.{words_of, command_count};
+ghost use Rattle.packet_bytes.specs.Rules.{IsWordSize, has_length, is_in_place, end_of, is_aligned, transaction_fault, packet_fault, first_fault};
 
 use crate::codes::Code;
 use crate::faults::PacketFault;
