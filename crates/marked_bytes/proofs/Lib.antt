@@ -4,3 +4,4 @@ pub mod Resting
 pub mod Writing
 pub mod Readings
 pub mod Packets
+pub mod Running

@@ -5,7 +5,7 @@ ghost use Rattle.std.specs.List.{list_all};
 ghost use Rattle.marked_bytes.specs.declared.unpacker.Awaits.{Awaits as Due};
 ghost use Rattle.marked_bytes.specs.declared.unpacker.Unpacker.{Unpacker};
 ghost use Rattle.marked_bytes.specs.Items.{Spelled, Mark, Item, Packet, is_mark, is_item, marks_spelling, item_spelling, items_spelling, IsUnpacked};
-ghost use Rattle.marked_bytes.specs.Unpacking.{IsFed, IsFaulty, begun, awaits_some};
+ghost use Rattle.marked_bytes.specs.Unpacking.{IsFed, IsFaulty, IsWhole, are_items, begun, awaits_some};
 ghost use Rattle.marked_bytes.specs.Packing.{packed, Writes};
 
 /// What is packed is unpacked as the one packet.
@@ -16,6 +16,18 @@ pub fn packed_is_one_packet()
 /// What was fed spells one list of items at most.
 pub fn one_reading()
     ensures { (fed : List ℕ) (items others : List Item) (one other : Unpacker) → IsFed fed items one → IsFed fed others other → items ≡ others }
+{}
+
+/// A stream has one first fault: a byte at fault breaks one rule, stands behind bytes without a fault, and is part of no reading.
+pub fn one_fault()
+    ensures rule { (fed : List ℕ) (items others : List Item) (byte one other : ℕ) → IsFaulty fed items byte one → IsFaulty fed others byte other → one ≡ other }
+    ensures before { (fed : List ℕ) (items : List Item) (byte rule : ℕ) → IsFaulty fed items byte rule → (unpacker : Unpacker) × IsFed fed items unpacker }
+    ensures end { (fed more : List ℕ) (items others : List Item) (byte rule : ℕ) (unpacker : Unpacker) → IsFaulty fed items byte rule → ¬ IsFed (fed ++ byte ∷ more) others unpacker }
+{}
+
+/// Whole packets are read without a fault.
+pub fn whole_packets_are_read()
+    ensures { (fed : List ℕ) (items : List Item) → are_items items ≡ true → IsWhole fed items → (unpacker : Unpacker) × IsFed fed items unpacker }
 {}
 
 /// Bytes are unpacked as one list of packets at most.
