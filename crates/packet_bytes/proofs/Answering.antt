@@ -1,7 +1,6 @@
 -- What is noted beyond what packets wait for changes nothing.
 use Rattle.std.proofs.Common.{◌≡◌, ℕ, zero, suc, ◌+◌, ◌-◌, ◌*◌, ◌/◌, ◌%◌, ◌^◌, ◌<◌, ◌≤◌, inl, inr, min, cond, Bool, true, false, List, [], ◌∷◌, ◌++◌, length, take, drop, Option, Some, None, refl, sym, ap, subst, ◌∙◌, length-append, arith}
 use Rattle.std.specs.Prelude.{nat_le, ◌&&◌, slice_index}
-use Rattle.std.specs.List.{sum_by}
 use Rattle.std.specs.Int.{byte_at, bytes_low_first}
 use Rattle.std.proofs.lemmas.List.{take_all, take-append-le, drop-append-le, take-append-drop, length-take-le, length-drop, flat_map_more}
 use Rattle.std.proofs.lemmas.List.Concat.{flat_map-append}
@@ -16,6 +15,7 @@ use Rattle.packet_bytes.specs.Codes.{code_of, size_in, address_in}
 use Rattle.packet_bytes.specs.Rules.{IsWordSize}
 use Rattle.packet_bytes.specs.Counts.{words_of, command_count, commands_of}
 use Rattle.packet_bytes.specs.Commands.{first_lane}
+use Rattle.packet_bytes.specs.Leading.{all_beats_due}
 use Rattle.packet_bytes.specs.Answers.{asks_to_write, beats_due, words_due, all_words_due, bytes_read, answer_by, answer, replies_of, bytes_of}
 
 pub some_bytes : (n : ℕ) → IsWordSize n → 0 < n
@@ -40,9 +40,6 @@ pub within_words : (word_bytes : ℕ) (bytes : List ℕ) → IsWordSize word_byt
 within_words word_bytes bytes h = covers (address_in bytes % word_bytes + size_in bytes) word_bytes (some_bytes word_bytes h)
 
 -- ---- how much packets wait for
-
-abbrev all_beats_due : ℕ → List Packet → ℕ
-all_beats_due word_bytes packets = sum_by (λ (packet : Packet). beats_due word_bytes packet.bytes) packets
 
 beats_few : (word_bytes : ℕ) (bytes : List ℕ) → beats_due word_bytes bytes ≤ command_count word_bytes bytes
 beats_few word_bytes bytes = elim (asks_to_write (code_of (slice_index bytes 0))) as (λ b. cond b (command_count word_bytes bytes) 0 ≤ command_count word_bytes bytes) [
@@ -139,7 +136,7 @@ words_past word_bytes (packet ∷ rest) beats given more w l =
 
 -- ---- the bytes of words
 
-length-bytes_low_first : (from count n : ℕ) → length (bytes_low_first from count n) ≡ count
+pub length-bytes_low_first : (from count n : ℕ) → length (bytes_low_first from count n) ≡ count
 length-bytes_low_first from zero n = refl
 length-bytes_low_first from (suc count) n = ap suc (length-bytes_low_first (suc from) count n)
 

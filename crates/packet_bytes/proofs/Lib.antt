@@ -4,3 +4,7 @@ pub mod Lanes
 pub mod Answering
 pub mod Faultless
 pub mod Sending
+pub mod OneAnswer
+pub mod Leading
+pub mod Touched
+pub mod Unpacked

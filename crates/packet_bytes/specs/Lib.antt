@@ -7,5 +7,8 @@ pub mod Reading
 pub mod WordSizes
 pub mod Commands
 pub mod Answers
+pub mod Leading
+pub mod Unplaced
+pub mod Touched
 pub mod Noted
 pub mod Worked

@@ -1,13 +1,23 @@
-//! Small streams, their packets, faults and statements. The functions do nothing; their contracts are worked rows.
+//! That a stream has one answer, and small streams with their packets, faults, statements and replies. The functions do nothing; their contracts are
+//! laws and worked rows.
 
-ghost use Rattle.std.specs.Prelude.{◌≡◌, [], ◌∷◌, ◌++◌, Some, None, codes};
+ghost use Rattle.std.specs.Prelude.{◌≡◌, ◌↔◌, ℕ, ◌+◌, ◌<◌, ◌≤◌, length, map, take, List, [], ◌∷◌, ◌++◌, Some, None, codes};
 ghost use Rattle.packet_bytes.specs.declared.faults.PacketFault.TheVariants.{Refused};
 ghost use Rattle.packet_bytes.specs.Counts.{command_count};
-ghost use Rattle.packet_bytes.specs.Rules.{packet_fault};
+ghost use Rattle.packet_bytes.specs.declared.gathering.Packet.{Packet as Gathered};
+ghost use Rattle.packet_bytes.specs.declared.transfers.Transfers.{Transfers as Asked};
+ghost use Rattle.packet_bytes.specs.Streams.{AreRead};
+ghost use Rattle.packet_bytes.specs.Rules.{packet_fault, AreTransfers, IsFaultOf};
 ghost use Rattle.packet_bytes.specs.Commands.{packet_text};
 ghost use Rattle.packet_bytes.specs.Worked.{packet, escaped_items, header};
 ghost use Rattle.packet_bytes.specs.Gathering.{gathered};
-ghost use Rattle.packet_bytes.specs.Answers.{answer, replies_of, replies_text, bytes_of};
+ghost use Rattle.packet_bytes.specs.Answers.{answer, bytes_read, replies_of, replies_text, bytes_of};
+ghost use Rattle.packet_bytes.specs.Touched.{enabled_bytes};
+ghost use Rattle.packet_bytes.specs.Leading.{AreEnough};
+ghost use Rattle.packet_bytes.specs.Unplaced.{unplaced};
+ghost use Rattle.marked_bytes.specs.Items.{IsUnpacked};
+
+use marked_bytes::{one_fault, one_reading, whole_packets_are_read};
 
 /// The places of a packet are those at which the data of its first and of its last byte is spelled: of an escaped one that of the escape.
 pub fn packets_have_places()
@@ -68,4 +78,33 @@ pub fn replies_are_sent()
     ensures one_word_of_two { replies_of 4 (packet (header 0x14 2 0x103) ∷ packet (0x7f ∷ []) ∷ []) 1 (bytes_of 4 (0xaabbccdd ∷ [])) ≡ [] }
     ensures no_beat { replies_of 4 (packet (header 0x04 1 0 ++ 0x11 ∷ []) ∷ packet (header 0x14 4 0) ∷ []) 0 (bytes_of 4 (0xaabbccdd ∷ [])) ≡ [] }
     ensures first_alone { replies_of 4 (packet (0x7f ∷ []) ∷ packet (header 0x14 4 0) ∷ []) 0 [] ≡ record { channel = 0; bytes = 0xff ∷ 0 ∷ 0 ∷ 0 ∷ [] } ∷ [] }
+{}
+
+/// A stream has one answer: its transfers, or one first fault.
+pub fn reads_have_one_answer()
+    ensures packets { (bytes : List ℕ) (one other : List Gathered) → AreRead bytes one → AreRead bytes other → one ≡ other }
+    ensures fault { (word_bytes range : ℕ) (bytes : List ℕ) (place later rule other : ℕ) → IsFaultOf word_bytes range bytes (Refused place rule) → IsFaultOf word_bytes range bytes (Refused later other)
+        → Refused place rule ≡ Refused later other }
+    ensures never_both { (word_bytes range : ℕ) (bytes : List ℕ) (transfers : Asked) (place rule : ℕ) → AreTransfers word_bytes range bytes transfers → ¬ IsFaultOf word_bytes range bytes (Refused place rule) }
+{
+    one_reading();
+    one_fault();
+    whole_packets_are_read();
+}
+
+/// The packets of a stream are those that it is unpacked as.
+pub fn reads_are_unpacked()
+    ensures { (bytes : List ℕ) (packets : List Gathered) → AreRead bytes packets → IsUnpacked bytes (map unplaced packets) }
+{}
+
+/// Just those packets are answered for which, with all before them, the write beats and the words are enough.
+pub fn leading_packets_are_answered()
+    ensures which { (word_bytes : ℕ) (packets : List Gathered) (beats : ℕ) (given : List ℕ) (k : ℕ) → k < length packets
+        → (k < length (replies_of word_bytes packets beats given) ↔ AreEnough word_bytes (take (k + 1) packets) beats (length given)) }
+    ensures few { (word_bytes : ℕ) (packets : List Gathered) (beats : ℕ) (given : List ℕ) → length (replies_of word_bytes packets beats given) ≤ length packets }
+{}
+
+/// The bytes that answer a read are those of the lanes that its commands enable, of the words that these are given.
+pub fn enabled_bytes_are_answered()
+    ensures { (word_bytes : ℕ) (bytes words : List ℕ) → enabled_bytes word_bytes bytes 0 words ≡ bytes_read word_bytes bytes (bytes_of word_bytes words) }
 {}

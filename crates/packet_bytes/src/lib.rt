@@ -15,8 +15,9 @@ mod transfers;
 
 pub use faults::PacketFault;
 pub use laws::{
-    commands_are_counted, commands_are_stated, packets_are_refused, packets_have_places,
-    replies_are_sent,
+    commands_are_counted, commands_are_stated, enabled_bytes_are_answered,
+    leading_packets_are_answered, packets_are_refused, packets_have_places, reads_are_unpacked,
+    reads_have_one_answer, replies_are_sent,
 };
 pub use marked_bytes::{Fed, PacketByte, Unpacker, pack};
 pub use replies::Replies;
