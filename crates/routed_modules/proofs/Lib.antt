@@ -1,0 +1,9 @@
+mod Beginnings
+mod Names
+mod Headers
+mod Places
+mod EndItems
+mod AtPorts
+mod Driving
+mod DemuxModule
+mod InputPorts

@@ -1,0 +1,6 @@
+pub mod Sizes
+pub mod Ports
+pub mod Drivers
+pub mod Ends
+pub mod Demultiplexers
+pub mod Routed

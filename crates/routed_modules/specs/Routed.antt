@@ -1,0 +1,13 @@
+-- Modules that lead beats by their channels, by what they are and their numbers.
+use Rattle.netlist.specs.Netlists.{Netlist}
+use Rattle.routed_modules.specs.declared.routed.Routed.{Routed}
+use Rattle.routed_modules.specs.declared.routed.Routed.TheVariants as routed
+use Rattle.routed_modules.specs.Demultiplexers.{AreSizes, demultiplexer, IsDemultiplexerModule}
+
+-- its numbers are in their ranges
+abbrev pub HaveSizes : Routed → Type 0
+HaveSizes (routed.Demultiplexer outputs symbols bits) = AreSizes outputs symbols bits
+
+-- the module is the one that is wanted
+abbrev pub IsRoutedModule : Routed → Netlist → Type 0
+IsRoutedModule (routed.Demultiplexer outputs symbols bits) netlist = IsDemultiplexerModule (demultiplexer outputs symbols bits) netlist

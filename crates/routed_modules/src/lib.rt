@@ -1,0 +1,12 @@
+//! Multiplexers, demultiplexers and gatherers as modules by themselves.
+#![tactic(auto)]
+
+mod demux;
+mod drivers;
+mod ends;
+mod header;
+mod routed;
+mod sizes;
+
+pub use demux::demux_module;
+pub use routed::Routed;

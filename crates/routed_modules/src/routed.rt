@@ -1,0 +1,56 @@
+//! Which of these modules is wanted.
+
+ghost use Rattle.std.specs.Prelude.{◌↔◌, ◌≡◌, IsTrue, IfOk};
+ghost use Rattle.routed_modules.specs.Routed.{HaveSizes, IsRoutedModule};
+ghost use Rattle.routed_modules.specs.Demultiplexers.{AreSizes};
+
+use crate::demux::demux_module;
+use av_base::NoMemory;
+use netlist::Module;
+use std::alloc::Global;
+
+/// A module that leads beats by their channels.
+#[derive(Clone, Copy, Debug, PartialEq, Eq)]
+pub enum Routed {
+    /// A demultiplexer of so many outputs, and of so many symbols of so many bits a beat.
+    Demultiplexer { outputs: u8, symbols: u8, bits: u8 },
+}
+
+/// Whether so many ends may share beats of so many symbols of so many bits.
+fn are_sizes(ends: u8, symbols: u8, bits: u8) -> bool
+    ensures { IsTrue result ↔ AreSizes ends symbols bits }
+{
+    (2..=16).contains(&ends)
+        && (1..=16).contains(&symbols)
+        && bits >= 1
+        && u16::from(symbols) * u16::from(bits) <= 128
+}
+
+impl Routed {
+    /// Whether there is such a module: its numbers are in their ranges.
+    pub fn has_sizes(self) -> bool
+        ensures { IsTrue result ↔ HaveSizes self }
+    {
+        match self {
+            Routed::Demultiplexer {
+                outputs,
+                symbols,
+                bits,
+            } => are_sizes(outputs, symbols, bits),
+        }
+    }
+
+    /// The module.
+    pub fn make(self, alloc: Global) -> Result<Module, NoMemory>
+        requires { HaveSizes self }
+        ensures { IfOk result (IsRoutedModule self) }
+    {
+        match self {
+            Routed::Demultiplexer {
+                outputs,
+                symbols,
+                bits,
+            } => demux_module(alloc, outputs, symbols, bits),
+        }
+    }
+}
