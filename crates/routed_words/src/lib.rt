@@ -1,0 +1,101 @@
+//! The words that ask for a module that leads beats by their channels, and the numbers among words.
+#![tactic(auto)]
+
+ghost use Rattle.std.specs.Prelude.{◌≡◌, ◌≢◌, ◌↔◌, ℕ, ◌^◌, ◌<◌, decimal, map, string_bytes, MatchOption, IsTrue};
+ghost use Rattle.routed_modules.specs.declared.routed.Routed.{Routed as Wanted};
+ghost use Rattle.routed_words.specs.Asking.{IsModuleWord, AreWordsOf, AsksForModule, IsSpelled, AreSpelled};
+
+use answer_lines::Line;
+use routed_modules::Routed;
+
+/// The number that a word spells in decimal, without a sign or leading zeros.
+pub fn number_of(word: &str) -> Option<u32>
+    ensures { MatchOption result ((n : ℕ) → n < 2 ^ 32 → word.now ≢ decimal n) (λ n. word.now ≡ decimal n) }
+{
+    let Ok(number) = word.parse::<u32>() else {
+        return None;
+    };
+    let mut spelled = Line::new();
+    spelled.put_number(u64::from(number));
+    if spelled.as_slice() == word.as_bytes() {
+        Some(number)
+    } else {
+        None
+    }
+}
+
+/// The same of a number below 256.
+fn small_number_of(word: &str) -> Option<u8>
+    ensures { MatchOption result ((n : ℕ) → ¬ IsSpelled word.now n) (IsSpelled word.now) }
+{
+    let Some(number) = number_of(word) else {
+        return None;
+    };
+    if number < 256 {
+        Some(number as u8)
+    } else {
+        None
+    }
+}
+
+/// Whether a word asks for such a module, whatever stands behind it.
+pub fn is_module_word(word: &str) -> bool
+    ensures { IsTrue result ↔ IsModuleWord word.now }
+{
+    word == "demux"
+}
+
+/// Whether so many words are a module's, and its numbers in their ranges.
+pub fn are_words_of(routed: Routed, words: usize) -> bool
+    ensures { IsTrue result ↔ AreWordsOf routed words }
+{
+    let count = match routed {
+        Routed::Demultiplexer { .. } => 4,
+    };
+    words == count && routed.has_sizes()
+}
+
+/// Three numbers that words spell.
+fn three_numbers(first: &str, second: &str, third: &str) -> Option<(u8, u8, u8)>
+    ensures { MatchOption result ((a b c : ℕ) → ¬ AreSpelled first.now second.now third.now a b c) (λ n. AreSpelled first.now second.now third.now n.0 n.1 n.2) }
+{
+    let Some(a) = small_number_of(first) else {
+        return None;
+    };
+    let Some(b) = small_number_of(second) else {
+        return None;
+    };
+    let Some(c) = small_number_of(third) else {
+        return None;
+    };
+    Some((a, b, c))
+}
+
+/// Reads the words that ask for such a module.
+pub fn read_routed(words: &[String]) -> Option<Routed>
+    ensures { MatchOption result ((wanted : Wanted) → ¬ AsksForModule wanted (map string_bytes words.now)) (λ wanted. AsksForModule wanted (map string_bytes words.now)) }
+{
+    let [command, outputs, symbols, bits] = words else {
+        return None;
+    };
+    if !is_module_word(command.as_str()) {
+        return None;
+    }
+    let Some((outputs, symbols, bits)) = three_numbers(
+        outputs.as_str(),
+        symbols.as_str(),
+        bits.as_str(),
+    ) else {
+        return None;
+    };
+    let routed = Routed::Demultiplexer {
+        outputs,
+        symbols,
+        bits,
+    };
+    if routed.has_sizes() {
+        Some(routed)
+    } else {
+        None
+    }
+}
