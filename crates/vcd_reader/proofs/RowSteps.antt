@@ -2,7 +2,6 @@
 use Rattle.std.proofs.Common.{◌≡◌, ℕ, zero, suc, ◌+◌, ◌-◌, ◌<◌, ◌≤◌, ◌==◌, ◌&&◌, Bool, true, false, not, cond, List, [], ◌∷◌, ◌++◌, length, length-append, take, drop, Option, Some, None, Result, Ok, Err, codes, inl, inr, refl, sym, ap, ◌∙◌, append_assoc, append-nil, arith}
 use Rattle.std.specs.Prelude.{nat_lt, slice_set, slice_get, IsOk}
 use Rattle.std.proofs.lemmas.Bool.{cases_lt, false≢true}
-use Rattle.netlist.proofs.Lists.{slice_get-front, slice_get-last}
 use Rattle.std.proofs.lemmas.List.{take_all, take-append-le}
 use Rattle.av_base.specs.Word.{Word}
 use Rattle.vcd_reader.specs.declared.rule.Rule.{Rule}
@@ -112,6 +111,15 @@ repeated_at zero row k h = absurd (omega arith)
 repeated_at (suc count) row zero h = refl
 repeated_at (suc count) row (suc k) h = repeated_at count row k (omega arith)
 
+row_in_front : {X : Type 0} (xs ys : List X) (n : ℕ) (x : X) → slice_get xs n ≡ Some x → slice_get (xs ++ ys) n ≡ Some x
+row_in_front [] ys n x e = cc
+row_in_front (a ∷ xs) ys zero x e = e
+row_in_front (a ∷ xs) ys (suc n) x e = row_in_front xs ys n x e
+
+row_at_end : {X : Type 0} (xs : List X) (y : X) → slice_get (xs ++ y ∷ []) (length xs) ≡ Some y
+row_at_end [] y = refl
+row_at_end (a ∷ xs) y = row_at_end xs y
+
 behind_front : {X : Type 0} (xs ys : List X) (k : ℕ) → slice_get (xs ++ ys) (length xs + k) ≡ slice_get ys k
 behind_front [] ys k = let none : 0 + k ≡ k = omega arith in ap (slice_get ys) none
 behind_front (x ∷ xs) ys k = let more : length (x ∷ xs) + k ≡ suc (length xs + k) = omega arith in ap (slice_get (x ∷ xs ++ ys)) more ∙ behind_front xs ys k
@@ -128,7 +136,7 @@ same_on front now time later count more k low high =
           ∙ repeated_at (later - time - 1) now (k - time - 1) (omega arith)
       | inr up ↦
           let here : length front ≡ k = omega (arith, count) in
-          slice_get-front (front ++ now ∷ []) (repeated (later - time - 1) now) k now (ap (λ (n : ℕ). slice_get (front ++ now ∷ []) n) (sym here) ∙ slice_get-last front now)
+          row_in_front (front ++ now ∷ []) (repeated (later - time - 1) now) k now (ap (λ (n : ℕ). slice_get (front ++ now ∷ []) n) (sym here) ∙ row_at_end front now)
     ]
 
 -- ---- the first row, and later ones
@@ -319,7 +327,7 @@ pub row_there : (widths : List ℕ) (found : Found (List (List Word))) (rows : L
     → slice_get rows cycle ≡ Some row
 row_there widths found rows cycle time row text under within e =
     let front = behind_by under.few widths time under.front row text rows [] (is_empty text) (sym under.goes_on ∙ e) in
-    ap (λ (rs : List (List Word)). slice_get rs cycle) front.are ∙ slice_get-front under.front front.others cycle row (under.same cycle (omega arith) within)
+    ap (λ (rs : List (List Word)). slice_get rs cycle) front.are ∙ row_in_front under.front front.others cycle row (under.same cycle (omega arith) within)
 
 -- the same row stands in the next cycle
 pub next_under : (widths : List ℕ) (found : Found (List (List Word))) (cycle next time : ℕ) (row : List Word) (text : List ℕ) → cycle ≤ next → IsUnder widths found cycle time row text → IsUnder widths found next time row text
