@@ -48,10 +48,13 @@ step_rule (step.Waves n) = codes "X" ++ decimal n
 abbrev pub scenario_line : ℕ → ℕ → StepRule → List ℕ
 scenario_line file line rule = codes "scenario refused: file " ++ decimal file ++ codes " line " ++ decimal line ++ codes " rule " ++ step_rule rule ++ codes "\n"
 
+abbrev pub dump_line : ℕ → ℕ → List ℕ
+dump_line byte rule = codes "dump refused: byte " ++ decimal byte ++ codes " rule G" ++ decimal rule ++ codes "\n"
+
 -- the line of an answer, and no byte for those that write none
 abbrev pub line_of : Exit → List ℕ
 line_of exit.Done = []
-line_of exit.Usage = codes "usage: generate|check SYSTEM COMPONENT.. | simulate SYSTEM SCENARIO COMPONENT.. | replay VERILOG WAVES | campaign NUMBER SYSTEM COMPONENT.. | workload NUMBER\n"
+line_of exit.Usage = codes "usage: generate|check SYSTEM COMPONENT.. | simulate SYSTEM SCENARIO COMPONENT.. | replay VERILOG WAVES | campaign NUMBER SYSTEM COMPONENT.. | workload NUMBER | dump VERILOG WAVES | undump DUMP | bridge NUMBER SYSTEM BYTES COMPONENT.. | mux|demux NUMBER NUMBER NUMBER | gather NUMBER NUMBER NUMBER NUMBER\n"
 line_of (exit.ReadFault file) = codes "read fault: file " ++ decimal file ++ codes "\n"
 line_of exit.WriteFault = []
 line_of (exit.ScriptRefused place rule) = script_line place rule
@@ -59,6 +62,7 @@ line_of (exit.LinkRefused connection rule other) = link_line connection rule oth
 line_of (exit.Limit which count) = limit_line which count
 line_of (exit.VerilogRefused byte rule) = verilog_line byte rule
 line_of (exit.ScenarioRefused file line rule) = scenario_line file line rule
+line_of (exit.DumpRefused byte rule) = dump_line byte rule
 line_of exit.NoMemory = codes "no memory\n"
 
 abbrev pub status_of : Exit → ℕ
@@ -72,6 +76,7 @@ status_of (exit.Limit which count) = 7
 status_of (exit.VerilogRefused byte rule) = 8
 status_of (exit.ScenarioRefused file line rule) = 9
 status_of exit.NoMemory = 10
+status_of (exit.DumpRefused byte rule) = 11
 
 -- the answer to files that are refused
 abbrev pub exit_of : Refusal → Exit

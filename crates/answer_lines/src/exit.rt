@@ -1,8 +1,8 @@
 ghost use Rattle.std.specs.Prelude.{◌≡◌, codes, decimal, ◌++◌};
-ghost use Rattle.answer_lines.specs.Lines.{status_of, line_of, script_line, link_line, limit_line, verilog_line, scenario_line};
+ghost use Rattle.answer_lines.specs.Lines.{status_of, line_of, script_line, link_line, limit_line, verilog_line, scenario_line, dump_line};
 
-use crate::line::Line;
 use av_base::{NoMemory, Place};
+use byte_lines::Line;
 use link_rules::LinkRule;
 use script_words::ScriptRule;
 use system_plan::Refusal;
@@ -58,6 +58,11 @@ pub enum Exit {
         line: u32,
         rule: StepRule,
     },
+    /// A value change dump breaks the rule of this number at this byte, from 0.
+    DumpRefused {
+        byte: u64,
+        rule: u8,
+    },
     /// Memory was wanted and not had.
     NoMemory,
 }
@@ -111,6 +116,7 @@ impl Exit {
             Exit::VerilogRefused { .. } => 8,
             Exit::ScenarioRefused { .. } => 9,
             Exit::NoMemory => 10,
+            Exit::DumpRefused { .. } => 11,
         }
     }
 
@@ -121,7 +127,7 @@ impl Exit {
         match *self {
             Exit::Done | Exit::WriteFault => Line::new(),
             Exit::Usage => Line::of(
-                b"usage: generate|check SYSTEM COMPONENT.. | simulate SYSTEM SCENARIO COMPONENT.. | replay VERILOG WAVES | campaign NUMBER SYSTEM COMPONENT.. | workload NUMBER\n",
+                b"usage: generate|check SYSTEM COMPONENT.. | simulate SYSTEM SCENARIO COMPONENT.. | replay VERILOG WAVES | campaign NUMBER SYSTEM COMPONENT.. | workload NUMBER | dump VERILOG WAVES | undump DUMP | bridge NUMBER SYSTEM BYTES COMPONENT.. | mux|demux NUMBER NUMBER NUMBER | gather NUMBER NUMBER NUMBER NUMBER\n",
             ),
             Exit::ReadFault { file } => read_line(file),
             Exit::ScriptRefused { place, rule } => script_refused(place, rule),
@@ -133,6 +139,7 @@ impl Exit {
             Exit::Limit { which, count } => limit(which, count),
             Exit::VerilogRefused { byte, rule } => verilog_refused(byte, rule),
             Exit::ScenarioRefused { file, line, rule } => scenario_refused(file, line, rule),
+            Exit::DumpRefused { byte, rule } => dump_refused(byte, rule),
             Exit::NoMemory => Line::of(b"no memory\n"),
         }
     }
@@ -213,6 +220,16 @@ fn scenario_refused(file: u32, number: u32, rule: StepRule) -> Line
         StepRule::Waves(n) => (b" rule X", n),
     };
     line.put_part(letter, u64::from(rule));
+    line.put(b"\n");
+    line
+}
+
+fn dump_refused(byte: u64, rule: u8) -> Line
+    ensures { result ≡ dump_line byte rule }
+{
+    let mut line = Line::new();
+    line.put_part(b"dump refused: byte ", byte);
+    line.put_part(b" rule G", u64::from(rule));
     line.put(b"\n");
     line
 }

@@ -2,7 +2,5 @@
 #![tactic(auto)]
 
 mod exit;
-mod line;
 
 pub use exit::{Exit, StepRule};
-pub use line::Line;

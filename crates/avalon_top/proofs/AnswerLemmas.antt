@@ -5,157 +5,152 @@ use Rattle.link_rules.specs.Plans.{PlanTable}
 use Rattle.replays.specs.declared.faults.ReplayFault.{ReplayFault}
 use Rattle.replays.specs.declared.faults.ReplayFault.TheVariants as fault
 use Rattle.replays.specs.Texts.{CanReplayText, IsReplayOfText, IsReplayTextFault}
+use Rattle.replay_dumps.specs.Dumps.{IsDumpOfText}
+use Rattle.undumps.specs.declared.UndumpFault.{UndumpFault}
+use Rattle.undumps.specs.declared.UndumpFault.TheVariants as undump
+use Rattle.undumps.specs.Undumps.{CanUndump, IsUndumpOf, IsUndumpFault}
 use Rattle.system_plan.specs.declared.faults.Refusal.{Refusal}
 use Rattle.system_plan.specs.declared.faults.Refusal.TheVariants as refusal
 use Rattle.system_plan.specs.Plans.{IsPlanned, IsAccepted, IsRefusedBy, IsCause}
 use Rattle.answer_lines.specs.declared.exit.Exit.{Exit}
 use Rattle.answer_lines.specs.declared.exit.Exit.TheVariants as exit
-use Rattle.avalon_top.specs.declared.words.Task.{Task}
-use Rattle.avalon_top.specs.declared.words.Task.TheVariants.{Generate, Check, Simulate, Replay, Workload}
-use Rattle.avalon_top.specs.Words.{AsksFor, AreItsFiles, file_words}
-use Rattle.avalon_top.specs.Simulate.{system_files, scenario_in, answer_of_simulation, IsSimulateRefusal, SimulateCallsFor}
-use Rattle.avalon_top.specs.Workload.{WorkloadCallsFor}
+use Rattle.answer_lines.specs.Lines.{exit_of}
+use Rattle.task_words.specs.declared.Task.{Task}
+use Rattle.task_words.specs.declared.Task.TheVariants.{Generate, Check, Simulate, Replay, Dump, Undump, Workload, Module}
+use Rattle.task_words.specs.Words.{AsksFor, AreItsFiles, file_words}
+use Rattle.task_words.specs.OneTask.{one_task}
+use Rattle.avalon_top.specs.Refused.{IsAnswerOf, DoneOrRefused}
+use Rattle.avalon_top.specs.Done.{CallsForDone}
+use Rattle.avalon_top.specs.Simulate.{system_files, scenario_in, answer_of_simulation, SimulateCallsFor}
 use Rattle.scenario_runs.specs.declared.faults.SimulateFault.{SimulateFault}
 use Rattle.scenario_runs.specs.declared.faults.SimulateFault.TheVariants as simulate
 use Rattle.scenario_runs.specs.Simulations.{CanSimulate, IsSimulateFault}
 use Rattle.av_files.specs.Outside.{WhereTold}
-use Rattle.avalon_top.specs.Run.{Reads, Writes, most_bytes, AreLoaded, AreFiles, IsFilesLimit, IsBytesLimit, IsCalledFor, SystemCallsFor, ReplayCallsFor, IsReplayRefusal, text_in, waves_in, answer_of, CallsFor, IsOnly, IsOnlyAnswer, NothingFails}
-use Rattle.answer_lines.specs.Lines.{exit_of}
+use Rattle.avalon_top.specs.Run.{Reads, Writes, most_bytes, AreLoaded, AreFiles, IsFilesLimit, IsBytesLimit, IsCalledFor, SystemCallsFor, ReplayCallsFor, UndumpCallsFor, text_in, waves_in, dump_in, answer_of, answer_of_dump, CallsFor, IsOnly, IsOnlyAnswer, NothingFails}
 use Rattle.avalon_top.specs.Loading.{IsStop, StopsAtFile, StopsFiles, StopsLoading, Stops}
 use Rattle.avalon_top.proofs.FileLemmas.{told_files, not_long, system_file_count}
-use Rattle.avalon_top.proofs.WordsLemmas.{one_task}
 
--- ---- files of a system that are refused
+-- ---- what can be done, or is refused
 
--- where one refusal alone is the files', its answer is the only one
-no_other : (files : List (List ℕ)) (r : Refusal) → (IsAccepted files → ⊥) → ((s : Refusal) → IsRefusedBy files s → r ≡ s)
-    → (other : Exit) → SystemCallsFor files other → other ≡ exit_of r
-no_other files r none only exit.Done h = absurd (none h)
-no_other files r none only (exit.ScriptRefused place rule) h = ap exit_of (sym (only (refusal.Script place rule) h))
-no_other files r none only (exit.LinkRefused connection rule other) h = ap exit_of (sym (only (refusal.Link connection rule other) h))
-no_other files r none only (exit.Limit which count) h = ap exit_of (sym (only (refusal.Limit which count) h))
-no_other files r none only exit.Usage h = absurd h
-no_other files r none only (exit.ReadFault file) h = absurd h
-no_other files r none only exit.WriteFault h = absurd h
-no_other files r none only (exit.VerilogRefused byte rule) h = absurd h
-no_other files r none only (exit.ScenarioRefused file line rule) h = absurd h
-no_other files r none only exit.NoMemory h = absurd h
+-- an answer that refuses files
+abbrev RefusesFiles : Exit → Type 0
+RefusesFiles exit.Done = ⊥
+RefusesFiles exit.Usage = ⊥
+RefusesFiles (exit.ReadFault file) = ⊥
+RefusesFiles exit.WriteFault = ⊥
+RefusesFiles _ = Unit {0}
+
+-- what is known of it: it can be done or is refused, never both, and for one reason
+pub record AreJudged {F : Type 0} (Can : Type 0) (IsFault : F → Type 0) : Type 0 where
+  pub either : Can ⊎ ((f : F) × IsFault f)
+  pub never_both : (f : F) → Can → ¬ IsFault f
+  pub one_fault : (f g : F) → IsFault f → IsFault g → f ≡ g
+
+-- what stops a run where its answer is no result
+stopped : (IsCalled : Exit → Type 0) (e : Exit) → RefusesFiles e → (e ≡ exit.NoMemory) ⊎ IsOnly IsCalled e → IsStop IsCalled e
+stopped IsCalled exit.Done refuses is = absurd refuses
+stopped IsCalled exit.Usage refuses is = absurd refuses
+stopped IsCalled (exit.ReadFault file) refuses is = absurd refuses
+stopped IsCalled exit.WriteFault refuses is = absurd refuses
+stopped IsCalled (exit.ScriptRefused place rule) refuses is = is
+stopped IsCalled (exit.LinkRefused connection rule other) refuses is = is
+stopped IsCalled (exit.Limit which count) refuses is = is
+stopped IsCalled (exit.VerilogRefused byte rule) refuses is = is
+stopped IsCalled (exit.ScenarioRefused file line rule) refuses is = is
+stopped IsCalled (exit.DumpRefused byte rule) refuses is = is
+stopped IsCalled exit.NoMemory refuses is = is
+
+module _ {F : Type 0} (Can : Type 0) (IsFault : F → Type 0) (answer : F → Exit) (refuses : (f : F) → RefusesFiles (answer f)) where
+  -- what is called for is a result, or a refusal
+  cases : (e : Exit) → DoneOrRefused Can IsFault answer e → ((e ≡ exit.Done) × Can) ⊎ IsAnswerOf IsFault answer e
+  cases exit.Done h = inl (refl, h)
+  cases exit.Usage h = inr h
+  cases (exit.ReadFault file) h = inr h
+  cases exit.WriteFault h = inr h
+  cases (exit.ScriptRefused place rule) h = inr h
+  cases (exit.LinkRefused connection rule other) h = inr h
+  cases (exit.Limit which count) h = inr h
+  cases (exit.VerilogRefused byte rule) h = inr h
+  cases (exit.ScenarioRefused file line rule) h = inr h
+  cases (exit.DumpRefused byte rule) h = inr h
+  cases exit.NoMemory h = inr h
+
+  refused : (e : Exit) → RefusesFiles e → IsAnswerOf IsFault answer e → DoneOrRefused Can IsFault answer e
+  refused exit.Done no h = absurd no
+  refused exit.Usage no h = h
+  refused (exit.ReadFault file) no h = h
+  refused exit.WriteFault no h = h
+  refused (exit.ScriptRefused place rule) no h = h
+  refused (exit.LinkRefused connection rule other) no h = h
+  refused (exit.Limit which count) no h = h
+  refused (exit.VerilogRefused byte rule) no h = h
+  refused (exit.ScenarioRefused file line rule) no h = h
+  refused (exit.DumpRefused byte rule) no h = h
+  refused exit.NoMemory no h = h
+
+  only_done : AreJudged Can IsFault → Can → IsOnly (DoneOrRefused Can IsFault answer) exit.Done
+  only_done judged can = record {
+    called = can;
+    only = λ other h. ⊎_elim (λ done. done.0) (λ r. absurd (judged.never_both r.fault can r.refused)) (cases other h);
+  }
+
+  only_refused : (f : F) → AreJudged Can IsFault → IsFault f → IsOnly (DoneOrRefused Can IsFault answer) (answer f)
+  only_refused f judged is = record {
+    called = refused (answer f) (refuses f) (record { fault = f; refused = is; answer_is = refl });
+    only = λ other h. ⊎_elim
+        (λ done. absurd (judged.never_both f done.1 is))
+        (λ r. r.answer_is ∙ ap answer (judged.one_fault r.fault f r.refused is))
+        (cases other h);
+  }
+
+  answer_for : AreJudged Can IsFault → (e : Exit) × IsOnly (DoneOrRefused Can IsFault answer) e
+  answer_for judged =
+      ⊎_elim
+      (λ can. (exit.Done, only_done judged can))
+      (λ is. (answer is.0, only_refused is.0 judged is.1))
+      judged.either
+
+  -- what wasn't done is refused, or memory was wanted
+  stops_for : (f : F) → AreJudged Can IsFault → (answer f ≡ exit.NoMemory) ⊎ IsFault f → IsStop (DoneOrRefused Can IsFault answer) (answer f)
+  stops_for f judged is = stopped (DoneOrRefused Can IsFault answer) (answer f) (refuses f) (⊎_elim (λ e. inl e) (λ r. inr (only_refused f judged r)) is)
+
+  -- no other answer is called for
+  of_called : (e : Exit) → DoneOrRefused Can IsFault answer e → (e ≡ exit.Done) ⊎ RefusesFiles e
+  of_called e h = ⊎_elim (λ done. inl done.0) (λ r. inr (subst RefusesFiles (sym r.answer_is) (refuses r.fault))) (cases e h)
+
+-- ---- the files of a system
+
+system_refuses : (r : Refusal) → RefusesFiles (exit_of r)
+system_refuses (refusal.Script place rule) = tt
+system_refuses (refusal.Link connection rule other) = tt
+system_refuses (refusal.Limit which count) = tt
+system_refuses refusal.NoMemory = tt
 
 -- the files are refused, or memory was wanted
-pub refused_files : (files : List (List ℕ)) (r : Refusal) → IsCause files r → (IsAccepted files → r ≡ refusal.NoMemory)
-    → ((s : Refusal) → IsRefusedBy files s → (r ≡ s) ⊎ (r ≡ refusal.NoMemory)) → IsStop (SystemCallsFor files) (exit_of r)
-refused_files files refusal.NoMemory cause accepted only = inl refl
-refused_files files (refusal.Script place rule) cause accepted only =
-    ⊎_elim
-    (λ e. (cc))
-    (λ is. inr record { called = is; only = no_other files (refusal.Script place rule) (λ a. let e = accepted a in cc) (λ s h. ⊎_elim (λ e. e) (λ e. (cc)) (only s h)) })
-    cause
-refused_files files (refusal.Link connection rule other) cause accepted only =
-    ⊎_elim
-    (λ e. (cc))
-    (λ is. inr record { called = is; only = no_other files (refusal.Link connection rule other) (λ a. let e = accepted a in cc) (λ s h. ⊎_elim (λ e. e) (λ e. (cc)) (only s h)) })
-    cause
-refused_files files (refusal.Limit which count) cause accepted only =
-    ⊎_elim
-    (λ e. (cc))
-    (λ is. inr record { called = is; only = no_other files (refusal.Limit which count) (λ a. let e = accepted a in cc) (λ s h. ⊎_elim (λ e. e) (λ e. (cc)) (only s h)) })
-    cause
+pub refused_files : (files : List (List ℕ)) (r : Refusal) → AreJudged (IsAccepted files) (IsRefusedBy files) → IsCause files r → IsStop (SystemCallsFor files) (exit_of r)
+refused_files files r judged cause = stops_for (IsAccepted files) (IsRefusedBy files) exit_of system_refuses r judged (⊎_elim (λ e. inl (ap exit_of e)) (λ is. inr is) cause)
 
--- ---- files of a system that state a plan
-
-abbrev pub accepted_files : (files : List (List ℕ)) (plan : PlanTable) → IsPlanned files plan → IsAccepted files
+pub accepted_files : (files : List (List ℕ)) (plan : PlanTable) → IsPlanned files plan → IsAccepted files
 accepted_files files plan is = record { system = plan.system; stated = is.stated; maps = is.is_plan.maps.kept; links = is.is_plan.links; limits = is.is_plan.limits }
 
-only_done : (files : List (List ℕ)) → ((s : Refusal) → IsRefusedBy files s → ⊥) → (other : Exit) → SystemCallsFor files other → other ≡ exit.Done
-only_done files none exit.Done h = refl
-only_done files none (exit.ScriptRefused place rule) h = absurd (none (refusal.Script place rule) h)
-only_done files none (exit.LinkRefused connection rule other) h = absurd (none (refusal.Link connection rule other) h)
-only_done files none (exit.Limit which count) h = absurd (none (refusal.Limit which count) h)
-only_done files none exit.Usage h = absurd h
-only_done files none (exit.ReadFault file) h = absurd h
-only_done files none exit.WriteFault h = absurd h
-only_done files none (exit.VerilogRefused byte rule) h = absurd h
-only_done files none (exit.ScenarioRefused file line rule) h = absurd h
-only_done files none exit.NoMemory h = absurd h
-
-pub done_files : (files : List (List ℕ)) (plan : PlanTable) → IsPlanned files plan → ((s : Refusal) → IsRefusedBy files s → ⊥) → IsOnly (SystemCallsFor files) exit.Done
-done_files files plan is none = record { called = accepted_files files plan is; only = only_done files none }
-
--- ---- any files of a system
-
-refused_answer : (files : List (List ℕ)) (r : Refusal) → IsRefusedBy files r → (IsAccepted files → ⊥) → ((s : Refusal) → IsRefusedBy files s → r ≡ s)
-    → (answer : Exit) × IsOnly (SystemCallsFor files) answer
-refused_answer files refusal.NoMemory is none only = absurd is
-refused_answer files (refusal.Script place rule) is none only =
-    (exit.ScriptRefused place rule, record { called = is; only = no_other files (refusal.Script place rule) none only })
-refused_answer files (refusal.Link connection rule other) is none only =
-    (exit.LinkRefused connection rule other, record { called = is; only = no_other files (refusal.Link connection rule other) none only })
-refused_answer files (refusal.Limit which count) is none only =
-    (exit.Limit which count, record { called = is; only = no_other files (refusal.Limit which count) none only })
-
--- files that are accepted or refused, and never both, call for one answer
-system_answer : (files : List (List ℕ)) → (IsAccepted files → (s : Refusal) → IsRefusedBy files s → ⊥)
-    → ((r s : Refusal) → IsRefusedBy files r → IsRefusedBy files s → r ≡ s) → IsAccepted files ⊎ ((r : Refusal) × IsRefusedBy files r) → (answer : Exit) × IsOnly (SystemCallsFor files) answer
-system_answer files never once (inl a) = (exit.Done, record { called = a; only = only_done files (never a) })
-system_answer files never once (inr r) = refused_answer files r.0 r.1 (λ a. never a r.0 r.1) (λ s h. once r.0 s r.1 h)
+-- they state a plan
+pub done_files : (files : List (List ℕ)) (plan : PlanTable) → AreJudged (IsAccepted files) (IsRefusedBy files) → IsPlanned files plan → IsOnly (SystemCallsFor files) exit.Done
+done_files files plan judged is = only_done (IsAccepted files) (IsRefusedBy files) exit_of system_refuses judged (accepted_files files plan is)
 
 -- ---- a text and waves
 
--- what is called for is a result, or a refusal
-replay_cases : (text waves : List ℕ) (e : Exit) → ReplayCallsFor text waves e → ((e ≡ exit.Done) × CanReplayText text waves) ⊎ IsReplayRefusal text waves e
-replay_cases text waves exit.Done h = inl (refl, h)
-replay_cases text waves exit.Usage h = inr h
-replay_cases text waves (exit.ReadFault file) h = inr h
-replay_cases text waves exit.WriteFault h = inr h
-replay_cases text waves (exit.ScriptRefused place rule) h = inr h
-replay_cases text waves (exit.LinkRefused connection rule other) h = inr h
-replay_cases text waves (exit.Limit which count) h = inr h
-replay_cases text waves (exit.VerilogRefused byte rule) h = inr h
-replay_cases text waves (exit.ScenarioRefused file line rule) h = inr h
-replay_cases text waves exit.NoMemory h = inr h
-
-replay_refused : (text waves : List ℕ) (f : ReplayFault) → IsReplayTextFault text waves f → ReplayCallsFor text waves (answer_of f)
-replay_refused text waves (fault.TextRefused byte rule) is = record { fault = fault.TextRefused byte rule; refused = is; answer_is = refl }
-replay_refused text waves fault.TooManyNets is = record { fault = fault.TooManyNets; refused = is; answer_is = refl }
-replay_refused text waves (fault.WavesRefused line rule) is = record { fault = fault.WavesRefused line rule; refused = is; answer_is = refl }
-replay_refused text waves (fault.TooManyValues count) is = record { fault = fault.TooManyValues count; refused = is; answer_is = refl }
-replay_refused text waves fault.NoMemory is = record { fault = fault.NoMemory; refused = is; answer_is = refl }
-
--- what is known of each text and waves: they are replayed or refused, never both, and for one reason
-pub record AreJudged (text waves : List ℕ) : Type 0 where
-  pub either : CanReplayText text waves ⊎ ((f : ReplayFault) × IsReplayTextFault text waves f)
-  pub never_both : (f : ReplayFault) → CanReplayText text waves → ¬ IsReplayTextFault text waves f
-  pub one_fault : (f g : ReplayFault) → IsReplayTextFault text waves f → IsReplayTextFault text waves g → f ≡ g
-
-only_replayed : (text waves : List ℕ) → AreJudged text waves → CanReplayText text waves → IsOnly (ReplayCallsFor text waves) exit.Done
-only_replayed text waves judged can = record {
-  called = can;
-  only = λ other h. ⊎_elim (λ done. done.0) (λ r. absurd (judged.never_both r.fault can r.refused)) (replay_cases text waves other h);
-}
-
-only_refused : (text waves : List ℕ) (f : ReplayFault) → AreJudged text waves → IsReplayTextFault text waves f → IsOnly (ReplayCallsFor text waves) (answer_of f)
-only_refused text waves f judged is = record {
-  called = replay_refused text waves f is;
-  only = λ other h. ⊎_elim
-      (λ done. absurd (judged.never_both f done.1 is))
-      (λ r. r.answer_is ∙ ap answer_of (judged.one_fault r.fault f r.refused is))
-      (replay_cases text waves other h);
-}
-
-replay_answer : (text waves : List ℕ) → AreJudged text waves → (answer : Exit) × IsOnly (ReplayCallsFor text waves) answer
-replay_answer text waves judged =
-    ⊎_elim
-    (λ can. (exit.Done, only_replayed text waves judged can))
-    (λ refused. (answer_of refused.0, only_refused text waves refused.0 judged refused.1))
-    judged.either
+replay_refuses : (f : ReplayFault) → RefusesFiles (answer_of f)
+replay_refuses (fault.TextRefused byte rule) = tt
+replay_refuses fault.TooManyNets = tt
+replay_refuses (fault.WavesRefused line rule) = tt
+replay_refuses (fault.TooManyValues count) = tt
+replay_refuses fault.NoMemory = tt
 
 -- what was not replayed is refused, or memory was wanted
-pub replay_stops : (text waves : List ℕ) (f : ReplayFault) → AreJudged text waves → (f ≡ fault.NoMemory) ⊎ IsReplayTextFault text waves f → IsStop (ReplayCallsFor text waves) (answer_of f)
-replay_stops text waves fault.NoMemory judged is = inl refl
-replay_stops text waves (fault.TextRefused byte rule) judged is = ⊎_elim (λ e. (cc)) (λ r. inr (only_refused text waves (fault.TextRefused byte rule) judged r)) is
-replay_stops text waves fault.TooManyNets judged is = ⊎_elim (λ e. (cc)) (λ r. inr (only_refused text waves fault.TooManyNets judged r)) is
-replay_stops text waves (fault.WavesRefused line rule) judged is = ⊎_elim (λ e. (cc)) (λ r. inr (only_refused text waves (fault.WavesRefused line rule) judged r)) is
-replay_stops text waves (fault.TooManyValues count) judged is = ⊎_elim (λ e. (cc)) (λ r. inr (only_refused text waves (fault.TooManyValues count) judged r)) is
+pub replay_stops : (text waves : List ℕ) (f : ReplayFault) → AreJudged (CanReplayText text waves) (IsReplayTextFault text waves) → (f ≡ fault.NoMemory) ⊎ IsReplayTextFault text waves f
+    → IsStop (ReplayCallsFor text waves) (answer_of f)
+replay_stops text waves f judged is =
+    stops_for (CanReplayText text waves) (IsReplayTextFault text waves) answer_of replay_refuses f judged (⊎_elim (λ e. inl (ap answer_of e)) (λ r. inr r) is)
 
 can_replay : (text waves trace : List ℕ) → IsReplayOfText text waves trace → CanReplayText text waves
 can_replay text waves trace is = record {
@@ -165,183 +160,125 @@ can_replay text waves trace is = record {
   holds = record { rows = is.holds.rows; are_waves = is.holds.are_waves; few = is.holds.few };
 }
 
--- what was replayed calls for its result
-pub replay_done : (text waves trace : List ℕ) → AreJudged text waves → IsReplayOfText text waves trace → IsOnly (ReplayCallsFor text waves) exit.Done
-replay_done text waves trace judged is = only_replayed text waves judged (can_replay text waves trace is)
+can_dump : (text waves dump : List ℕ) → IsDumpOfText text waves dump → CanReplayText text waves
+can_dump text waves dump is = record {
+  netlist = is.netlist;
+  is_module = is.is_module;
+  is_text = is.is_text;
+  holds = record { rows = is.holds.rows; are_waves = is.holds.are_waves; few = is.holds.few };
+}
+
+-- what was replayed calls for its result, and what was dumped
+pub replay_done : (text waves trace : List ℕ) → AreJudged (CanReplayText text waves) (IsReplayTextFault text waves) → IsReplayOfText text waves trace → IsOnly (ReplayCallsFor text waves) exit.Done
+replay_done text waves trace judged is = only_done (CanReplayText text waves) (IsReplayTextFault text waves) answer_of replay_refuses judged (can_replay text waves trace is)
+
+pub dump_done : (text waves dump : List ℕ) → AreJudged (CanReplayText text waves) (IsReplayTextFault text waves) → IsDumpOfText text waves dump → IsOnly (ReplayCallsFor text waves) exit.Done
+dump_done text waves dump judged is = only_done (CanReplayText text waves) (IsReplayTextFault text waves) answer_of replay_refuses judged (can_dump text waves dump is)
+
+-- ---- a dump
+
+undump_refuses : (f : UndumpFault) → RefusesFiles (answer_of_dump f)
+undump_refuses (undump.Refused byte rule) = tt
+undump_refuses (undump.TooManyValues count) = tt
+undump_refuses undump.NoMemory = tt
+
+pub undump_stops : (dump : List ℕ) (f : UndumpFault) → AreJudged (CanUndump dump) (IsUndumpFault dump) → (f ≡ undump.NoMemory) ⊎ IsUndumpFault dump f → IsStop (UndumpCallsFor dump) (answer_of_dump f)
+undump_stops dump f judged is =
+    stops_for (CanUndump dump) (IsUndumpFault dump) answer_of_dump undump_refuses f judged (⊎_elim (λ e. inl (ap answer_of_dump e)) (λ r. inr r) is)
+
+pub undump_done : (dump text : List ℕ) → AreJudged (CanUndump dump) (IsUndumpFault dump) → IsUndumpOf dump text → IsOnly (UndumpCallsFor dump) exit.Done
+undump_done dump text judged is =
+    only_done (CanUndump dump) (IsUndumpFault dump) answer_of_dump undump_refuses judged (record { dump = is.dump; is_dump = is.is_dump; is_text = is.is_text; few = is.few })
 
 -- ---- a system and a scenario
 
--- what is called for is a simulation, or a refusal
-simulate_cases : (files : List (List ℕ)) (scenario : List ℕ) (e : Exit) → SimulateCallsFor files scenario e → ((e ≡ exit.Done) × CanSimulate files scenario) ⊎ IsSimulateRefusal files scenario e
-simulate_cases files scenario exit.Done h = inl (refl, h)
-simulate_cases files scenario exit.Usage h = inr h
-simulate_cases files scenario (exit.ReadFault file) h = inr h
-simulate_cases files scenario exit.WriteFault h = inr h
-simulate_cases files scenario (exit.ScriptRefused place rule) h = inr h
-simulate_cases files scenario (exit.LinkRefused connection rule other) h = inr h
-simulate_cases files scenario (exit.Limit which count) h = inr h
-simulate_cases files scenario (exit.VerilogRefused byte rule) h = inr h
-simulate_cases files scenario (exit.ScenarioRefused file line rule) h = inr h
-simulate_cases files scenario exit.NoMemory h = inr h
+by_words_refuses : (r : Refusal) → RefusesFiles (answer_of_simulation (simulate.SystemRefused r))
+by_words_refuses (refusal.Script place rule) = tt
+by_words_refuses (refusal.Link connection rule other) = tt
+by_words_refuses (refusal.Limit which count) = tt
+by_words_refuses refusal.NoMemory = tt
 
--- the refusal of a system, told by its words, is no result
-system_refused : (files : List (List ℕ)) (scenario : List ℕ) (r : Refusal) → IsSimulateFault files scenario (simulate.SystemRefused r) → SimulateCallsFor files scenario (answer_of_simulation (simulate.SystemRefused r))
-system_refused files scenario (refusal.Script place rule) is = record { fault = simulate.SystemRefused (refusal.Script place rule); refused = is; answer_is = refl }
-system_refused files scenario (refusal.Link connection rule other) is = record { fault = simulate.SystemRefused (refusal.Link connection rule other); refused = is; answer_is = refl }
-system_refused files scenario (refusal.Limit which count) is = record { fault = simulate.SystemRefused (refusal.Limit which count); refused = is; answer_is = refl }
-system_refused files scenario refusal.NoMemory is = absurd is
-
-simulate_refused : (files : List (List ℕ)) (scenario : List ℕ) (f : SimulateFault) → IsSimulateFault files scenario f → SimulateCallsFor files scenario (answer_of_simulation f)
-simulate_refused files scenario (simulate.SystemRefused refused) is = system_refused files scenario refused is
-simulate_refused files scenario (simulate.ScenarioRefused line rule) is = record { fault = simulate.ScenarioRefused line rule; refused = is; answer_is = refl }
-simulate_refused files scenario (simulate.TooManyValues count) is = record { fault = simulate.TooManyValues count; refused = is; answer_is = refl }
-simulate_refused files scenario simulate.NoMemory is = absurd is
-
--- what is known of each system and scenario: it is simulated or refused, never both, and for one reason
-pub record AreJudgedBoth (files : List (List ℕ)) (scenario : List ℕ) : Type 0 where
-  pub either : 1 ≤ length files → CanSimulate files scenario ⊎ ((f : SimulateFault) × IsSimulateFault files scenario f)
-  pub never_both : (f : SimulateFault) → CanSimulate files scenario → ¬ IsSimulateFault files scenario f
-  pub one_fault : (f g : SimulateFault) → IsSimulateFault files scenario f → IsSimulateFault files scenario g → f ≡ g
-
-only_simulated : (files : List (List ℕ)) (scenario : List ℕ) → AreJudgedBoth files scenario → CanSimulate files scenario → IsOnly (SimulateCallsFor files scenario) exit.Done
-only_simulated files scenario judged can = record {
-  called = can;
-  only = λ other h. ⊎_elim (λ done. done.0) (λ r. absurd (judged.never_both r.fault can r.refused)) (simulate_cases files scenario other h);
-}
-
-only_not_simulated : (files : List (List ℕ)) (scenario : List ℕ) (f : SimulateFault) → AreJudgedBoth files scenario → IsSimulateFault files scenario f
-    → IsOnly (SimulateCallsFor files scenario) (answer_of_simulation f)
-only_not_simulated files scenario f judged is = record {
-  called = simulate_refused files scenario f is;
-  only = λ other h. ⊎_elim
-      (λ done. absurd (judged.never_both f done.1 is))
-      (λ r. r.answer_is ∙ ap answer_of_simulation (judged.one_fault r.fault f r.refused is))
-      (simulate_cases files scenario other h);
-}
-
-simulate_answer : (files : List (List ℕ)) (scenario : List ℕ) → 1 ≤ length files → AreJudgedBoth files scenario → (answer : Exit) × IsOnly (SimulateCallsFor files scenario) answer
-simulate_answer files scenario some judged =
-    ⊎_elim
-    (λ can. (exit.Done, only_simulated files scenario judged can))
-    (λ refused. (answer_of_simulation refused.0, only_not_simulated files scenario refused.0 judged refused.1))
-    (judged.either some)
-
--- the answer to a system that is refused stops the run
-system_stops : (files : List (List ℕ)) (scenario : List ℕ) (r : Refusal) → IsOnly (SimulateCallsFor files scenario) (answer_of_simulation (simulate.SystemRefused r))
-    → IsStop (SimulateCallsFor files scenario) (answer_of_simulation (simulate.SystemRefused r))
-system_stops files scenario (refusal.Script place rule) is = inr is
-system_stops files scenario (refusal.Link connection rule other) is = inr is
-system_stops files scenario (refusal.Limit which count) is = inr is
-system_stops files scenario refusal.NoMemory is = inl refl
+simulate_refuses : (f : SimulateFault) → RefusesFiles (answer_of_simulation f)
+simulate_refuses (simulate.SystemRefused refused) = by_words_refuses refused
+simulate_refuses (simulate.ScenarioRefused line rule) = tt
+simulate_refuses (simulate.TooManyValues count) = tt
+simulate_refuses simulate.NoMemory = tt
 
 -- what was not prepared is refused, or memory was wanted
-pub simulate_stops : (files : List (List ℕ)) (scenario : List ℕ) (f : SimulateFault) → AreJudgedBoth files scenario → (f ≡ simulate.NoMemory) ⊎ IsSimulateFault files scenario f
-    → IsStop (SimulateCallsFor files scenario) (answer_of_simulation f)
-simulate_stops files scenario simulate.NoMemory judged is = inl refl
-simulate_stops files scenario (simulate.SystemRefused refused) judged is =
-    ⊎_elim (λ e. (cc)) (λ r. system_stops files scenario refused (only_not_simulated files scenario (simulate.SystemRefused refused) judged r)) is
-simulate_stops files scenario (simulate.ScenarioRefused line rule) judged is =
-    ⊎_elim (λ e. (cc)) (λ r. inr (only_not_simulated files scenario (simulate.ScenarioRefused line rule) judged r)) is
-simulate_stops files scenario (simulate.TooManyValues count) judged is =
-    ⊎_elim (λ e. (cc)) (λ r. inr (only_not_simulated files scenario (simulate.TooManyValues count) judged r)) is
+pub simulate_stops : (files : List (List ℕ)) (scenario : List ℕ) (f : SimulateFault) → AreJudged (CanSimulate files scenario) (IsSimulateFault files scenario)
+    → (f ≡ simulate.NoMemory) ⊎ IsSimulateFault files scenario f → IsStop (SimulateCallsFor files scenario) (answer_of_simulation f)
+simulate_stops files scenario f judged is =
+    stops_for (CanSimulate files scenario) (IsSimulateFault files scenario) answer_of_simulation simulate_refuses f judged (⊎_elim (λ e. inl (ap answer_of_simulation e)) (λ r. inr r) is)
 
 -- what was prepared calls for its trace
-pub simulate_done : (files : List (List ℕ)) (scenario : List ℕ) → AreJudgedBoth files scenario → CanSimulate files scenario → IsOnly (SimulateCallsFor files scenario) exit.Done
-simulate_done files scenario judged can = only_simulated files scenario judged can
+pub simulate_done : (files : List (List ℕ)) (scenario : List ℕ) → AreJudged (CanSimulate files scenario) (IsSimulateFault files scenario) → CanSimulate files scenario
+    → IsOnly (SimulateCallsFor files scenario) exit.Done
+simulate_done files scenario judged can = only_done (CanSimulate files scenario) (IsSimulateFault files scenario) answer_of_simulation simulate_refuses judged can
 
--- ---- a workload
+-- ---- what is done whatever else
 
-only_run : (e : Exit) → WorkloadCallsFor e → e ≡ exit.Done
-only_run exit.Done h = refl
-only_run exit.Usage h = absurd h
-only_run (exit.ReadFault file) h = absurd h
-only_run exit.WriteFault h = absurd h
-only_run (exit.ScriptRefused place rule) h = absurd h
-only_run (exit.LinkRefused connection rule other) h = absurd h
-only_run (exit.Limit which count) h = absurd h
-only_run (exit.VerilogRefused byte rule) h = absurd h
-only_run (exit.ScenarioRefused file line rule) h = absurd h
-only_run exit.NoMemory h = absurd h
+only_to_do : (e : Exit) → CallsForDone e → e ≡ exit.Done
+only_to_do exit.Done h = refl
+only_to_do exit.Usage h = absurd h
+only_to_do (exit.ReadFault file) h = absurd h
+only_to_do exit.WriteFault h = absurd h
+only_to_do (exit.ScriptRefused place rule) h = absurd h
+only_to_do (exit.LinkRefused connection rule other) h = absurd h
+only_to_do (exit.Limit which count) h = absurd h
+only_to_do (exit.VerilogRefused byte rule) h = absurd h
+only_to_do (exit.ScenarioRefused file line rule) h = absurd h
+only_to_do (exit.DumpRefused byte rule) h = absurd h
+only_to_do exit.NoMemory h = absurd h
 
--- a workload is run, and no other answer is called for
-pub workload_done : IsOnly WorkloadCallsFor exit.Done
-workload_done = record { called = tt; only = only_run }
+-- no other answer is called for
+pub is_done : IsOnly CallsForDone exit.Done
+is_done = record { called = tt; only = only_to_do }
 
 -- ---- any files of a task
 
--- what is known of all files of each task
-pub record AreJudgedFiles (files : List (List ℕ)) : Type 0 where
-  pub either : 1 ≤ length files → IsAccepted files ⊎ ((r : Refusal) × IsRefusedBy files r)
-  pub never_both : IsAccepted files → (r : Refusal) → IsRefusedBy files r → ⊥
-  pub one_refusal : (r s : Refusal) → IsRefusedBy files r → IsRefusedBy files s → r ≡ s
+-- what is known of all files
+pub record AreAllJudged (files : List (List ℕ)) : Type 0 where
+  pub system : 1 ≤ length files → AreJudged (IsAccepted files) (IsRefusedBy files)
+  pub simulated : 1 ≤ length (system_files files) → AreJudged (CanSimulate (system_files files) (scenario_in files)) (IsSimulateFault (system_files files) (scenario_in files))
+  pub replayed : AreJudged (CanReplayText (text_in files) (waves_in files)) (IsReplayTextFault (text_in files) (waves_in files))
+  pub undumped : AreJudged (CanUndump (dump_in files)) (IsUndumpFault (dump_in files))
 
 -- so many files of a simulation are a system's and a scenario
 some_system : (files : List (List ℕ)) → AreItsFiles Simulate (length files) → 1 ≤ length (system_files files)
 some_system files are = let two : 2 ≤ length files = omega (arith, are.enough, are.count) in omega (arith, system_file_count files two)
 
-pub one_answer : (task : Task) (files : List (List ℕ)) → AreJudgedFiles files → AreJudgedBoth (system_files files) (scenario_in files) → AreJudged (text_in files) (waves_in files)
-    → AreItsFiles task (length files) → (answer : Exit) × IsOnlyAnswer task files answer
-one_answer Generate files system simulated replay are = system_answer files system.never_both system.one_refusal (system.either (omega (arith, are.enough, are.count)))
-one_answer Check files system simulated replay are = system_answer files system.never_both system.one_refusal (system.either (omega (arith, are.enough, are.count)))
-one_answer Simulate files system simulated replay are = simulate_answer (system_files files) (scenario_in files) (some_system files are) simulated
-one_answer Replay files system simulated replay are = replay_answer (text_in files) (waves_in files) replay
-one_answer (Workload number) files system simulated replay are = (exit.Done, workload_done)
+system_answer : (files : List (List ℕ)) → AreJudged (IsAccepted files) (IsRefusedBy files) → (e : Exit) × IsOnly (SystemCallsFor files) e
+system_answer files judged = answer_for (IsAccepted files) (IsRefusedBy files) exit_of system_refuses judged
 
--- an answer that files can call for
-abbrev IsOfFiles : Exit → Type 0
-IsOfFiles exit.Usage = ⊥
-IsOfFiles (exit.ReadFault file) = ⊥
-IsOfFiles exit.WriteFault = ⊥
-IsOfFiles _ = Unit {0}
+replay_answer : (text waves : List ℕ) → AreJudged (CanReplayText text waves) (IsReplayTextFault text waves) → (e : Exit) × IsOnly (ReplayCallsFor text waves) e
+replay_answer text waves judged = answer_for (CanReplayText text waves) (IsReplayTextFault text waves) answer_of replay_refuses judged
 
-system_of_files : (files : List (List ℕ)) (e : Exit) → SystemCallsFor files e → IsOfFiles e
-system_of_files files exit.Done h = tt
-system_of_files files (exit.ScriptRefused place rule) h = tt
-system_of_files files (exit.LinkRefused connection rule other) h = tt
-system_of_files files (exit.Limit which count) h = tt
-system_of_files files exit.Usage h = h
-system_of_files files (exit.ReadFault file) h = h
-system_of_files files exit.WriteFault h = h
-system_of_files files (exit.VerilogRefused byte rule) h = tt
-system_of_files files (exit.ScenarioRefused file line rule) h = tt
-system_of_files files exit.NoMemory h = tt
+pub one_answer : (task : Task) (files : List (List ℕ)) → AreAllJudged files → AreItsFiles task (length files) → (answer : Exit) × IsOnlyAnswer task files answer
+one_answer Generate files judged are = system_answer files (judged.system (omega (arith, are.enough, are.count)))
+one_answer Check files judged are = system_answer files (judged.system (omega (arith, are.enough, are.count)))
+one_answer Simulate files judged are =
+    answer_for (CanSimulate (system_files files) (scenario_in files)) (IsSimulateFault (system_files files) (scenario_in files)) answer_of_simulation simulate_refuses (judged.simulated (some_system files are))
+one_answer Replay files judged are = replay_answer (text_in files) (waves_in files) judged.replayed
+one_answer Dump files judged are = replay_answer (text_in files) (waves_in files) judged.replayed
+one_answer Undump files judged are = answer_for (CanUndump (dump_in files)) (IsUndumpFault (dump_in files)) answer_of_dump undump_refuses judged.undumped
+one_answer (Workload number) files judged are = (exit.Done, is_done)
+one_answer (Module wanted) files judged are = (exit.Done, is_done)
 
-fault_of_files : (f : ReplayFault) → IsOfFiles (answer_of f)
-fault_of_files (fault.TextRefused byte rule) = tt
-fault_of_files fault.TooManyNets = tt
-fault_of_files (fault.WavesRefused line rule) = tt
-fault_of_files (fault.TooManyValues count) = tt
-fault_of_files fault.NoMemory = tt
+-- what files can call for
+of_files : (task : Task) (files : List (List ℕ)) (e : Exit) → CallsFor task files e → (e ≡ exit.Done) ⊎ RefusesFiles e
+of_files Generate files e h = of_called (IsAccepted files) (IsRefusedBy files) exit_of system_refuses e h
+of_files Check files e h = of_called (IsAccepted files) (IsRefusedBy files) exit_of system_refuses e h
+of_files Simulate files e h =
+    of_called (CanSimulate (system_files files) (scenario_in files)) (IsSimulateFault (system_files files) (scenario_in files)) answer_of_simulation simulate_refuses e h
+of_files Replay files e h = of_called (CanReplayText (text_in files) (waves_in files)) (IsReplayTextFault (text_in files) (waves_in files)) answer_of replay_refuses e h
+of_files Dump files e h = of_called (CanReplayText (text_in files) (waves_in files)) (IsReplayTextFault (text_in files) (waves_in files)) answer_of replay_refuses e h
+of_files Undump files e h = of_called (CanUndump (dump_in files)) (IsUndumpFault (dump_in files)) answer_of_dump undump_refuses e h
+of_files (Workload number) files e h = inl (only_to_do e h)
+of_files (Module wanted) files e h = inl (only_to_do e h)
 
-replay_of_files : (text waves : List ℕ) (e : Exit) → ReplayCallsFor text waves e → IsOfFiles e
-replay_of_files text waves e h =
-    ⊎_elim (λ done. subst IsOfFiles (sym done.0) tt) (λ r. subst IsOfFiles (sym r.answer_is) (fault_of_files r.fault)) (replay_cases text waves e h)
-
-refused_of_files : (r : Refusal) → IsOfFiles (answer_of_simulation (simulate.SystemRefused r))
-refused_of_files (refusal.Script place rule) = tt
-refused_of_files (refusal.Link connection rule other) = tt
-refused_of_files (refusal.Limit which count) = tt
-refused_of_files refusal.NoMemory = tt
-
-simulate_fault_of_files : (f : SimulateFault) → IsOfFiles (answer_of_simulation f)
-simulate_fault_of_files (simulate.SystemRefused refused) = refused_of_files refused
-simulate_fault_of_files (simulate.ScenarioRefused line rule) = tt
-simulate_fault_of_files (simulate.TooManyValues count) = tt
-simulate_fault_of_files simulate.NoMemory = tt
-
-simulate_of_files : (files : List (List ℕ)) (scenario : List ℕ) (e : Exit) → SimulateCallsFor files scenario e → IsOfFiles e
-simulate_of_files files scenario e h =
-    ⊎_elim (λ done. subst IsOfFiles (sym done.0) tt) (λ r. subst IsOfFiles (sym r.answer_is) (simulate_fault_of_files r.fault)) (simulate_cases files scenario e h)
-
-workload_of_files : (e : Exit) → WorkloadCallsFor e → IsOfFiles e
-workload_of_files e h = subst IsOfFiles (sym (only_run e h)) tt
-
-of_files : (task : Task) (files : List (List ℕ)) (e : Exit) → CallsFor task files e → IsOfFiles e
-of_files Generate files e h = system_of_files files e h
-of_files Check files e h = system_of_files files e h
-of_files Simulate files e h = simulate_of_files (system_files files) (scenario_in files) e h
-of_files Replay files e h = replay_of_files (text_in files) (waves_in files) e h
-of_files (Workload number) files e h = workload_of_files e h
+-- so these answers aren't called for
+never_called : (task : Task) (files : List (List ℕ)) (e : Exit) → (e ≡ exit.Done → ⊥) → (RefusesFiles e → ⊥) → CallsFor task files e → ⊥
+never_called task files e other no h = ⊎_elim (λ done. other done) (λ r. no r) (of_files task files e h)
 
 -- ---- from files to words
 
@@ -353,11 +290,12 @@ files_stop words reads task files (exit.LinkRefused connection rule other) asks 
 files_stop words reads task files (exit.Limit which count) asks are s = ⊎_elim (λ e. (cc)) (λ is. (task, asks, inr (inr record { files = files; are_files = are; only = is }))) s
 files_stop words reads task files exit.NoMemory asks are s = (task, asks, are.few)
 files_stop words reads task files exit.Done asks are s = absurd s
-files_stop words reads task files exit.Usage asks are s = ⊎_elim (λ e. (cc)) (λ is. absurd (of_files task files exit.Usage is.called)) s
-files_stop words reads task files (exit.ReadFault file) asks are s = ⊎_elim (λ e. (cc)) (λ is. absurd (of_files task files (exit.ReadFault file) is.called)) s
-files_stop words reads task files exit.WriteFault asks are s = ⊎_elim (λ e. (cc)) (λ is. absurd (of_files task files exit.WriteFault is.called)) s
+files_stop words reads task files exit.Usage asks are s = ⊎_elim (λ e. (cc)) (λ is. absurd (never_called task files exit.Usage (λ d. (cc)) (λ r. r) is.called)) s
+files_stop words reads task files (exit.ReadFault file) asks are s = ⊎_elim (λ e. (cc)) (λ is. absurd (never_called task files (exit.ReadFault file) (λ d. (cc)) (λ r. r) is.called)) s
+files_stop words reads task files exit.WriteFault asks are s = ⊎_elim (λ e. (cc)) (λ is. absurd (never_called task files exit.WriteFault (λ d. (cc)) (λ r. r) is.called)) s
 files_stop words reads task files (exit.VerilogRefused byte rule) asks are s = ⊎_elim (λ e. (cc)) (λ is. (task, asks, record { files = files; are_files = are; only = is })) s
 files_stop words reads task files (exit.ScenarioRefused file line rule) asks are s = ⊎_elim (λ e. (cc)) (λ is. (task, asks, record { files = files; are_files = are; only = is })) s
+files_stop words reads task files (exit.DumpRefused byte rule) asks are s = ⊎_elim (λ e. (cc)) (λ is. (task, asks, record { files = files; are_files = are; only = is })) s
 
 -- what stops a file, behind others that were loaded, stops the loading of all
 pub stops_at : (task : Task) (words file : ℕ) (earlier : List (List ℕ)) (here reads : Reads) (e : Exit) → AreLoaded task reads.told earlier → length earlier + 1 ≡ file → file < words → words ≤ 65
@@ -389,6 +327,7 @@ stops_at task words file earlier here reads (exit.ScriptRefused place rule) load
 stops_at task words file earlier here reads (exit.LinkRefused connection rule other) loaded count inside few told less after failed s = absurd s
 stops_at task words file earlier here reads (exit.VerilogRefused byte rule) loaded count inside few told less after failed s = absurd s
 stops_at task words file earlier here reads (exit.ScenarioRefused at line rule) loaded count inside few told less after failed s = absurd s
+stops_at task words file earlier here reads (exit.DumpRefused byte rule) loaded count inside few told less after failed s = absurd s
 
 -- what stops the loading of the files stops the run of the words that name them
 stops_here : (words : List (List ℕ)) (reads : Reads) (task : Task) (e : Exit) → AsksFor words task → file_words task (length words) ≤ 65
@@ -403,6 +342,7 @@ stops_here words reads task (exit.ScriptRefused place rule) asks few s = absurd 
 stops_here words reads task (exit.LinkRefused connection rule other) asks few s = absurd s
 stops_here words reads task (exit.VerilogRefused byte rule) asks few s = absurd s
 stops_here words reads task (exit.ScenarioRefused file line rule) asks few s = absurd s
+stops_here words reads task (exit.DumpRefused byte rule) asks few s = absurd s
 
 pub loading_stops : {X : Type 0} (f : X → List ℕ) (words : List X) (reads : Reads) (task : Task) (named : ℕ) (e : Exit) → AsksFor (map f words) task → named ≡ file_words task (length words)
     → named ≤ 65 → StopsLoading task named reads e → Stops (map f words) reads e
@@ -438,7 +378,10 @@ few_file_words Generate words few = few
 few_file_words Check words few = few
 few_file_words Simulate words few = few
 few_file_words Replay words few = few
+few_file_words Dump words few = few
+few_file_words Undump words few = few
 few_file_words (Workload number) words few = omega arith
+few_file_words (Module wanted) words few = omega arith
 
 not_many : (words : List (List ℕ)) (reads : Reads) (writes : Writes) (asked task : Task) (files : List (List ℕ)) (which count : ℕ)
     → IsFilesLimit which count (file_words asked (length words)) → NothingFails task files words reads writes → ⊥
@@ -462,6 +405,7 @@ completes words reads writes (exit.ScriptRefused place rule) s task files well =
 completes words reads writes (exit.LinkRefused connection rule other) s task files well = inr (called_for words reads writes (exit.LinkRefused connection rule other) s.0 task files s.1 s.2 well)
 completes words reads writes (exit.VerilogRefused byte rule) s task files well = inr (called_for words reads writes (exit.VerilogRefused byte rule) s.0 task files s.1 s.2 well)
 completes words reads writes (exit.ScenarioRefused file line rule) s task files well = inr (called_for words reads writes (exit.ScenarioRefused file line rule) s.0 task files s.1 s.2 well)
+completes words reads writes (exit.DumpRefused byte rule) s task files well = inr (called_for words reads writes (exit.DumpRefused byte rule) s.0 task files s.1 s.2 well)
 completes words reads writes (exit.Limit which count) s task files well =
     ⊎_elim
     (λ many. absurd (not_many words reads writes s.0 task files which count many well))

@@ -3,10 +3,10 @@ use Rattle.std.proofs.Common.{◌≡◌, ℕ, zero, suc, ◌+◌, ◌^◌, ◌<�
 use Rattle.std.specs.Prelude.{All}
 use Rattle.std.proofs.lemmas.Option.{slice_get-get_or}
 use Rattle.av_files.specs.Outside.{WhereTold}
-use Rattle.avalon_top.specs.declared.words.Task.{Task}
-use Rattle.avalon_top.specs.declared.words.Task.TheVariants.{Generate, Check, Simulate, Replay, Workload}
+use Rattle.task_words.specs.declared.Task.{Task}
+use Rattle.task_words.specs.declared.Task.TheVariants.{Generate, Check, Simulate, Replay, Dump, Undump, Workload, Module}
 use Rattle.avalon_top.specs.Simulate.{system_files, scenario_in}
-use Rattle.avalon_top.specs.Run.{most_bytes, text_in, waves_in, AreShort, AreLoaded, AreFiles}
+use Rattle.avalon_top.specs.Run.{most_bytes, text_in, waves_in, dump_in, AreShort, AreLoaded, AreFiles}
 
 newly : {X : Type 0} (xs : List X) (y z : X) (n : ℕ) → slice_get (xs ++ y ∷ []) n ≡ Some z → (slice_get xs n ≡ Some z) ⊎ ((n ≡ length xs) × (y ≡ z))
 newly [] y z zero e = inr (refl, (cc))
@@ -73,7 +73,10 @@ few_bytes Generate file = omega arith
 few_bytes Check file = omega arith
 few_bytes Simulate file = omega arith
 few_bytes Replay file = few_of_either (file == 1)
+few_bytes Dump file = few_of_either (file == 1)
+few_bytes Undump file = omega arith
 few_bytes (Workload number) file = omega arith
+few_bytes (Module wanted) file = omega arith
 
 -- files that are no longer than is read have fewer bytes than 2^31
 pub fewer_bytes : (task : Task) (files : List (List ℕ)) → AreShort task files → All (λ bytes. length bytes < 2 ^ 31) files
@@ -90,6 +93,11 @@ pub second_of_two : (files : List (List ℕ)) (other : List ℕ) → length file
 second_of_two [] other two = absurd (omega arith)
 second_of_two (text ∷ []) other two = absurd (omega arith)
 second_of_two (text ∷ waves ∷ rest) other two = refl
+
+-- a dump is one file
+pub one_of_one : (files : List (List ℕ)) (other : List ℕ) → length files ≡ 1 → get_or files 0 other ≡ dump_in files
+one_of_one [] other one = absurd (omega arith)
+one_of_one (dump ∷ rest) other one = refl
 
 -- the files of a simulation are two or more
 pub scenario_is : (files : List (List ℕ)) (other : List ℕ) → 2 ≤ length files → get_or files 1 other ≡ scenario_in files

@@ -1,4 +1,3 @@
-pub mod WordsLemmas
 pub mod FileLemmas
 pub mod AnswerLemmas
 pub mod OutcomeLemmas

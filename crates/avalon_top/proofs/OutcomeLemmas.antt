@@ -5,8 +5,8 @@ use Rattle.simulations.specs.Traces.{IsTrace}
 use Rattle.answer_lines.specs.declared.exit.Exit.{Exit}
 use Rattle.answer_lines.specs.declared.exit.Exit.TheVariants as exit
 use Rattle.answer_lines.specs.Lines.{line_of}
-use Rattle.avalon_top.specs.declared.words.Task.{Task}
-use Rattle.avalon_top.specs.declared.words.Task.TheVariants.{Simulate}
+use Rattle.task_words.specs.declared.Task.{Task}
+use Rattle.task_words.specs.declared.Task.TheVariants.{Simulate}
 use Rattle.avalon_top.specs.declared.outcome.Outcome.{Outcome}
 use Rattle.avalon_top.specs.declared.outcome.Outcome.TheVariants.{Text, Trace}
 use Rattle.avalon_top.specs.Run.{Reads, Writes, IsResult, IsOnlyAnswer, Answers, IsRefusal, WritesLine, IsComplete}
@@ -84,6 +84,7 @@ ended words reads writes outcome (exit.LinkRefused connection rule other) is h =
 ended words reads writes outcome (exit.Limit which count) is h = absurd h
 ended words reads writes outcome (exit.VerilogRefused byte rule) is h = absurd h
 ended words reads writes outcome (exit.ScenarioRefused file line rule) is h = absurd h
+ended words reads writes outcome (exit.DumpRefused byte rule) is h = absurd h
 
 -- with its line, where it has one
 pub ended_line : (writes : Writes) (outcome : Outcome) (e : Exit) → Ends outcome writes e → IsRefusal e → WritesLine (line_of e) writes
@@ -97,6 +98,7 @@ ended_line writes outcome (exit.LinkRefused connection rule other) ends refused 
 ended_line writes outcome (exit.Limit which count) ends refused = absurd ends
 ended_line writes outcome (exit.VerilogRefused byte rule) ends refused = absurd ends
 ended_line writes outcome (exit.ScenarioRefused file line rule) ends refused = absurd ends
+ended_line writes outcome (exit.DumpRefused byte rule) ends refused = absurd ends
 
 -- and it is the one that the files call for, where nothing fails
 pub ended_well : (words : List (List ℕ)) (reads : Reads) (writes : Writes) (outcome : Outcome) (e : Exit) → IsOutcomeOf words reads outcome → Ends outcome writes e → IsComplete words reads writes e
@@ -111,3 +113,4 @@ ended_well words reads writes outcome (exit.LinkRefused connection rule other) i
 ended_well words reads writes outcome (exit.Limit which count) is h task files well = absurd h
 ended_well words reads writes outcome (exit.VerilogRefused byte rule) is h task files well = absurd h
 ended_well words reads writes outcome (exit.ScenarioRefused file line rule) is h task files well = absurd h
+ended_well words reads writes outcome (exit.DumpRefused byte rule) is h task files well = absurd h

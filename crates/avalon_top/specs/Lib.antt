@@ -1,6 +1,6 @@
-pub mod Words
 pub mod Simulate
-pub mod Workload
+pub mod Done
+pub mod Refused
 pub mod Run
 pub mod Loading
 pub mod Outcome

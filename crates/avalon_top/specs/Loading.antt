@@ -3,8 +3,8 @@ use Rattle.std.specs.Prelude.{◌≡◌, ℕ, ◌+◌, ◌<◌, ◌⊎◌, List,
 use Rattle.av_files.specs.Outside.{Rose, WhereTold}
 use Rattle.answer_lines.specs.declared.exit.Exit.{Exit}
 use Rattle.answer_lines.specs.declared.exit.Exit.TheVariants as exit
-use Rattle.avalon_top.specs.declared.words.Task.{Task}
-use Rattle.avalon_top.specs.Words.{AsksFor, AsksForNothing, file_words}
+use Rattle.task_words.specs.declared.Task.{Task}
+use Rattle.task_words.specs.Words.{AsksFor, AsksForNothing, file_words}
 use Rattle.avalon_top.specs.Run.{Reads, most_bytes, IsReadFault, IsBytesLimit, CallsFor, IsOnly, StopsTask}
 
 -- one file was not loaded

@@ -10,11 +10,11 @@ use Rattle.scenario_runs.specs.Prepared.{IsPrepared}
 use Rattle.answer_lines.specs.declared.exit.Exit.{Exit}
 use Rattle.answer_lines.specs.declared.exit.Exit.TheVariants as exit
 use Rattle.answer_lines.specs.Lines.{line_of}
-use Rattle.avalon_top.specs.declared.words.Task.{Task}
-use Rattle.avalon_top.specs.declared.words.Task.TheVariants.{Simulate}
+use Rattle.task_words.specs.declared.Task.{Task}
+use Rattle.task_words.specs.declared.Task.TheVariants.{Simulate}
 use Rattle.avalon_top.specs.declared.outcome.Outcome.{Outcome}
 use Rattle.avalon_top.specs.declared.outcome.Outcome.TheVariants.{Text, Trace}
-use Rattle.avalon_top.specs.Words.{AsksFor, file_words}
+use Rattle.task_words.specs.Words.{AsksFor, file_words}
 use Rattle.avalon_top.specs.Simulate.{system_files, scenario_in}
 use Rattle.avalon_top.specs.Run.{Reads, Writes, AreFiles, IsResult, IsOnlyAnswer, WritesLine}
 

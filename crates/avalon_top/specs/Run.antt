@@ -2,7 +2,6 @@
 use Rattle.std.specs.Prelude.{◌≡◌, ℕ, ◌+◌, ◌<◌, ◌≤◌, ◌⊎◌, List, length, take, slice_get, slice_index_or, ◌==◌, if◌then◌else◌, [], Option, Some}
 use Rattle.av_files.specs.Outside.{Rose, with_more, WhereTold}
 use Rattle.link_rules.specs.Plans.{PlanTable}
-use Rattle.system_plan.specs.declared.faults.Refusal.TheVariants as refusal
 use Rattle.system_plan.specs.Plans.{IsPlanned, IsAccepted, IsRefusedBy}
 use Rattle.map_text.specs.Text.{map_text}
 use Rattle.interconnect.specs.Interconnect.{IsInterconnect}
@@ -12,26 +11,31 @@ use Rattle.waves.specs.Rules.{number_of}
 use Rattle.replays.specs.declared.faults.ReplayFault.{ReplayFault}
 use Rattle.replays.specs.declared.faults.ReplayFault.TheVariants as fault
 use Rattle.replays.specs.Texts.{CanReplayText, IsReplayOfText, IsReplayTextFault}
+use Rattle.replay_dumps.specs.Dumps.{IsDumpOfText}
+use Rattle.vcd_reader.specs.Rules.{number_of as rule_number}
+use Rattle.undumps.specs.declared.UndumpFault.{UndumpFault}
+use Rattle.undumps.specs.declared.UndumpFault.TheVariants as undump
+use Rattle.undumps.specs.Undumps.{CanUndump, IsUndumpOf, IsUndumpFault}
+use Rattle.routed_modules.specs.declared.routed.Routed.{Routed}
+use Rattle.routed_modules.specs.Routed.{IsRoutedModule}
 use Rattle.scenario_runs.specs.Prepared.{IsTraceOf}
 use Rattle.scenario_runs.specs.Workloads.{IsWorkloadText}
 use Rattle.answer_lines.specs.declared.exit.StepRule.TheVariants.{Waves}
 use Rattle.answer_lines.specs.declared.exit.Exit.{Exit}
 use Rattle.answer_lines.specs.declared.exit.Exit.TheVariants as exit
-use Rattle.avalon_top.specs.declared.words.Task.{Task}
-use Rattle.avalon_top.specs.declared.words.Task.TheVariants.{Generate, Check, Simulate, Replay, Workload}
-use Rattle.avalon_top.specs.Words.{AsksFor, AsksForNothing, file_words}
+use Rattle.answer_lines.specs.Lines.{exit_of}
+use Rattle.task_words.specs.declared.Task.{Task}
+use Rattle.task_words.specs.declared.Task.TheVariants.{Generate, Check, Simulate, Replay, Dump, Undump, Workload, Module}
+use Rattle.task_words.specs.Words.{AsksFor, AsksForNothing, file_words}
 use Rattle.avalon_top.specs.Simulate.{system_files, scenario_in, SimulateCallsFor}
-use Rattle.avalon_top.specs.Workload.{WorkloadCallsFor}
+use Rattle.avalon_top.specs.Done.{CallsForDone}
+use Rattle.avalon_top.specs.Refused.{DoneOrRefused}
 
 -- ---- what files call for
 
 -- the answer that the files of a system call for, where nothing fails, whether its text or its maps are asked for
 abbrev pub SystemCallsFor : List (List ℕ) → Exit → Type 0
-SystemCallsFor files exit.Done = IsAccepted files
-SystemCallsFor files (exit.ScriptRefused place rule) = IsRefusedBy files (refusal.Script place rule)
-SystemCallsFor files (exit.LinkRefused connection rule other) = IsRefusedBy files (refusal.Link connection rule other)
-SystemCallsFor files (exit.Limit which count) = IsRefusedBy files (refusal.Limit which count)
-SystemCallsFor files _ = ⊥
+SystemCallsFor files = DoneOrRefused (IsAccepted files) (IsRefusedBy files) exit_of
 
 -- the files of a replay
 abbrev pub text_in : List (List ℕ) → List ℕ
@@ -48,24 +52,34 @@ answer_of (fault.WavesRefused line rule) = exit.ScenarioRefused 2 line (Waves (n
 answer_of (fault.TooManyValues count) = exit.Limit 6 count
 answer_of fault.NoMemory = exit.NoMemory
 
--- the answer to what refuses the waves, or their text
-pub record IsReplayRefusal (text waves : List ℕ) (answer : Exit) : Type 0 where
-  pub fault : ReplayFault
-  pub refused : IsReplayTextFault text waves fault
-  pub answer_is : answer ≡ answer_of fault
-
 -- the answer that a text and waves call for, where nothing fails
 abbrev pub ReplayCallsFor : List ℕ → List ℕ → Exit → Type 0
-ReplayCallsFor text waves exit.Done = CanReplayText text waves
-ReplayCallsFor text waves answer = IsReplayRefusal text waves answer
+ReplayCallsFor text waves = DoneOrRefused (CanReplayText text waves) (IsReplayTextFault text waves) answer_of
+
+-- the file of a dump
+abbrev pub dump_in : List (List ℕ) → List ℕ
+dump_in files = slice_index_or files 0 []
+
+-- the answer to a dump that is refused: L6 is passed by so many values of ports
+abbrev pub answer_of_dump : UndumpFault → Exit
+answer_of_dump (undump.Refused byte rule) = exit.DumpRefused byte (rule_number rule)
+answer_of_dump (undump.TooManyValues count) = exit.Limit 6 count
+answer_of_dump undump.NoMemory = exit.NoMemory
+
+-- the answer that a dump calls for, where nothing fails
+abbrev pub UndumpCallsFor : List ℕ → Exit → Type 0
+UndumpCallsFor dump = DoneOrRefused (CanUndump dump) (IsUndumpFault dump) answer_of_dump
 
 -- the answer that the files of a task call for, where nothing fails
 abbrev pub CallsFor : Task → List (List ℕ) → Exit → Type 0
 CallsFor Generate files = SystemCallsFor files
 CallsFor Check files = SystemCallsFor files
 CallsFor Simulate files = SimulateCallsFor (system_files files) (scenario_in files)
-CallsFor (Workload number) files = WorkloadCallsFor
 CallsFor Replay files = ReplayCallsFor (text_in files) (waves_in files)
+CallsFor Dump files = ReplayCallsFor (text_in files) (waves_in files)
+CallsFor Undump files = UndumpCallsFor (dump_in files)
+CallsFor (Workload number) files = CallsForDone
+CallsFor (Module wanted) files = CallsForDone
 
 -- this answer is called for, and no other
 pub record IsOnly (IsCalled : Exit → Type 0) (answer : Exit) : Type 0 where
@@ -86,6 +100,10 @@ pub record IsOnlyTextOf (netlist : Netlist) (text : List ℕ) : Type 0 where
 abbrev pub IsInterconnectText : PlanTable → List ℕ → Type 0
 IsInterconnectText plan text = (netlist : Netlist) × IsInterconnect plan netlist × IsOnlyTextOf netlist text
 
+-- the text of a module that leads beats by their channels
+abbrev pub IsModuleText : Routed → List ℕ → Type 0
+IsModuleText wanted text = (netlist : Netlist) × IsRoutedModule wanted netlist × IsOnlyTextOf netlist text
+
 -- the text of its maps
 abbrev pub IsMapText : PlanTable → List ℕ → Type 0
 IsMapText plan text = text ≡ map_text plan
@@ -101,8 +119,11 @@ abbrev pub IsTextOf : Task → List (List ℕ) → List ℕ → Type 0
 IsTextOf Generate files text = StatePlan files (λ plan. IsInterconnectText plan text)
 IsTextOf Check files text = StatePlan files (λ plan. IsMapText plan text)
 IsTextOf Simulate files text = IsTraceOf (system_files files) (scenario_in files) text
-IsTextOf (Workload number) files text = IsWorkloadText number text
 IsTextOf Replay files text = IsReplayOfText (text_in files) (waves_in files) text
+IsTextOf Dump files text = IsDumpOfText (text_in files) (waves_in files) text
+IsTextOf Undump files text = IsUndumpOf (dump_in files) text
+IsTextOf (Workload number) files text = IsWorkloadText number text
+IsTextOf (Module wanted) files text = IsModuleText wanted text
 
 -- it is what the files call for
 pub record IsResult (task : Task) (files : List (List ℕ)) (text : List ℕ) : Type 0 where
@@ -132,13 +153,16 @@ reads_by told faults failed old new = record { told = told old; before = faults 
 abbrev pub writes_by : {A : Type 0} → (A → Option (List ℕ)) → (A → ℕ) → A → A → Writes
 writes_by held faults old new = record { held = held old; holds = held new; before = faults old; after = faults new }
 
--- the most bytes that are read of this file of a task: 2^28 of a Verilog text, and 2^20 of any other
+-- the most bytes that are read of this file of a task: 2^28 of a Verilog text, 2^24 of a dump, and 2^20 of any other
 abbrev pub most_bytes : Task → ℕ → ℕ
 most_bytes Generate file = 1048576
 most_bytes Check file = 1048576
 most_bytes Simulate file = 1048576
-most_bytes (Workload number) file = 1048576
 most_bytes Replay file = if file == 1 then 268435456 else 1048576
+most_bytes Dump file = if file == 1 then 268435456 else 1048576
+most_bytes Undump file = 16777216
+most_bytes (Workload number) file = 1048576
+most_bytes (Module wanted) file = 1048576
 
 -- no file of a task is longer than is read
 abbrev pub AreShort : Task → List (List ℕ) → Type 0

@@ -1,5 +1,5 @@
 -- What the files of a simulation call for.
-use Rattle.std.specs.Prelude.{◌≡◌, ℕ, ◌+◌, ◌-◌, ◌^◌, min, nat_lt, if◌then◌else◌, List, [], slice_index_or}
+use Rattle.std.specs.Prelude.{ℕ, ◌+◌, ◌-◌, ◌^◌, min, nat_lt, if◌then◌else◌, List, [], slice_index_or}
 use Rattle.std.specs.List.{remove}
 use Rattle.system_plan.specs.declared.faults.Refusal.{Refusal}
 use Rattle.system_plan.specs.declared.faults.Refusal.TheVariants as refusal
@@ -11,6 +11,7 @@ use Rattle.answer_lines.specs.declared.exit.StepRule.TheVariants.{Scenario}
 use Rattle.answer_lines.specs.declared.exit.Exit.{Exit}
 use Rattle.answer_lines.specs.declared.exit.Exit.TheVariants as exit
 use Rattle.answer_lines.specs.Lines.{exit_of}
+use Rattle.avalon_top.specs.Refused.{DoneOrRefused}
 
 -- the files of a simulation: all but the second are those of a system, and the second is the scenario
 abbrev pub system_files : List (List ℕ) → List (List ℕ)
@@ -37,13 +38,6 @@ answer_of_simulation (fault.ScenarioRefused line rule) = exit.ScenarioRefused 2 
 answer_of_simulation (fault.TooManyValues count) = exit.Limit 6 count
 answer_of_simulation fault.NoMemory = exit.NoMemory
 
--- the answer to what refuses the system, or the scenario for it
-pub record IsSimulateRefusal (files : List (List ℕ)) (scenario : List ℕ) (answer : Exit) : Type 0 where
-  pub fault : SimulateFault
-  pub refused : IsSimulateFault files scenario fault
-  pub answer_is : answer ≡ answer_of_simulation fault
-
 -- the answer that the files of a system and a scenario call for, where nothing fails
 abbrev pub SimulateCallsFor : List (List ℕ) → List ℕ → Exit → Type 0
-SimulateCallsFor files scenario exit.Done = CanSimulate files scenario
-SimulateCallsFor files scenario answer = IsSimulateRefusal files scenario answer
+SimulateCallsFor files scenario = DoneOrRefused (CanSimulate files scenario) (IsSimulateFault files scenario) answer_of_simulation

@@ -1,29 +1,30 @@
 ghost use Rattle.std.specs.Prelude.{◌≡◌, ℕ, ◌^◌, ◌<◌, ◌≤◌, [], ◌∷◌, ◌++◌, length, map, string_bytes, All, OnOk, IfOk, IfErr};
 ghost use Rattle.av_files.specs.Outside.{WhereTold};
 ghost use Rattle.answer_lines.specs.Lines.{line_of};
-ghost use Rattle.avalon_top.specs.Words.{AreItsFiles};
-ghost use Rattle.avalon_top.specs.Run.{reads_by, writes_by, Reads, Writes, most_bytes, AreFiles, Answers, IsComplete, IsRefusal, WritesLine, IsResult, IsInterconnectText, answer_of};
+ghost use Rattle.task_words.specs.Words.{AreItsFiles};
+ghost use Rattle.avalon_top.specs.Run.{reads_by, writes_by, Reads, Writes, most_bytes, AreFiles, Answers, IsComplete, IsRefusal, WritesLine, IsResult, answer_of};
 ghost use Rattle.avalon_top.specs.Loading.{StopsAtFile, StopsFiles, StopsLoading, Stops};
 ghost use Rattle.avalon_top.specs.Outcome.{IsOutcome, IsOutcomeOf};
 
+use crate::dumped::{dump_files, undump_file};
+use crate::made::{interconnect_text, module_text};
 use crate::outcome::{Outcome, refuse, write_outcome};
 use crate::simulate::simulation;
-use crate::words::{Task, file_words, read_words};
 use answer_lines::{Exit, StepRule};
 use av_base::{Bytes, NoMemory};
 use av_files::{LoadFault, Shelf, Sink, load_all};
-use interconnect::build;
-use link_rules::Plan;
 use map_text::map_text;
 use replays::{ReplayFault, replay, texts_are_replayed_or_refused};
 use scenario_runs::workload_text;
 use std::alloc::Global;
-use system_plan::plan_of;
-use verilog_reader::no_two_modules;
-use verilog_writer::write_module;
+use system_plan::{accepted_or_refused, plan_of};
+use task_words::{Task, file_words, read_words};
 
 /// The most bytes of a Verilog text.
 const TEXT_LIMIT: u64 = 268_435_456;
+
+/// The most bytes of a value change dump.
+const DUMP_LIMIT: u64 = 16_777_216;
 
 /// The most bytes of a script, and of waves.
 const FILE_LIMIT: u64 = 1_048_576;
@@ -40,7 +41,8 @@ fn most_bytes(task: Task, file: u32) -> u64
     ensures small { result ≤ 268435456 }
 {
     match task {
-        Task::Replay if file == 1 => TEXT_LIMIT,
+        Task::Replay | Task::Dump if file == 1 => TEXT_LIMIT,
+        Task::Undump => DUMP_LIMIT,
         _ => FILE_LIMIT,
     }
 }
@@ -95,16 +97,6 @@ fn load_files<S: Shelf>(
     Ok(files)
 }
 
-/// The Verilog text of the interconnect of a plan, which is that of no other module.
-fn interconnect_text(alloc: Global, plan: &Plan) -> Result<Bytes, NoMemory>
-    ensures { IfOk result (IsInterconnectText plan.now) }
-{
-    no_two_modules();
-    let built = build(alloc, plan)?;
-    built.module.well_made();
-    write_module(alloc, &built.module)
-}
-
 /// The text of the interconnect of the system that files state, or the answer that they call for.
 fn generate(alloc: Global, files: &[Bytes]) -> Result<Bytes, Exit>
     requires some { 1 ≤ length files.now }
@@ -113,6 +105,7 @@ fn generate(alloc: Global, files: &[Bytes]) -> Result<Bytes, Exit>
     ensures stops { IfErr result (StopsFiles Task.Generate files.now) }
     ensures result { IfOk result (IsResult Task.Generate files.now) }
 {
+    accepted_or_refused();
     let plan = plan_of(alloc, files)?;
     Ok(interconnect_text(alloc, &plan)?)
 }
@@ -125,12 +118,13 @@ fn check(alloc: Global, files: &[Bytes]) -> Result<Bytes, Exit>
     ensures stops { IfErr result (StopsFiles Task.Check files.now) }
     ensures result { IfOk result (IsResult Task.Check files.now) }
 {
+    accepted_or_refused();
     let plan = plan_of(alloc, files)?;
     Ok(map_text(alloc, &plan)?)
 }
 
 /// The answer to a replay that is refused.
-fn answer_of(fault: ReplayFault) -> Exit
+pub(crate) fn answer_of(fault: ReplayFault) -> Exit
     ensures { result ≡ answer_of fault }
 {
     match fault {
@@ -183,7 +177,10 @@ fn outcome_of(alloc: Global, task: Task, files: Vec<Bytes>) -> Result<Outcome, E
         Task::Generate => generate(alloc, files.as_slice())?,
         Task::Check => check(alloc, files.as_slice())?,
         Task::Replay => replay_files(alloc, files.as_slice())?,
+        Task::Dump => dump_files(alloc, files.as_slice())?,
+        Task::Undump => undump_file(alloc, files.as_slice())?,
         Task::Workload { number } => workload(alloc, number)?,
+        Task::Module { wanted } => module_text(alloc, wanted)?,
     };
     Ok(Outcome::Text(text))
 }
@@ -217,8 +214,10 @@ fn decide<S: Shelf>(alloc: Global, words: &[String], shelf: &mut S) -> Result<Ou
 pub fn run<S: Shelf, K: Sink>(alloc: Global, words: &[String], shelf: &mut S, sink: &mut K) -> Exit
     // When each answer comes. At `Done` of `generate` the text of a module, and of no other, is written that serves each stream of
     // the plan, and its hosts and agents, in every run. At `Done` of `replay` what is written stands at the outputs of the module of
-    // the text, in each cycle of the waves. At `Done` of `simulate` it is the trace of a run of such a module with what the scenario
-    // states; at `Done` of `workload` it tells what is counted in such a run of the workload system of the number.
+    // the text, in each cycle of the waves, and at `Done` of `dump` it is the dump of what stands at all of its ports. At `Done` of
+    // `undump` it is the rows of the one dump whose text the file is. At `Done` of `simulate` it is the trace of a run of such a
+    // module with what the scenario states; at `Done` of `workload` it tells what is counted in such a run of the workload system of
+    // the number. At `Done` of `demux` the text of a module is written that leads beats by their channels, in every run.
     ensures answers { Answers (map string_bytes words.now)
         (record { told = S.told shelf.old; before = S.faults shelf.old; after = S.faults shelf.new; failed = S.failed shelf.new })
         (record { held = K.held sink.old; holds = K.held sink.new; before = K.faults sink.old; after = K.faults sink.new }) result }

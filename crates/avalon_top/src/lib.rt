@@ -2,16 +2,18 @@
 #![tactic(auto)]
 
 mod answer;
+mod dumped;
 mod laws;
+mod made;
 mod outcome;
 mod process;
 mod simulate;
-mod words;
 
 pub use answer::run;
-pub use answer_lines::{Exit, Line, StepRule};
+pub use answer_lines::{Exit, StepRule};
+pub use byte_lines::Line;
 pub use laws::files_call_for_one_answer;
 pub use link_rules::LinkRule;
 pub use process::status_of_process;
 pub use script_words::ScriptRule;
-pub use words::{Task, read_words};
+pub use task_words::{Task, read_words};

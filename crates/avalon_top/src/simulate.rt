@@ -1,7 +1,7 @@
 //! From the files of a simulation to one that is ready to run.
 
 ghost use Rattle.std.specs.Prelude.{◌≡◌, ◌^◌, ◌<◌, ◌≤◌, All, length, IfOk, IfErr};
-ghost use Rattle.avalon_top.specs.declared.words.Task.TheVariants.{Simulate};
+ghost use Rattle.task_words.specs.declared.Task.TheVariants.{Simulate};
 ghost use Rattle.avalon_top.specs.Simulate.{word_of_file, by_words, answer_of_simulation};
 ghost use Rattle.avalon_top.specs.Loading.{StopsFiles};
 ghost use Rattle.avalon_top.specs.Outcome.{IsSimulation};

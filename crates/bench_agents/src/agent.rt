@@ -12,7 +12,7 @@ ghost use Rattle.bench_agents.specs.Agents.{commanded, levels_with, gives_at_onc
 use crate::commands::{address_at, all_lanes, is_high, nibble_at, short_at};
 use agent_ends::{AgentLevels, AgentPlaces, AgentPorts};
 use agent_stand_ins::AgentStandIn;
-use answer_lines::Line;
+use byte_lines::Line;
 use av_base::Val;
 use av_files::{Sink, put_all};
 use bench_parts::{Component, level_at};

@@ -5,7 +5,7 @@ ghost use Rattle.std.specs.Prelude.{◌≡◌, ◌≢◌, ◌↔◌, ℕ, ◌^�
 ghost use Rattle.routed_modules.specs.declared.routed.Routed.{Routed as Wanted};
 ghost use Rattle.routed_words.specs.Asking.{IsModuleWord, AreWordsOf, AsksForModule, IsSpelled, AreSpelled};
 
-use answer_lines::Line;
+use byte_lines::Line;
 use routed_modules::Routed;
 
 /// The number that a word spells in decimal, without a sign or leading zeros.

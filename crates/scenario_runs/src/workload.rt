@@ -5,7 +5,7 @@ ghost use Rattle.scenario_runs.specs.Workloads.{workload_line, IsCounted, IsWork
 ghost use Rattle.scenario_tables.specs.Scenarios.{IsScenario};
 
 use crate::read_back::built_module;
-use answer_lines::Line;
+use byte_lines::Line;
 use av_base::{Bytes, NoMemory};
 use drawn_scenarios::draw_scenario;
 use link_rules::Plan;

@@ -105,6 +105,7 @@ fn status_said(rule: &str) -> u8 {
         "limit:" => 7,
         "verilog" => 8,
         "scenario" => 9,
+        "dump" => 11,
         _ => 5,
     }
 }

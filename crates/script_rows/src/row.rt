@@ -16,7 +16,10 @@ fn command_of(text: &str) -> (&'static str, &str) {
         (":generate\n", "generate"),
         (":simulate\n", "simulate"),
         (":replay\n", "replay"),
+        (":dump\n", "dump"),
+        (":undump\n", "undump"),
         (":workload\n", "workload"),
+        (":demux\n", "demux"),
     ] {
         if let Some(files) = text.strip_prefix(line) {
             return (command, files);
@@ -235,13 +238,13 @@ pub fn files_of(
     Ok((files, mark))
 }
 
-/// The command, and a word for each file. A workload has the number that is its text in place of a file.
+/// The command, and a word for each file. A workload and a module have the numbers that are their texts in place of files.
 pub fn words_of(alloc: Global, row: &Row) -> Result<Vec<String>, AllocError> {
     let mut words = Vec::new(alloc);
     words.push(String::from_str(alloc, row.command)?)?;
     for text in row.files.split(":file") {
         let word = match row.command {
-            "workload" => text.trim_end(),
+            "workload" | "demux" => text.trim(),
             _ => "file",
         };
         words.push(String::from_str(alloc, word)?)?;

@@ -6,7 +6,7 @@ ghost use Rattle.trace_lines.specs.Lines.{get_line, taken_text, write_line, read
 
 use crate::events::{BeatMoved, CommandTaken, EndName, WordGiven};
 use crate::spelling::{put_flags, put_offset, put_short, put_value};
-use answer_lines::Line;
+use byte_lines::Line;
 use av_base::Val;
 
 /// A line that begins with its cycle, what is told, and the name of the interface.

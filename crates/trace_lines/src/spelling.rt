@@ -4,7 +4,7 @@ ghost use Rattle.std.specs.Prelude.{◌≡◌, ◌+◌, ◌<◌, ◌≤◌, ◌+
 ghost use Rattle.verilog_writer.specs.Text.{hex_digit, hex_digits};
 ghost use Rattle.trace_lines.specs.Spelling.{value_text, hex_within, short_hex, flags_text};
 
-use answer_lines::Line;
+use byte_lines::Line;
 use av_base::Val;
 
 /// A number below 16 as a hexadecimal digit in lower case.

@@ -6,6 +6,7 @@ ghost use Rattle.av_files.specs.Memory.{failed_below};
 use av_base::{Bytes, List, NoMemory};
 use av_files::{MemShelf, MemSink, ReadStep, Shelf, Sink, WriteStep};
 use avalon_top::{Exit, StepRule, Task, read_words, run};
+use routed_modules::Routed;
 use std::alloc::{AllocError, Global};
 use std::process::Abort;
 use std::test::Fail;
@@ -69,7 +70,7 @@ fn sink_of(alloc: Global, room: usize, failing: u64) -> Result<MemSink, NoMemory
 }
 
 /// Words, and what they ask for.
-const TRIED: [(&[&str], Option<Task>); 26] = [
+const TRIED: [(&[&str], Option<Task>); 34] = [
     (&[], None),
     (&["generate"], None),
     (&["generate", "a"], Some(Task::Generate)),
@@ -87,6 +88,10 @@ const TRIED: [(&[&str], Option<Task>); 26] = [
     (&["replay", "a"], None),
     (&["replay", "a", "b", "c"], None),
     (&["replay", "a", "-b"], None),
+    (&["dump", "a", "b"], Some(Task::Dump)),
+    (&["dump", "a"], None),
+    (&["undump", "a"], Some(Task::Undump)),
+    (&["undump", "a", "b"], None),
     (&["workload", "0"], Some(Task::Workload { number: 0 })),
     (
         &["workload", "4294967295"],
@@ -100,6 +105,19 @@ const TRIED: [(&[&str], Option<Task>); 26] = [
     (&["workload", "1a"], None),
     (&["workload"], None),
     (&["workload", "1", "2"], None),
+    (
+        &["demux", "2", "16", "8"],
+        Some(Task::Module {
+            wanted: Routed::Demultiplexer {
+                outputs: 2,
+                symbols: 16,
+                bits: 8,
+            },
+        }),
+    ),
+    (&["demux", "2", "16", "9"], None),
+    (&["demux", "1", "1", "8"], None),
+    (&["demux", "2", "1", "-"], None),
     (&["campaign", "5", "a", "b"], None),
 ];
 

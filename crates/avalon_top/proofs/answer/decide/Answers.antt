@@ -5,7 +5,7 @@ use Rattle.std.proofs.lemmas.Result.{err_from_is_err_and, IfOk-weaker, IfErr-wea
 use Rattle.avalon_top.specs.Run.{AreFiles, IsFilesLimit}
 use Rattle.avalon_top.specs.Loading.{StopsFiles}
 use Rattle.avalon_top.specs.Outcome.{IsOutcome}
-use Rattle.avalon_top.specs.Words.{AreEnough, file_words}
+use Rattle.task_words.specs.Words.{AreEnough, file_words}
 use Rattle.avalon_top.proofs.FileLemmas.{fewer_bytes}
 use Rattle.avalon_top.proofs.AnswerLemmas.{files_stop, loading_stops, files_limit}
 use Rattle.avalon_top.proofs.answer.decide.Goals as goal

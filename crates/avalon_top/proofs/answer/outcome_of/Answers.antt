@@ -1,11 +1,12 @@
-use Rattle.std.proofs.Common.{sym, subst}
+use Rattle.std.proofs.Common.{length, sym, subst}
 use Rattle.std.proofs.lemmas.Result.{err_from_is_err_and}
-use Rattle.avalon_top.specs.declared.words.Task.{Task}
-use Rattle.avalon_top.specs.declared.words.Task.TheVariants.{Generate, Check, Replay, Workload}
+use Rattle.task_words.specs.declared.Task.{Task}
+use Rattle.task_words.specs.declared.Task.TheVariants.{Generate, Check, Replay, Dump, Undump, Workload, Module}
+use Rattle.task_words.specs.Words.{AreItsFiles}
 use Rattle.avalon_top.specs.Loading.{StopsFiles}
 use Rattle.avalon_top.proofs.OutcomeLemmas.{same_result}
 use Rattle.avalon_top.proofs.answer.outcome_of.Goals as goal
-use Rattle.avalon_top.proofs.answer.outcome_of.Goals.{in-Generate+in_ok-text-in-Generate, in-Check+in_ok-text-in-Check, in-Replay+in_ok-text-in-Replay, in-Workload+in_ok-text-in-Workload}
+use Rattle.avalon_top.proofs.answer.outcome_of.Goals.{in-Generate+in_ok-text-in-Generate, in-Check+in_ok-text-in-Check, in-Replay+in_ok-text-in-Replay, in-Dump+in_ok-text-in-Dump, in-Undump+in_ok-text-in-Undump, in-Workload+in_ok-text-in-Workload, in-Module+in_ok-text-in-Module}
 
 pub returns-in_err-simulation-in-Simulate-clause-stops :
     goal.returns-in_err-simulation-in-Simulate-clause-stops
@@ -13,6 +14,9 @@ returns-in_err-simulation-in-Simulate-clause-stops c =
     let handed = err_from_is_err_and c.from_residual.result c.from_residual.ensures.1 in
     rw (handed.1, handed.2)
     (subst (λ (t : Task). StopsFiles t c.args.files.items c.in_err-simulation-in-Simulate.field-0.0) (sym c.in-Simulate.is) c.in_err-simulation-in-Simulate.ensures.stops)
+
+pub module_text-requires : goal.module_text-requires
+module_text-requires c = (subst (λ (t : Task). AreItsFiles t (length c.args.files.items)) c.in-Module.is c.requires.enough).enough.1
 
 pub returns-clause-outcome : goal.returns-clause-outcome
 returns-clause-outcome c =
@@ -26,6 +30,13 @@ returns-clause-outcome c =
           same_result task Check files text w.in_ok-text-in-Check.text w.in-Check.is w.text-is (rw w.as_slice-in-Check.ensures.value at w.in_ok-text-in-Check.ensures.result)
       | in-Replay+in_ok-text-in-Replay w ↦
           same_result task Replay files text w.in_ok-text-in-Replay.text w.in-Replay.is w.text-is (rw w.as_slice-in-Replay.ensures.value at w.in_ok-text-in-Replay.ensures.result)
+      | in-Dump+in_ok-text-in-Dump w ↦
+          same_result task Dump files text w.in_ok-text-in-Dump.text w.in-Dump.is w.text-is (rw w.as_slice-in-Dump.ensures.value at w.in_ok-text-in-Dump.ensures.result)
+      | in-Undump+in_ok-text-in-Undump w ↦
+          same_result task Undump files text w.in_ok-text-in-Undump.text w.in-Undump.is w.text-is (rw w.as_slice-in-Undump.ensures.value at w.in_ok-text-in-Undump.ensures.result)
+      | in-Module+in_ok-text-in-Module w ↦
+          same_result task (Module w.in-Module.wanted) files text w.in_ok-text-in-Module.text w.in-Module.is w.text-is
+          (record { is_text = w.in_ok-text-in-Module.ensures.result.is_text; only = w.in_ok-text-in-Module.ensures.result.only })
       | in-Workload+in_ok-text-in-Workload w ↦
           same_result task (Workload w.in-Workload.number) files text w.in_ok-text-in-Workload.text w.in-Workload.is w.text-is
           (record { is_text = w.in_ok-text-in-Workload.ensures.result.is_text; only = w.in_ok-text-in-Workload.ensures.result.only })

@@ -1,5 +1,5 @@
 use Rattle.avalon_top.specs.Simulate.{system_files, scenario_in}
-use Rattle.avalon_top.specs.Run.{text_in, waves_in}
+use Rattle.avalon_top.specs.Run.{text_in, waves_in, dump_in}
 use Rattle.avalon_top.proofs.AnswerLemmas.{one_answer}
 use Rattle.avalon_top.proofs.laws.files_call_for_one_answer.Goals as goal
 
@@ -8,16 +8,20 @@ returns c =
     let system = c.accepted_or_refused.ensures in
     let simulated = c.simulated_or_refused.ensures in
     let replay = c.texts_are_replayed_or_refused.ensures in
+    let undump = c.dumps_are_written_or_refused.ensures in
     λ task files are. one_answer task files
-    (record { either = system.either files; never_both = system.never_both files; one_refusal = system.one_refusal files })
     (record {
-      either = simulated.either (system_files files) (scenario_in files);
-      never_both = simulated.never_both (system_files files) (scenario_in files);
-      one_fault = simulated.one_fault (system_files files) (scenario_in files);
-    })
-    (record {
-      either = replay.either (text_in files) (waves_in files);
-      never_both = replay.never_both (text_in files) (waves_in files);
-      one_fault = replay.one_fault (text_in files) (waves_in files);
+      system = λ some. record { either = system.either files some; never_both = λ r accepted. system.never_both files accepted r; one_fault = system.one_refusal files };
+      simulated = λ some. record {
+        either = simulated.either (system_files files) (scenario_in files) some;
+        never_both = simulated.never_both (system_files files) (scenario_in files);
+        one_fault = simulated.one_fault (system_files files) (scenario_in files);
+      };
+      replayed = record {
+        either = replay.either (text_in files) (waves_in files);
+        never_both = replay.never_both (text_in files) (waves_in files);
+        one_fault = replay.one_fault (text_in files) (waves_in files);
+      };
+      undumped = record { either = undump.either (dump_in files); never_both = undump.never_both (dump_in files); one_fault = undump.one_fault (dump_in files) };
     })
     are

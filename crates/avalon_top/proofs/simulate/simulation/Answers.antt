@@ -1,16 +1,18 @@
-use Rattle.std.proofs.Common.{◌≡◌, ◌∙◌, refl}
+use Rattle.std.proofs.Common.{◌≡◌, ◌+◌, ◌≤◌, length, ◌∙◌, refl, arith}
 use Rattle.scenario_runs.specs.Prepared.{IsPrepared}
+use Rattle.scenario_runs.specs.Simulations.{CanSimulate, IsSimulateFault}
 use Rattle.avalon_top.specs.Simulate.{system_files, scenario_in}
-use Rattle.avalon_top.proofs.FileLemmas.{scenario_is}
-use Rattle.avalon_top.proofs.AnswerLemmas.{AreJudgedBoth, accepted_files, simulate_stops, simulate_done}
+use Rattle.avalon_top.proofs.FileLemmas.{scenario_is, system_file_count}
+use Rattle.avalon_top.proofs.AnswerLemmas.{AreJudged, accepted_files, simulate_stops, simulate_done}
 use Rattle.avalon_top.proofs.simulate.simulation.Goals as goal
 
 pub returns-in-Ok-clause-prepared : goal.returns-in-Ok-clause-prepared
 returns-in-Ok-clause-prepared c =
     let files = c.args.files.items in
     let law = c.simulated_or_refused.ensures in
-    let judged : AreJudgedBoth (system_files files) (scenario_in files) =
-    record { either = law.either (system_files files) (scenario_in files); never_both = law.never_both (system_files files) (scenario_in files); one_fault = law.one_fault (system_files files) (scenario_in files) } in
+    let some = system_file_count files c.requires.some in
+    let judged : AreJudged (CanSimulate (system_files files) (scenario_in files)) (IsSimulateFault (system_files files) (scenario_in files)) =
+    record { either = law.either (system_files files) (scenario_in files) (omega (arith, some, c.requires.some)); never_both = law.never_both (system_files files) (scenario_in files); one_fault = law.one_fault (system_files files) (scenario_in files) } in
     let system : c.as_slice.result.now ≡ system_files files = c.as_slice.ensures.value ∙ c.remove-scenario.ensures.items in
     let scenario : c.as_slice-2.result.now ≡ scenario_in files = c.as_slice-2.ensures ∙ c.remove-scenario.ensures.value ∙ scenario_is files _ c.requires.some in
     let is : IsPrepared (system_files files) (scenario_in files) c.in-Ok.prepared = rw (system, scenario) at c.in-Ok.ensures.prepared in
@@ -25,8 +27,9 @@ pub returns-clause-stops : goal.returns-clause-stops
 returns-clause-stops c =
     let files = c.args.files.items in
     let law = c.simulated_or_refused.ensures in
-    let judged : AreJudgedBoth (system_files files) (scenario_in files) =
-    record { either = law.either (system_files files) (scenario_in files); never_both = law.never_both (system_files files) (scenario_in files); one_fault = law.one_fault (system_files files) (scenario_in files) } in
+    let some = system_file_count files c.requires.some in
+    let judged : AreJudged (CanSimulate (system_files files) (scenario_in files)) (IsSimulateFault (system_files files) (scenario_in files)) =
+    record { either = law.either (system_files files) (scenario_in files) (omega (arith, some, c.requires.some)); never_both = law.never_both (system_files files) (scenario_in files); one_fault = law.one_fault (system_files files) (scenario_in files) } in
     let system : c.as_slice.result.now ≡ system_files files = c.as_slice.ensures.value ∙ c.remove-scenario.ensures.items in
     let scenario : c.as_slice-2.result.now ≡ scenario_in files = c.as_slice-2.ensures ∙ c.remove-scenario.ensures.value ∙ scenario_is files _ c.requires.some in
     rw c.answer_of.ensures (simulate_stops (system_files files) (scenario_in files) c.in-Err.fault judged (rw (system, scenario) at c.in-Err.ensures.fault))

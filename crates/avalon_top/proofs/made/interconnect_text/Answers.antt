@@ -1,7 +1,7 @@
 use Rattle.std.proofs.Common.{◌≡◌, sym, ◌∙◌}
 use Rattle.std.proofs.lemmas.Result.{IfOk-weaker}
 use Rattle.verilog_writer.specs.Text.{text_of}
-use Rattle.avalon_top.proofs.answer.interconnect_text.Goals as goal
+use Rattle.avalon_top.proofs.made.interconnect_text.Goals as goal
 
 pub returns : goal.returns
 returns c =

@@ -1,6 +1,6 @@
 use Rattle.std.proofs.Common.{◌<◌, ◌^◌, length, decimal, ap, arith, length-append}
 use Rattle.std.proofs.lemmas.Fmt.{length-decimal-le}
-use Rattle.answer_lines.proofs.line.Line.put_number.Goals as goal
+use Rattle.byte_lines.proofs.Line.put_number.Goals as goal
 
 pub put_decimal-requires : goal.put_decimal-requires
 put_decimal-requires c =

@@ -1,8 +1,8 @@
 use Rattle.std.proofs.Common.{◌++◌, ◌/◌, length, append_assoc, length-append, List, ℕ, sym, ap, ◌∙◌, arith}
 use Rattle.std.specs.Prelude.{decimal}
 use Rattle.std.proofs.lemmas.Fmt.{decimal_digit, decimal_step}
-use Rattle.answer_lines.proofs.Decimals.{more_digits}
-use Rattle.answer_lines.proofs.line.Line.+put_decimal.Goals as goal
+use Rattle.byte_lines.proofs.Decimals.{more_digits}
+use Rattle.byte_lines.proofs.Line.+put_decimal.Goals as goal
 
 pub put_digit-requires-clause-room : goal.put_digit-requires-clause-room
 put_digit-requires-clause-room t c =

@@ -1,12 +1,15 @@
+//! Lines of bytes that are built without taking memory.
+#![tactic(auto)]
+
 ghost use Rattle.std.specs.Prelude.{◌≡◌, ◌+◌, ◌≤◌, ◌<◌, ◌∷◌, [], ◌++◌, length, decimal};
 
 use arrayvec::ArrayVec;
 use std::marker::Model;
 
-/// A line that is built without taking memory, of at most 256 bytes.
+/// A line that is built without taking memory, of at most 512 bytes.
 #[derive(Drop)]
 pub struct Line {
-    text: ArrayVec<u8, 256>,
+    text: ArrayVec<u8, 512>,
 }
 
 impl Model for Line {
@@ -28,7 +31,7 @@ impl Line {
 
     /// A line that begins with these bytes.
     pub fn of(bytes: &[u8]) -> Line
-        requires { length bytes.now ≤ 256 }
+        requires { length bytes.now ≤ 512 }
         ensures { result ≡ bytes.now }
     {
         let mut line = Line::new();
@@ -43,7 +46,7 @@ impl Line {
     }
 
     pub fn put(&mut self, bytes: &[u8])
-        requires { length self.old + length bytes.now ≤ 256 }
+        requires { length self.old + length bytes.now ≤ 512 }
         ensures { self.new ≡ self.old ++ bytes.now }
     {
         let done = self.text.try_extend_from_slice(bytes).is_ok();
@@ -52,7 +55,7 @@ impl Line {
 
     /// Appends a number in decimal.
     pub fn put_number(&mut self, number: u64)
-        requires { length self.old + 20 ≤ 256 }
+        requires { length self.old + 20 ≤ 512 }
         ensures text { self.new ≡ self.old ++ decimal number }
         ensures short { length self.new ≤ length self.old + 20 }
     {
@@ -61,7 +64,7 @@ impl Line {
 
     /// Appends a text and behind it a number in decimal.
     pub fn put_part(&mut self, text: &[u8], number: u64)
-        requires { length self.old + length text.now + 20 ≤ 256 }
+        requires { length self.old + length text.now + 20 ≤ 512 }
         ensures text { self.new ≡ self.old ++ text.now ++ decimal number }
         ensures short { length self.new ≤ length self.old + length text.now + 20 }
     {
@@ -70,7 +73,7 @@ impl Line {
     }
 
     fn put_decimal(&mut self, number: u64)
-        requires { length self.old + length (decimal number) ≤ 256 }
+        requires { length self.old + length (decimal number) ≤ 512 }
         ensures { self.new ≡ self.old ++ decimal number }
     {
         if number < 10 {
@@ -83,7 +86,7 @@ impl Line {
 
     fn put_digit(&mut self, digit: u8)
         requires small { digit < 10 }
-        requires room { length self.old < 256 }
+        requires room { length self.old < 512 }
         ensures { self.new ≡ self.old ++ (48 + digit) ∷ [] }
     {
         self.text.push(b'0' + digit);
