@@ -1,7 +1,9 @@
 //! Lines of a module as text.
 
+use crate::files::{module_of, parts_of};
+use crate::no_answer::NoAnswer;
 use netlist::{Equation, MemLine, Module};
-use std::alloc::AllocError;
+use std::alloc::{AllocError, Global};
 
 /// Two numbers, and 0.
 fn two(a: u32, b: u32) -> [u128; 3] {
@@ -57,11 +59,7 @@ fn push_memory(text: &mut String, memory: &MemLine) -> Result<(), AllocError> {
 }
 
 /// The width and the equation of each net that a word names, and each memory.
-pub(crate) fn push_lines(
-    text: &mut String,
-    module: &Module,
-    words: &str,
-) -> Result<(), AllocError> {
+fn push_lines(text: &mut String, module: &Module, words: &str) -> Result<(), AllocError> {
     for word in words.split_whitespace() {
         let net = word.parse().unwrap_or(u32::MAX);
         if net < module.net_count() {
@@ -71,5 +69,21 @@ pub(crate) fn push_lines(
     for k in 0..module.memory_count() {
         push_memory(text, &module.memory(k))?;
     }
+    Ok(())
+}
+
+/// A module's name and counts, and the lines of the nets that are named before its text.
+pub(crate) fn push_module(alloc: Global, text: &mut String, row: &str) -> Result<(), NoAnswer> {
+    let (words, verilog) = parts_of(row);
+    let module = module_of(alloc, verilog)?;
+    write!(
+        text,
+        " {}, {} ports, {} nets, {} memories",
+        module.name(),
+        module.ports().len(),
+        module.net_count(),
+        module.memory_count()
+    )?;
+    push_lines(text, &module, words)?;
     Ok(())
 }

@@ -1,46 +1,38 @@
-//! Makes the modules that the rows of the standard input name, steps some of them, and prints their lines and values; then reads the texts
-//! behind the rows as modules, whole, cut and changed.
+//! Reads the modules whose texts the rows of the standard input have, steps or replays some of them, and prints their lines and values; then
+//! reads the texts behind the rows as modules, whole, cut and changed.
 #![tactic(auto)]
 
-mod headers;
+mod files;
 mod lines;
-mod modules;
-mod pruned;
-mod room;
+mod no_answer;
+mod replayed;
 mod steps;
 mod tally;
 mod texts;
 mod values;
-mod wave_files;
 
-use modules::push_module;
-use pruned::push_pruned;
-use room::NoRoom;
+use lines::push_module;
+use no_answer::NoAnswer;
+use replayed::{push_pruned, push_replayed};
 use std::alloc::Global;
 use std::io;
-use steps::{push_bytes, push_counted, push_joined, push_operators, push_outputs, push_run};
+use steps::{push_joined, push_operators, push_stepped};
 use texts::tell_texts;
-use wave_files::{push_read_back, push_replayed, push_waves};
 
 /// Appends what is said of a row.
-fn push_answer(alloc: Global, text: &mut String, row: &str) -> Result<(), NoRoom> {
+fn push_answer(alloc: Global, text: &mut String, row: &str) -> Result<(), NoAnswer> {
     let (name, words) = row.split_once(' ').unwrap_or((row, ""));
     match name {
         "operators" => push_operators(alloc, text, words),
         "joined" => push_joined(alloc, text, words),
-        "counted" => push_counted(alloc, text, words),
-        "bytes" => push_bytes(alloc, text, words),
-        "outputs" => push_outputs(alloc, text, words),
-        "run" => push_run(alloc, text, words),
+        "stepped" => push_stepped(alloc, text, words),
         "pruned" => push_pruned(alloc, text, words),
-        "waves" => push_waves(alloc, text, words),
         "replayed" => push_replayed(alloc, text, words),
-        "read_back" => push_read_back(alloc, text, words),
-        _ => push_module(alloc, text, name, words),
+        _ => push_module(alloc, text, words),
     }
 }
 
-fn answer_of(alloc: Global, row: &str) -> Result<String, NoRoom> {
+fn answer_of(alloc: Global, row: &str) -> Result<String, NoAnswer> {
     let mut text = String::new(alloc);
     push_answer(alloc, &mut text, row)?;
     Ok(text)

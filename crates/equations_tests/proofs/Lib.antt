@@ -1,4 +1,0 @@
-mod Same
-mod ThreePorts
-mod TwoPorts
-pub mod Whole
