@@ -1,5 +1,5 @@
 -- the first of some words, and a fact on each of them, seen through a map
-use Rattle.std.proofs.Common.{◌≡◌, ◌≢◌, ◌<◌, ◌+◌, ◌^◌, ℕ, inl, inr, List, [], ◌∷◌, length, map, get_or, Some, refl, sym, ap, subst, ◌∙◌, arith}
+use Rattle.std.proofs.Common.{◌≡◌, ◌≢◌, ◌<◌, ◌^◌, ℕ, inl, inr, List, [], ◌∷◌, length, map, get_or, Some, sym, ap, subst, ◌∙◌, arith}
 use Rattle.std.specs.Prelude.{slice_get, codes, decimal, All}
 use Rattle.std.proofs.lemmas.Option.{same_Some}
 use Rattle.std.proofs.lemmas.List.Elements.{All-map, All-get_or}
@@ -9,7 +9,7 @@ use Rattle.routed_words.specs.Asking.{module_word, numbers_of, IsModuleWord, Ask
 use Rattle.task_words.specs.declared.Task.{Task}
 use Rattle.task_words.specs.declared.Task.TheVariants.{Generate, Check, Simulate, Replay, Dump, Undump, Workload, Module}
 use Rattle.task_words.specs.Words.{IsPlainWord, AsksFor, AsksForNothing, AreEnough, StatesNumbers, BeginsWithModule, word_of}
-use Rattle.task_words.specs.OneTask.{IsBare, Kinds, kind_of, bare_word, one_bare, no_bare, no_workload, module_at}
+use Rattle.task_words.specs.OneTask.{IsBare, Kinds, kind_of, bare_word, one_bare, no_bare, no_workload, workload_at, module_at}
 
 pub first_is : {A B : Type 0} (f : A → B) (xs : List A) (x : A) → 0 < length xs → x ≡ get_or xs 0 x → slice_get (map f xs) 0 ≡ Some (f x)
 first_is f [] x h e = absurd (omega arith)
@@ -73,7 +73,7 @@ pub record AsksForWorkload (words : List (List ℕ)) : Type 0 where
   pub is : slice_get words 1 ≡ Some (decimal number)
 
 workload_of : (words : List (List ℕ)) (task : Task) → word_of task ≡ codes "workload" → AsksFor words task → Kinds task → AsksForWorkload words
-workload_of words task named h (inl bare) = absurd (no_bare task (Workload 0) bare refl named)
+workload_of words task named h (inl bare) = absurd (no_bare task (Workload 0) bare (workload_at 0) named)
 workload_of words task named h (inr (inl (n, is))) =
     let asks : AsksFor words (Workload n) = subst (λ (t : Task). AsksFor words t) is h in
     record { number = n; count = asks.files; few = asks.numbers.0; is = asks.numbers.1 }

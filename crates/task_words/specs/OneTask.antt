@@ -1,6 +1,6 @@
 -- Words ask for one task. No contract reads a proof of it; the crate above cites it.
-use Rattle.std.specs.Prelude.{◌≡◌, ◌≢◌, ℕ, ◌+◌, ◌*◌, ◌^◌, ◌<◌, ◌⊎◌, ◌==◌, if◌then◌else◌, List, length, slice_get, Some, codes, decimal, get_or}
-use Rattle.std.proofs.Common.{refl, sym, ap, subst, ◌∙◌, inl, inr, ⊎_elim, arith}
+use Rattle.std.specs.Prelude.{◌≡◌, ◌≢◌, ℕ, ◌+◌, ◌*◌, ◌⊎◌, ◌==◌, if◌then◌else◌, List, length, codes, get_or}
+use Rattle.std.proofs.Common.{refl, sym, ap, subst, ◌∙◌, inl, inr, arith}
 use Rattle.std.proofs.lemmas.Fmt.{decimal_injective}
 use Rattle.std.proofs.lemmas.Option.{same_Some}
 use Rattle.routed_modules.specs.declared.routed.Routed.{Routed}
@@ -18,11 +18,11 @@ IsBare (Module wanted) = ⊥
 IsBare _ = Unit {0}
 
 -- how long a word is, and its first byte
-mark : List ℕ → ℕ
+pub mark : List ℕ → ℕ
 mark word = length word * 256 + get_or word 0 0
 
 -- the bare task whose word has this mark, and a workload where there is none
-task_at : ℕ → Task
+pub task_at : ℕ → Task
 task_at at =
     if at == 2151 then Generate
     else if at == 1379 then Check
@@ -33,6 +33,7 @@ task_at at =
     else Workload 0
 
 bare_at : (task : Task) → IsBare task → task_at (mark (word_of task)) ≡ task
+unfolding task_at mark
 bare_at Generate bare = refl
 bare_at Check bare = refl
 bare_at Simulate bare = refl
@@ -43,9 +44,15 @@ bare_at (Workload number) bare = absurd bare
 bare_at (Module wanted) bare = absurd bare
 
 pub module_at : (wanted : Routed) → task_at (mark (module_word wanted)) ≡ Workload 0
+unfolding task_at mark
 module_at (routed.Demultiplexer outputs symbols bits) = refl
 
+pub workload_at : (number : ℕ) → task_at (mark (word_of (Workload number))) ≡ Workload 0
+unfolding task_at mark
+workload_at number = refl
+
 pub no_workload : (wanted : Routed) → module_word wanted ≢ codes "workload"
+unfolding mark
 no_workload (routed.Demultiplexer outputs symbols bits) e = let marks : mark (codes "demux") ≡ mark (codes "workload") = ap mark e in absurd (omega (arith, marks))
 
 -- a word that isn't a workload's or a module's is that of a bare task
@@ -85,9 +92,9 @@ kind_of (Module wanted) = inr (inr (wanted, refl))
 
 one_of : (words : List (List ℕ)) (one other : Task) → word_of one ≡ word_of other → StatesNumbers one words → StatesNumbers other words → Kinds one → Kinds other → one ≡ other
 one_of words one other named here there (inl bare) (inl also) = one_bare one other bare also named
-one_of words one other named here there (inl bare) (inr (inl (n, is))) = absurd (no_bare one other bare (ap (λ (t : Task). task_at (mark (word_of t))) is) named)
+one_of words one other named here there (inl bare) (inr (inl (n, is))) = absurd (no_bare one other bare (ap (λ (t : Task). task_at (mark (word_of t))) is ∙ workload_at n) named)
 one_of words one other named here there (inl bare) (inr (inr (wanted, is))) = absurd (no_bare one other bare (ap (λ (t : Task). task_at (mark (word_of t))) is ∙ module_at wanted) named)
-one_of words one other named here there (inr (inl (n, is))) (inl bare) = absurd (no_bare other one bare (ap (λ (t : Task). task_at (mark (word_of t))) is) (sym named))
+one_of words one other named here there (inr (inl (n, is))) (inl bare) = absurd (no_bare other one bare (ap (λ (t : Task). task_at (mark (word_of t))) is ∙ workload_at n) (sym named))
 one_of words one other named here there (inr (inr (wanted, is))) (inl bare) = absurd (no_bare other one bare (ap (λ (t : Task). task_at (mark (word_of t))) is ∙ module_at wanted) (sym named))
 one_of words one other named here there (inr (inl (n, is))) (inr (inl (m, also))) =
     is ∙ ap Workload (one_number words n m (subst (λ (t : Task). StatesNumbers t words) is here) (subst (λ (t : Task). StatesNumbers t words) also there)) ∙ sym also
