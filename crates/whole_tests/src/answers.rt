@@ -70,7 +70,7 @@ fn sink_of(alloc: Global, room: usize, failing: u64) -> Result<MemSink, NoMemory
 }
 
 /// Words, and what they ask for.
-const TRIED: [(&[&str], Option<Task>); 34] = [
+const TRIED: [(&[&str], Option<Task>); 35] = [
     (&[], None),
     (&["generate"], None),
     (&["generate", "a"], Some(Task::Generate)),
@@ -118,6 +118,7 @@ const TRIED: [(&[&str], Option<Task>); 34] = [
     (&["demux", "2", "16", "9"], None),
     (&["demux", "1", "1", "8"], None),
     (&["demux", "2", "1", "-"], None),
+    (&["demux", "+2", "1", "8"], None),
     (&["campaign", "5", "a", "b"], None),
 ];
 
