@@ -19,7 +19,9 @@ fn command_of(text: &str) -> (&'static str, &str) {
         (":dump\n", "dump"),
         (":undump\n", "undump"),
         (":workload\n", "workload"),
+        (":mux\n", "mux"),
         (":demux\n", "demux"),
+        (":gather\n", "gather"),
     ] {
         if let Some(files) = text.strip_prefix(line) {
             return (command, files);
@@ -244,7 +246,7 @@ pub fn words_of(alloc: Global, row: &Row) -> Result<Vec<String>, AllocError> {
     words.push(String::from_str(alloc, row.command)?)?;
     for text in row.files.split(":file") {
         let word = match row.command {
-            "workload" | "demux" => text.trim(),
+            "workload" | "mux" | "demux" | "gather" => text.trim(),
             _ => "file",
         };
         words.push(String::from_str(alloc, word)?)?;
