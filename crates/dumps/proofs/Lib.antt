@@ -1,2 +1,3 @@
 mod Ports
 mod RunLemmas
+pub mod SameRows

@@ -53,7 +53,7 @@ clash : true ≡ false → ⊥
 clash e = cc
 
 -- no net drives an input
-undriven : (netlist : Netlist) → IsModule netlist → (k : ℕ) (port : PortLine) → slice_get netlist.ports k ≡ Some port → port.output ≡ false → (o : Option ℕ) → driver_of netlist k ≡ o → driver_of netlist k ≡ None
+pub undriven : (netlist : Netlist) → IsModule netlist → (k : ℕ) (port : PortLine) → slice_get netlist.ports k ≡ Some port → port.output ≡ false → (o : Option ℕ) → driver_of netlist k ≡ o → driver_of netlist k ≡ None
 undriven netlist sound k port at input None e = e
 undriven netlist sound k port at input (Some n) e =
     let driver = (sound.well_made.drivers k n e).port in

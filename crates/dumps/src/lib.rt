@@ -2,7 +2,9 @@
 #![tactic(auto)]
 
 mod gathered;
+mod laws;
 mod rows;
 mod traces;
 
+pub use laws::runs_have_one_dump;
 pub use traces::dump_run;
