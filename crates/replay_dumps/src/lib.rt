@@ -1,6 +1,8 @@
 //! Waves replayed on a module, and dumped.
 #![tactic(auto)]
 
+mod laws;
+
 ghost use Rattle.std.specs.Prelude.{◌≡◌, ◌⊎◌, IfOk, IfErr};
 ghost use Rattle.replays.specs.declared.faults.ReplayFault.TheVariants.{NoMemory};
 ghost use Rattle.replays.specs.Replays.{IsReplayFault};
@@ -10,6 +12,7 @@ ghost use Rattle.replay_dumps.specs.Dumps.{IsDumpOf, IsDumpOfText};
 use av_base::Bytes;
 use cycle_sim::Sim;
 use dumps::dump_run;
+pub use laws::texts_are_dumped_as_replayed;
 use netlist::Module;
 use replays::ReplayFault;
 use std::alloc::Global;
