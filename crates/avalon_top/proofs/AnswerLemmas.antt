@@ -5,7 +5,6 @@ use Rattle.link_rules.specs.Plans.{PlanTable}
 use Rattle.replays.specs.declared.faults.ReplayFault.{ReplayFault}
 use Rattle.replays.specs.declared.faults.ReplayFault.TheVariants as fault
 use Rattle.replays.specs.Texts.{CanReplayText, IsReplayOfText, IsReplayTextFault}
-use Rattle.replay_dumps.specs.Dumps.{IsDumpOfText}
 use Rattle.undumps.specs.declared.UndumpFault.{UndumpFault}
 use Rattle.undumps.specs.declared.UndumpFault.TheVariants as undump
 use Rattle.undumps.specs.Undumps.{CanUndump, IsUndumpOf, IsUndumpFault}
@@ -160,20 +159,12 @@ can_replay text waves trace is = record {
   holds = record { rows = is.holds.rows; are_waves = is.holds.are_waves; few = is.holds.few };
 }
 
-can_dump : (text waves dump : List ℕ) → IsDumpOfText text waves dump → CanReplayText text waves
-can_dump text waves dump is = record {
-  netlist = is.netlist;
-  is_module = is.is_module;
-  is_text = is.is_text;
-  holds = record { rows = is.holds.rows; are_waves = is.holds.are_waves; few = is.holds.few };
-}
+-- what can be replayed calls for its result
+pub can_be_replayed : (text waves : List ℕ) → AreJudged (CanReplayText text waves) (IsReplayTextFault text waves) → CanReplayText text waves → IsOnly (ReplayCallsFor text waves) exit.Done
+can_be_replayed text waves judged can = only_done (CanReplayText text waves) (IsReplayTextFault text waves) answer_of replay_refuses judged can
 
--- what was replayed calls for its result, and what was dumped
 pub replay_done : (text waves trace : List ℕ) → AreJudged (CanReplayText text waves) (IsReplayTextFault text waves) → IsReplayOfText text waves trace → IsOnly (ReplayCallsFor text waves) exit.Done
-replay_done text waves trace judged is = only_done (CanReplayText text waves) (IsReplayTextFault text waves) answer_of replay_refuses judged (can_replay text waves trace is)
-
-pub dump_done : (text waves dump : List ℕ) → AreJudged (CanReplayText text waves) (IsReplayTextFault text waves) → IsDumpOfText text waves dump → IsOnly (ReplayCallsFor text waves) exit.Done
-dump_done text waves dump judged is = only_done (CanReplayText text waves) (IsReplayTextFault text waves) answer_of replay_refuses judged (can_dump text waves dump is)
+replay_done text waves trace judged is = can_be_replayed text waves judged (can_replay text waves trace is)
 
 -- ---- a dump
 

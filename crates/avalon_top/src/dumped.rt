@@ -8,7 +8,7 @@ ghost use Rattle.avalon_top.specs.Loading.{StopsFiles};
 use crate::answer::answer_of;
 use answer_lines::Exit;
 use av_base::Bytes;
-use replay_dumps::dump;
+use replay_dumps::{dump, texts_are_dumped_as_replayed};
 use replays::texts_are_replayed_or_refused;
 use std::alloc::Global;
 use undumps::{UndumpFault, dumps_are_written_or_refused, undump};
@@ -20,6 +20,7 @@ pub(crate) fn dump_files(alloc: Global, files: &[Bytes]) -> Result<Bytes, Exit>
     ensures result { IfOk result (IsResult Dump files.now) }
 {
     texts_are_replayed_or_refused();
+    texts_are_dumped_as_replayed();
     match dump(alloc, files[0].as_slice(), files[1].as_slice()) {
         Ok(text) => Ok(text),
         Err(fault) => Err(answer_of(fault)),

@@ -2,7 +2,7 @@ use Rattle.std.proofs.Common.{◌≡◌}
 use Rattle.replays.specs.Texts.{CanReplayText, IsReplayTextFault}
 use Rattle.avalon_top.specs.Run.{text_in, waves_in}
 use Rattle.avalon_top.proofs.FileLemmas.{first_of_two, second_of_two}
-use Rattle.avalon_top.proofs.AnswerLemmas.{AreJudged, replay_stops, dump_done}
+use Rattle.avalon_top.proofs.AnswerLemmas.{AreJudged, replay_stops, can_be_replayed}
 use Rattle.avalon_top.proofs.dumped.dump_files.Goals as goal
 
 pub returns-in-Err-clause-stops : goal.returns-in-Err-clause-stops
@@ -21,4 +21,4 @@ returns-in-Ok-clause-result c =
     let waves = waves_in c.args.files.now in
     let judged : AreJudged (CanReplayText text waves) (IsReplayTextFault text waves) = record { either = law.either text waves; never_both = law.never_both text waves; one_fault = law.one_fault text waves } in
     let is = rw (c.as_slice.ensures, c.as_slice-2.ensures, c.index-files-0.is, c.index-files-1.is, first_of_two c.args.files.now c.index-files-0.result c.requires, second_of_two c.args.files.now c.index-files-1.result c.requires) at c.in-Ok.ensures.text in
-    record { is_text = is; only = dump_done text waves c.in-Ok.text judged is }
+    record { is_text = is; only = can_be_replayed text waves judged (c.texts_are_dumped_as_replayed.ensures.replayed text waves c.in-Ok.text is) }
