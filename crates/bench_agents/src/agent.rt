@@ -12,10 +12,10 @@ ghost use Rattle.bench_agents.specs.Agents.{commanded, levels_with, gives_at_onc
 use crate::commands::{address_at, all_lanes, is_high, nibble_at, short_at};
 use agent_ends::{AgentLevels, AgentPlaces, AgentPorts};
 use agent_stand_ins::AgentStandIn;
-use byte_lines::Line;
 use av_base::Val;
 use av_files::{Sink, put_all};
 use bench_parts::{Component, level_at};
+use byte_lines::Line;
 use cycle_sim::Sim;
 use host_stand_ins::CommandLevels;
 use iface_roles::AgentPort;

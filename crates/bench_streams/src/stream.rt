@@ -20,10 +20,10 @@ ghost use Rattle.bench_streams.specs.Sound.{IsSoundEnd, line_if};
 ghost use Rattle.bench_streams.specs.Streams.{AreFirstStreams, Fits, IsFirstStream, beat_now, behind, counts, is_answered, is_dropped, is_got, is_ready, is_sent, sets, shown_by, tells, told_beat};
 
 use crate::laws::{links_are_few, links_are_sound, outputs_are_within};
-use byte_lines::Line;
 use av_base::{NoMemory, Val};
 use av_files::{Sink, put_all};
 use bench_parts::{Component, level_at};
+use byte_lines::Line;
 use cycle_sim::Sim;
 use iface_roles::{Role, StreamPort};
 use interconnect::PortMap;

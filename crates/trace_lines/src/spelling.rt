@@ -4,8 +4,8 @@ ghost use Rattle.std.specs.Prelude.{◌≡◌, ◌+◌, ◌<◌, ◌≤◌, ◌+
 ghost use Rattle.verilog_writer.specs.Text.{hex_digit, hex_digits};
 ghost use Rattle.trace_lines.specs.Spelling.{value_text, hex_within, short_hex, flags_text};
 
-use byte_lines::Line;
 use av_base::Val;
+use byte_lines::Line;
 
 /// A number below 16 as a hexadecimal digit in lower case.
 fn hex_digit(n: u8) -> u8
