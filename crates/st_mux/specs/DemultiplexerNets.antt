@@ -1,35 +1,18 @@
 -- The nets of a demultiplexer, and that they are the machine of one.
-use Rattle.std.specs.Prelude.{ℕ, ◌+◌, ◌*◌, ◌^◌, ◌<◌, ◌≤◌, ◌≡◌, ◌⊎◌, ◌&&◌, ◌==◌, List, [], ◌∷◌, ◌++◌, length}
-use Rattle.std.proofs.Common.{refl, sym, ap, ◌∙◌, inl, inr, arith, subst, get_or, length-append}
-use Rattle.std.proofs.lemmas.List.{get_or_append_left}
-use Rattle.std.proofs.Math.Seq.{get_or-append_seam}
-use Rattle.std.proofs.lemmas.Bool.{cases_lt}
+use Rattle.std.specs.Prelude.{ℕ, ◌+◌, ◌^◌, ◌<◌, ◌≡◌, ◌==◌, List, length}
+use Rattle.std.proofs.Common.{refl, ap, arith, get_or}
 use Rattle.std.proofs.Math.Nat.{mod-eq_of_lt}
 use Rattle.netlist.specs.Nets.{NetValue}
 use Rattle.netlist.specs.Netlists.{Netlist}
-use Rattle.netlist.specs.Runs.{Run, Cycle, cycle_of, Always, IsEndlessRun, IsValuation}
+use Rattle.netlist.specs.Runs.{Run, cycle_of, Always, IsEndlessRun, IsValuation}
 use Rattle.netlist.specs.Longer.{Extends}
 use Rattle.stream_runs.specs.Source.{IsLegalSource}
-use Rattle.net_parts.specs.Nets.{IsBit}
-use Rattle.net_parts.specs.Growth.{AddsNets}
-use Rattle.net_parts.specs.Laws.{adds_fewer, adds_twice}
 use Rattle.routed_runs.specs.Demultiplexed.{Demultiplexer, DemultiplexerRun, input_side, IsDemultiplexed}
 use Rattle.routed_machines.specs.Demultiplexing.{IsDemultiplexerRun}
 use Rattle.st_mux.specs.declared.packet.PacketNets.{PacketNets}
 use Rattle.st_mux.specs.Packets.{packet_view}
-use Rattle.st_mux.specs.Selecting.{AreBits, Selects, bits_last}
-
--- net k shows that a beat is shown on channel k
-abbrev pub AreShownOn : NetValue → NetValue → List NetValue → Cycle → Type 0
-AreShownOn shown channel nets cycle =
-    (other : NetValue) (k : ℕ) → k < length nets → (cycle.net (get_or nets k other).number == 1) ≡ ((cycle.net shown.number == 1) && (cycle.net channel.number == k))
-
--- so many such nets were made
-pub record ShowEach (old new : Netlist) (shown channel : NetValue) (nets : List NetValue) (count : ℕ) : Type 0 where
-  pub lengths : length nets ≡ count
-  pub bits : AreBits new nets
-  pub value : Always new (AreShownOn shown channel nets)
-  pub adds : AddsNets (3 * count) old new
+use Rattle.st_mux.specs.Selecting.{Selects}
+use Rattle.st_mux.specs.Each.{AreSetWhere, shown_on}
 
 -- a run of a demultiplexer: the beat of the input, its channel and its ready, and at each output that beat, with a valid and a ready of its own
 abbrev pub demultiplexer_run : Run → PacketNets → NetValue → NetValue → List NetValue → List NetValue → DemultiplexerRun
@@ -49,35 +32,8 @@ DemultiplexesInLonger netlist from channel ready valids readies =
 
 -- ---- laws. No contract reads a proof of these
 
--- with one more
-pub each_more : (old now new : Netlist) (shown channel : NetValue) (nets : List NetValue) (here : NetValue) (count : ℕ) → ShowEach old now shown channel nets count → AddsNets 3 now new
-    → IsBit new here → Always new (λ cycle. (cycle.net here.number == 1) ≡ ((cycle.net shown.number == 1) && (cycle.net channel.number == count)))
-    → ShowEach old new shown channel (nets ++ here ∷ []) (count + 1)
-each_more old now new shown channel nets here count was adds bit value =
-    record {
-      lengths = length-append nets (here ∷ []) ∙ ap (λ n. n + 1) was.lengths;
-      bits = λ other k below. at (λ net j. IsBit new net) other k below (λ less. bits_last now new nets adds.grows.extends was.bits other k less) bit;
-      value = λ cycle v other k below.
-          at (λ net j. (cycle.net net.number == 1) ≡ ((cycle.net shown.number == 1) && (cycle.net channel.number == j))) other k below
-          (λ less. was.value cycle (adds.grows.extends.valuations cycle v) other k less)
-          (value cycle v);
-      adds = adds_fewer _ _ _ _ (omega arith) (adds_twice _ _ _ _ _ was.adds adds);
-    }
-  where
-    at : (P : NetValue → ℕ → Type 0) (other : NetValue) (k : ℕ) → k < length (nets ++ here ∷ []) → (k < length nets → P (get_or nets k other) k) → P here count → P (get_or (nets ++ here ∷ []) k other) k
-    at P other k below earlier latest = by_place (cases_lt k (length nets))
-      where
-        by_place : (k < length nets) ⊎ (length nets ≤ k) → P (get_or (nets ++ here ∷ []) k other) k
-        by_place (inl less) = subst (λ (net : NetValue). P net k) (sym (get_or_append_left nets (here ∷ []) other k less)) (earlier less)
-        by_place (inr more) =
-            let whole = length-append nets (here ∷ []) in
-            let last : length nets ≡ k = omega (arith, below, whole, more) in
-            let same : k ≡ count = sym last ∙ was.lengths in
-            subst (λ n. P (get_or (nets ++ here ∷ []) n other) n) last
-            (subst (λ (net : NetValue). P net (length nets)) (sym (get_or-append_seam nets here [] other)) (subst (P here) (sym was.lengths) latest))
-
 pub demultiplexer_between : (netlist : Netlist) (run : Run) (from : PacketNets) (channel ready : NetValue) (valids readies : List NetValue) (bits : ℕ) (demux : Demultiplexer) → IsEndlessRun netlist run
-    → Always netlist (AreShownOn from.valid channel valids) → Always netlist (λ cycle. Selects (λ item. cycle.net item.number) (cycle.net channel.number) bits readies ready)
+    → Always netlist (AreSetWhere (shown_on from.valid channel) valids) → Always netlist (λ cycle. Selects (λ item. cycle.net item.number) (cycle.net channel.number) bits readies ready)
     → Always netlist (λ cycle. cycle.net channel.number < 2 ^ bits) → length valids ≡ length readies → demux.outputs ≡ length readies
     → IsDemultiplexerRun demux (demultiplexer_run run from channel ready valids readies)
 demultiplexer_between netlist run from channel ready valids readies bits demux endless shown selected fits lengths outputs =

@@ -7,7 +7,8 @@ ghost use Rattle.net_parts.specs.Nets.{IsBit, IsNetOfWidth};
 ghost use Rattle.net_parts.specs.Growth.{AddsNets};
 ghost use Rattle.st_mux.specs.Selecting.{AreBits};
 ghost use Rattle.st_mux.specs.Packets.{ArePacketNets};
-ghost use Rattle.st_mux.specs.DemultiplexerNets.{ShowEach, DemultiplexesInLonger};
+ghost use Rattle.st_mux.specs.DemultiplexerNets.{DemultiplexesInLonger};
+ghost use Rattle.st_mux.specs.Each.{MakesEach, shown_on};
 
 use crate::packet::PacketNets;
 use crate::select::select_bit;
@@ -51,7 +52,7 @@ fn shown_on(
 
 /// For each of so many channels whether a beat is shown on it.
 #[tactic(auto, using(net_parts::specs::Laws::growing))]
-fn shown_on_each(
+pub(crate) fn shown_on_each(
     alloc: Global,
     builder: &mut Builder,
     shown: Net,
@@ -64,7 +65,7 @@ fn shown_on_each(
     requires some { 1 ≤ bits }
     requires small { bits ≤ 4 }
     requires fits { count ≤ 2 ^ bits }
-    ensures each { IfOk result (λ nets. ShowEach builder.old builder.new shown channel nets.items count) }
+    ensures each { IfOk result (λ nets. MakesEach builder.old builder.new (shown_on shown channel) nets.items count) }
     ensures adds { AddsNets (3 * count) builder.old builder.new }
     ensures full { result ≡ Err NetFault.TooManyNets → 2 ^ 20 < length builder.old.lines + 3 * count }
 {

@@ -2,8 +2,12 @@
 #![tactic(auto)]
 
 pub mod demux;
+mod first;
+pub mod mux;
 mod packet;
 mod select;
+mod turns;
 
 pub use demux::{DemultiplexerNets, emit_demultiplexer};
+pub use mux::{MultiplexerNets, emit_multiplexer};
 pub use packet::PacketNets;
