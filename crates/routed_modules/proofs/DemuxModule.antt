@@ -73,10 +73,10 @@ pub record IsJoined (demux : Demultiplexer) (netlist : Netlist) (from : PacketNe
   pub law : DemultiplexesInLonger netlist from channel ready valids readies
 
 -- the net at a port by what drives it
-net_by : (netlist : Netlist) (k n : ℕ) → driver_of netlist k ≡ Some n → port_net netlist k ≡ n
+pub net_by : (netlist : Netlist) (k n : ℕ) → driver_of netlist k ≡ Some n → port_net netlist k ≡ n
 net_by netlist k n e = ap (λ (o : Option ℕ). unwrap_or o (input_net netlist.ports k)) e
 
-input_by : (netlist : Netlist) (k width : ℕ) (net : NetValue) → driver_of netlist k ≡ None → IsInputAt netlist k width net → port_net netlist k ≡ net.number
+pub input_by : (netlist : Netlist) (k width : ℕ) (net : NetValue) → driver_of netlist k ≡ None → IsInputAt netlist k width net → port_net netlist k ≡ net.number
 input_by netlist k width net e at = ap (λ (o : Option ℕ). unwrap_or o (input_net netlist.ports k)) e ∙ sym at.number
 
 module _ (demux : Demultiplexer) (netlist : Netlist) (from : PacketNets) (channel ready : NetValue) (valids readies : List NetValue) (j : IsJoined demux netlist from channel ready valids readies)
@@ -174,11 +174,11 @@ pub record CanDriveAll (demux : Demultiplexer) (netlist : Netlist) (from : Packe
   pub last : IsBit netlist from.last
   pub empty : IfSome (empty_bits demux.symbols) (IsNetOfWidth netlist from.empty)
 
-empty_comes : (netlist : Netlist) (end : List ℕ) (o : Option ℕ) → MayDriveEach netlist (port_if end (codes "empty") o false) (none_if (is_some o))
+pub empty_comes : (netlist : Netlist) (end : List ℕ) (o : Option ℕ) → MayDriveEach netlist (port_if end (codes "empty") o false) (none_if (is_some o))
 empty_comes netlist end None = tt
 empty_comes netlist end (Some width) = (refl, tt)
 
-empty_goes : (netlist : Netlist) (end : List ℕ) (o : Option ℕ) (net : NetValue) → IfSome o (IsNetOfWidth netlist net) → MayDriveEach netlist (port_if end (codes "empty") o true) (driver_if (is_some o) net)
+pub empty_goes : (netlist : Netlist) (end : List ℕ) (o : Option ℕ) (net : NetValue) → IfSome o (IsNetOfWidth netlist net) → MayDriveEach netlist (port_if end (codes "empty") o true) (driver_if (is_some o) net)
 empty_goes netlist end None net h = tt
 empty_goes netlist end (Some width) net h = ((refl, h), tt)
 
@@ -200,10 +200,10 @@ drives_all demux netlist from ready valids can =
 
 -- ---- what waits
 
-waiting_as : (old new : Netlist) (n : ℕ) → new.lines ≡ old.lines → IsWaiting new n → IsWaiting old n
+pub waiting_as : (old new : Netlist) (n : ℕ) → new.lines ≡ old.lines → IsWaiting new n → IsWaiting old n
 waiting_as old new n e w = record { line = w.line; is = subst (λ (lines : List Line). slice_get lines n ≡ Some w.line) e w.is; waits = w.waits }
 
-unwritten_as : (old new : Netlist) (m : ℕ) → new.memories ≡ old.memories → WaitsForWrite new m → WaitsForWrite old m
+pub unwritten_as : (old new : Netlist) (m : ℕ) → new.memories ≡ old.memories → WaitsForWrite new m → WaitsForWrite old m
 unwritten_as old new m e w = record { memory = w.memory; is = subst (λ (memories : List Memory). slice_get memories m ≡ Some w.memory) e w.is; waits = w.waits }
 
 -- ---- from the ports
@@ -325,7 +325,7 @@ module _ (demux : Demultiplexer) (old first made new : Netlist) (from : PacketNe
 -- ---- without what no output depends on
 
 -- what an end shows by the signals on its ports
-abbrev end_by : (List ℕ → Option (ℕ → ℕ)) → EndPorts → List ℕ → EndView
+abbrev pub end_by : (List ℕ → Option (ℕ → ℕ)) → EndPorts → List ℕ → EndView
 end_by shows has end =
     view_of (record {
       ready = shows (port_name end (codes "ready"));

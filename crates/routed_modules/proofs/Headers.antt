@@ -22,7 +22,7 @@ abbrev pub AreWide : List PortLine → Type 0
 AreWide [] = Unit {0}
 AreWide (port ∷ ports) = IsWidth port.width × AreWide ports
 
-wide_append : (xs ys : List PortLine) → AreWide xs → AreWide ys → AreWide (xs ++ ys)
+pub wide_append : (xs ys : List PortLine) → AreWide xs → AreWide ys → AreWide (xs ++ ys)
 wide_append [] ys h k = k
 wide_append (x ∷ xs) ys h k = (h.0, wide_append xs ys h.1 k)
 
@@ -132,15 +132,15 @@ header_of name ports is named apart wide few = record {
 
 -- ---- a demultiplexer's
 
+pub some_product : (a b : ℕ) → 1 ≤ a → 1 ≤ b → 1 ≤ a * b
+some_product zero b some more = absurd (omega (arith, some))
+some_product (suc a) b some more = let whole : suc a * b ≡ a * b + b = omega arith in omega (arith, whole, more)
+
 pub coming_wide : (demux : Demultiplexer) → AreSizes demux.outputs demux.symbols demux.bits → IsWideEnd (coming demux)
 coming_wide demux h =
     let symbols = h.some_symbols in
     let bits = h.some_bits in
     record { word = (some_product demux.symbols demux.bits symbols bits, h.narrow); channel = bits_width demux.outputs; empty = empty_width demux.symbols }
-  where
-    some_product : (a b : ℕ) → 1 ≤ a → 1 ≤ b → 1 ≤ a * b
-    some_product zero b some more = absurd (omega (arith, some))
-    some_product (suc a) b some more = let whole : suc a * b ≡ a * b + b = omega arith in omega (arith, whole, more)
 
 pub going_wide : (demux : Demultiplexer) → AreSizes demux.outputs demux.symbols demux.bits → IsWideEnd (going demux)
 going_wide demux h = let wide = coming_wide demux h in record { word = wide.word; channel = tt; empty = wide.empty }

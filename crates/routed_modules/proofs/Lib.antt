@@ -7,3 +7,7 @@ mod AtPorts
 mod Driving
 mod DemuxModule
 mod InputPorts
+mod InputBeats
+mod MuxBeginnings
+mod MuxHeaders
+mod MuxModule

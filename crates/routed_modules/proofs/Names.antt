@@ -240,6 +240,13 @@ module _ (comes : Bool) (has : EndPorts) (first : ℕ) (rest : List ℕ) (is_end
       all_new_append ports (numbered_ports comes has word count) (end_ports comes has (numbered word count)) (other_new other ports count (omega (arith, few)) is are apart)
       (far other (numbered word count) ports (end_ports comes has (numbered word count)) is (numbered_end first rest count is_end (omega (arith, few))) (apart count) are (of_end comes has (numbered word count)))
 
+  -- and an end of another name is new to all of them
+  pub ends_new : (other : List ℕ) (ports : List PortLine) (count : ℕ) → count ≤ 16 → IsEnd other → AreOf other ports → ((number : ℕ) → numbered word number ≢ other) → AreNew (numbered_ports comes has word count) ports
+  ends_new other ports zero few is are apart = tt
+  ends_new other ports (suc count) few is are apart =
+      new_before (end_ports comes has (numbered word count)) (numbered_ports comes has word count) ports (ends_new other ports count (omega (arith, few)) is are apart)
+      (far (numbered word count) other (end_ports comes has (numbered word count)) ports (numbered_end first rest count is_end (omega (arith, few))) is (apart count) (of_end comes has (numbered word count)) are)
+
 -- ---- what is asked of names
 
 pub distinct_names : (ports : List PortLine) → AreApart ports → AllPairs (λ (p q : PortLine). p.name ≢ q.name) ports

@@ -19,6 +19,13 @@ stands whole part place j n item at is e = subst (λ m. slice_get whole m ≡ So
 pub stands_front : {A : Type 0} (xs ys : List A) → StandsAt (xs ++ ys) 0 xs
 stands_front xs ys j item is = let n : 0 + j ≡ j = omega arith in subst (λ m. slice_get (xs ++ ys) m ≡ Some item) (sym n) (get_front xs ys j item is)
 
+-- in front of more
+pub stands_first : {A : Type 0} (xs ys part : List A) (place : ℕ) → StandsAt xs place part → StandsAt (xs ++ ys) place part
+stands_first xs ys part place at j item is = get_front xs ys (place + j) item (at j item is)
+
+pub stands_whole : {A : Type 0} (xs : List A) → StandsAt xs 0 xs
+stands_whole xs j item is = let n : 0 + j ≡ j = omega arith in subst (λ m. slice_get xs m ≡ Some item) (sym n) is
+
 pub stands_behind : {A : Type 0} (xs ys part : List A) (place : ℕ) → StandsAt ys place part → StandsAt (xs ++ ys) (length xs + place) part
 stands_behind xs ys part place at j item is =
     let n : length xs + place + j ≡ length xs + (place + j) = omega arith in

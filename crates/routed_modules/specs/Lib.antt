@@ -3,4 +3,5 @@ pub mod Ports
 pub mod Drivers
 pub mod Ends
 pub mod Demultiplexers
+pub mod Multiplexers
 pub mod Routed

@@ -3,11 +3,14 @@ use Rattle.netlist.specs.Netlists.{Netlist}
 use Rattle.routed_modules.specs.declared.routed.Routed.{Routed}
 use Rattle.routed_modules.specs.declared.routed.Routed.TheVariants as routed
 use Rattle.routed_modules.specs.Demultiplexers.{AreSizes, demultiplexer, IsDemultiplexerModule}
+use Rattle.routed_modules.specs.Multiplexers.{multiplexer, IsMultiplexerModule}
 
 -- its numbers are in their ranges
 abbrev pub HaveSizes : Routed → Type 0
+HaveSizes (routed.Multiplexer inputs symbols bits) = AreSizes inputs symbols bits
 HaveSizes (routed.Demultiplexer outputs symbols bits) = AreSizes outputs symbols bits
 
 -- the module is the one that is wanted
 abbrev pub IsRoutedModule : Routed → Netlist → Type 0
+IsRoutedModule (routed.Multiplexer inputs symbols bits) netlist = IsMultiplexerModule (multiplexer inputs symbols bits) netlist
 IsRoutedModule (routed.Demultiplexer outputs symbols bits) netlist = IsDemultiplexerModule (demultiplexer outputs symbols bits) netlist

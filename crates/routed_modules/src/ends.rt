@@ -1,10 +1,10 @@
 //! The nets of the inputs at the ends of a module.
 
-ghost use Rattle.std.specs.Prelude.{◌≡◌, ℕ, ◌+◌, ◌*◌, ◌^◌, ◌<◌, ◌≤◌, true, Some, Err, length, IfOk};
+ghost use Rattle.std.specs.Prelude.{◌≡◌, ℕ, ◌+◌, ◌*◌, ◌^◌, ◌<◌, ◌≤◌, true, Some, Err, unwrap_or, length, IfOk};
 ghost use Rattle.netlist.specs.Netlists.{IsNet, IsInputPort};
 ghost use Rattle.net_parts.specs.Growth.{AddsNets};
 ghost use Rattle.st_mux.specs.Packets.{ArePacketNets};
-ghost use Rattle.routed_modules.specs.Ends.{HasEndAt, IsInputIf, IsBeatAt, IsChannelAt, HaveReadies, AreReadies, marks_at};
+ghost use Rattle.routed_modules.specs.Ends.{HasEndAt, IsInputAt, IsInputIf, IsBeatAt, IsChannelAt, HaveReadies, AreReadies, HaveEnds, AreBeats, marks_at};
 
 use crate::header::EndPorts;
 use crate::sizes::one_if;
@@ -29,6 +29,7 @@ fn empty_at(builder: &mut Builder, port: u32, empty: Option<u8>) -> Result<Net, 
     requires { (width : ℕ) → empty ≡ Some width → IsInputPort builder.old.ports port width }
     ensures net { IfOk result (λ net. IsNet builder.new net) }
     ensures at { IfOk result (λ net. IsInputIf builder.new port empty net) }
+    ensures wide { IfOk result (λ net. net.width ≡ unwrap_or empty 1) }
     ensures adds { AddsNets 1 builder.old builder.new }
     ensures full { result ≡ Err NetFault.TooManyNets → 2 ^ 20 < length builder.old.lines + 1 }
 {
@@ -50,6 +51,7 @@ pub(crate) fn beat_at(
     requires small { place ≤ 1000 }
     ensures nets { IfOk result (λ beat. ArePacketNets builder.new beat) }
     ensures at { IfOk result (λ beat. IsBeatAt builder.new place has beat) }
+    ensures wide { IfOk result (λ beat. beat.empty.width ≡ unwrap_or has.empty 1) }
     ensures adds { AddsNets 1 builder.old builder.new }
     ensures full { result ≡ Err NetFault.TooManyNets → 2 ^ 20 < length builder.old.lines + 1 }
 {
@@ -87,4 +89,37 @@ pub(crate) fn readies_at(
         readies.push(builder.input(place + stride * u32::from(number)))?;
     }
     Ok(readies)
+}
+
+/// The beats of so many ends in a row, each with so many ports, of which the first begin the header.
+#[tactic(auto, using(net_parts::specs::Laws::growing))]
+pub(crate) fn beats_at(
+    alloc: Global,
+    builder: &mut Builder,
+    has: EndPorts,
+    stride: u32,
+    count: u8,
+) -> Result<Vec<PacketNets>, NetFault>
+    requires ends { HaveEnds builder.old stride has count }
+    requires packets { has.packets ≡ true }
+    requires narrow { stride ≤ 10 }
+    requires few { count ≤ 16 }
+    ensures beats { IfOk result (λ beats. AreBeats builder.new stride has count beats.items) }
+    ensures adds { AddsNets count builder.old builder.new }
+    ensures full { result ≡ Err NetFault.TooManyNets → 2 ^ 20 < length builder.old.lines + count }
+{
+    let mut beats = Vec::new(alloc);
+    for number in 0..count {
+        let beat = beat_at(builder, stride * u32::from(number), has)?;
+        beats.push(beat)?;
+    }
+    Ok(beats)
+}
+
+/// The ready of an end where beats go out, whose ports begin at this place.
+pub(crate) fn ready_at(builder: &Builder, place: u32) -> Net
+    requires { IsInputPort builder.now.ports place 1 }
+    ensures { IsInputAt builder.now place 1 result }
+{
+    builder.input(place)
 }

@@ -5,8 +5,10 @@ mod demux;
 mod drivers;
 mod ends;
 mod header;
+mod mux;
 mod routed;
 mod sizes;
 
 pub use demux::demux_module;
+pub use mux::mux_module;
 pub use routed::Routed;

@@ -5,6 +5,7 @@ ghost use Rattle.routed_modules.specs.Routed.{HaveSizes, IsRoutedModule};
 ghost use Rattle.routed_modules.specs.Demultiplexers.{AreSizes};
 
 use crate::demux::demux_module;
+use crate::mux::mux_module;
 use av_base::NoMemory;
 use netlist::Module;
 use std::alloc::Global;
@@ -12,6 +13,8 @@ use std::alloc::Global;
 /// A module that leads beats by their channels.
 #[derive(Clone, Copy, Debug, PartialEq, Eq)]
 pub enum Routed {
+    /// A multiplexer of so many inputs, and of so many symbols of so many bits a beat.
+    Multiplexer { inputs: u8, symbols: u8, bits: u8 },
     /// A demultiplexer of so many outputs, and of so many symbols of so many bits a beat.
     Demultiplexer { outputs: u8, symbols: u8, bits: u8 },
 }
@@ -32,6 +35,11 @@ impl Routed {
         ensures { IsTrue result ↔ HaveSizes self }
     {
         match self {
+            Routed::Multiplexer {
+                inputs,
+                symbols,
+                bits,
+            } => are_sizes(inputs, symbols, bits),
             Routed::Demultiplexer {
                 outputs,
                 symbols,
@@ -46,6 +54,11 @@ impl Routed {
         ensures { IfOk result (IsRoutedModule self) }
     {
         match self {
+            Routed::Multiplexer {
+                inputs,
+                symbols,
+                bits,
+            } => mux_module(alloc, inputs, symbols, bits),
             Routed::Demultiplexer {
                 outputs,
                 symbols,
