@@ -3,11 +3,6 @@ use Rattle.std.proofs.Common.{◌≡◌, ℕ, zero, suc, ◌+◌, ◌-◌, ◌*�
 use Rattle.std.specs.Prelude.{nat_lt, if◌then◌else◌, All}
 use Rattle.std.specs.List.{list_all, list_any, prefix_len}
 use Rattle.std.specs.Str.{bytes_eq, IsUtf8}
-use Rattle.std.specs.HashSet.{HashSet, contains_text}
-use Rattle.std.specs.Prelude.{String}
-use Rattle.std.specs.declared.alloc.Global.{Global}
-use Rattle.std.specs.declared.hash.FoldHasher.{FoldHasher}
-use Rattle.std.specs.declared.hash.BuildHasherDefault.{BuildHasherDefault}
 use Rattle.std.proofs.Math.Seq.{drop-cons}
 use Rattle.std.proofs.Math.Pow.{pow_mono}
 use Rattle.std.proofs.lemmas.Bool.{ltb-true, and_parts, false≢true}
@@ -19,7 +14,7 @@ use Rattle.std.proofs.lemmas.Str.{IsUtf8-from_ascii}
 use Rattle.std.proofs.lemmas.Str.Ascii.{IsAscii-from_all}
 use Rattle.vcd_text.specs.declared.port.DumpPort.{DumpPort}
 use Rattle.vcd_reader.specs.Spellings.{is_of_name, is_of_number, is_of_code, number_behind, port_number, is_bit}
-use Rattle.vcd_reader.specs.Reads.{AreNamed}
+use Rattle.vcd_reader.specs.Reads.{Names, has_name, AreNamed}
 
 pub here : (bytes : List ℕ) (at : ℕ) → at < length bytes → drop at bytes ≡ get_or bytes at 0 ∷ drop (at + 1) bytes
 here bytes at inside = let one : suc at ≡ at + 1 = omega arith in drop-cons bytes at 0 inside ∙ ap (λ (k : ℕ). get_or bytes at 0 ∷ drop k bytes) one
@@ -138,9 +133,6 @@ all_small (b ∷ run) e =
 pub run_utf8 : (run : List ℕ) → list_all is_of_name run ≡ true → IsUtf8 run
 run_utf8 run e = IsUtf8-from_ascii run (IsAscii-from_all run (all_small run e))
 
-abbrev Names : Type 0
-Names = HashSet (String Global) (BuildHasherDefault FoldHasher)
-
 chosen : (t u : Bool) → cond t true u ≡ (u || (t || false))
 chosen true true = refl
 chosen true false = refl
@@ -148,13 +140,13 @@ chosen false true = refl
 chosen false false = refl
 
 -- the set with the name of one more port
-pub names_more : (ports : List DumpPort) (port : DumpPort) (bytes : List ℕ) (old new : Names) → bytes ≡ port.name → ((name : List ℕ) → contains_text new name ≡ cond (bytes_eq bytes name) true (contains_text old name)) → AreNamed ports old
+pub names_more : (ports : List DumpPort) (port : DumpPort) (bytes : List ℕ) (old new : Names) → bytes ≡ port.name → ((name : List ℕ) → has_name new name ≡ cond (bytes_eq bytes name) true (has_name old name)) → AreNamed ports old
     → AreNamed (ports ++ port ∷ []) new
 names_more ports port bytes old new is changed are = λ name.
     (
     let test = λ (other : DumpPort). bytes_eq other.name name in
     changed name
-    ∙ ap (λ (b : List ℕ). cond (bytes_eq b name) true (contains_text old name)) is
+    ∙ ap (λ (b : List ℕ). cond (bytes_eq b name) true (has_name old name)) is
     ∙ ap (λ (t : Bool). cond (bytes_eq port.name name) true t) (are name)
     ∙ chosen (bytes_eq port.name name) (list_any test ports)
     ∙ sym (list_any-append test ports (port ∷ []))

@@ -1,9 +1,9 @@
 -- What readers of a dump find, and what they are given.
-use Rattle.std.specs.Prelude.{◌≡◌, ℕ, suc, ◌+◌, ◌≤◌, ◌<◌, Bool, false, ◌&&◌, not, ◌==◌, nat_lt, List, [], ◌∷◌, length, slice_set, Option, Some, None, Result, Ok, Err, String, codes, if◌then◌else◌}
+use Rattle.std.specs.Prelude.{◌≡◌, ℕ, suc, ◌+◌, ◌≤◌, ◌<◌, Bool, false, ◌&&◌, not, ◌==◌, nat_lt, List, [], ◌∷◌, length, slice_set, Option, Some, None, Result, Ok, Err, codes, if◌then◌else◌}
 use Rattle.std.specs.List.{list_any}
 use Rattle.std.specs.Str.{bytes_eq}
-use Rattle.std.specs.HashSet.{HashSet, contains_text}
-use Rattle.std.specs.declared.alloc.Global.{Global}
+use Rattle.std.specs.HashSet.{HashSet, contains_by}
+use Rattle.std.specs.Borrow.{Bor}
 use Rattle.std.specs.declared.hash.FoldHasher.{FoldHasher}
 use Rattle.std.specs.declared.hash.BuildHasherDefault.{BuildHasherDefault}
 use Rattle.av_base.specs.Word.{Word}
@@ -56,9 +56,16 @@ IsFound found (Err stop) rest = IsStop found rest stop
 pub record LetsIn (from below : ℕ) (lets_in : ℕ → Bool) : Type 0 where
   pub is : (k : ℕ) → lets_in k ≡ (not (nat_lt k from) && nat_lt k below)
 
+-- names, each where it stands in the text
+abbrev pub Names : Type 0
+Names = HashSet (Bor (List ℕ)) (BuildHasherDefault FoldHasher)
+
+abbrev pub has_name : Names → List ℕ → Bool
+has_name names name = contains_by (λ (one : Bor (List ℕ)). bytes_eq name one.now) names
+
 -- the set has exactly the names of these ports
-abbrev pub AreNamed : List DumpPort → HashSet (String Global) (BuildHasherDefault FoldHasher) → Type 0
-AreNamed ports names = (name : List ℕ) → contains_text names name ≡ list_any (λ (port : DumpPort). bytes_eq port.name name) ports
+abbrev pub AreNamed : List DumpPort → Names → Type 0
+AreNamed ports names = (name : List ℕ) → has_name names name ≡ list_any (λ (port : DumpPort). bytes_eq port.name name) ports
 
 -- a port of 1 to 128 bits
 pub record HasBits (port : DumpPort) : Type 0 where

@@ -21,16 +21,25 @@ fn port_follows(reader: &mut Reader) -> Result<bool, Rule>
     Ok(reader.begins(b'v'))
 }
 
-/// Reads the line of the port of this number behind those of these names, from its second byte on.
-fn port_line(
+/// Adds the name of a port.
+fn add_name<'a>(names: &mut HashSet<&'a str>, name: &'a str) -> Result<(), NoMemory>
+    ensures { OnOk result ((ports : List DumpPort) (port : DumpPort) → name.now ≡ port.name → AreNamed ports names.old → AreNamed (ports ++ port ∷ []) names.new) }
+{
+    names.insert(name)?;
+    Ok(())
+}
+
+/// Reads the line of the port of this number behind those of these names, from its second byte on, and adds its name.
+fn port_line<'a>(
     alloc: Global,
-    reader: &mut Reader,
+    reader: &mut Reader<'a>,
     number: usize,
-    names: &HashSet<String>,
+    names: &mut HashSet<&'a str>,
 ) -> Result<DumpPort, Stop>
     requires { number < 2 ^ 32 }
-    ensures read { (ports : List DumpPort) → number ≡ length ports → AreNamed ports names.now → IsFound (port_line ports reader.old) result reader.new }
+    ensures read { (ports : List DumpPort) → number ≡ length ports → AreNamed ports names.old → IsFound (port_line ports reader.old) result reader.new }
     ensures bits { IfOk result HasBits }
+    ensures named { IfOk result (λ port. (ports : List DumpPort) → AreNamed ports names.old → AreNamed (ports ++ port ∷ []) names.new) }
 {
     reader.fixed(b"var wire ")?;
     let width = reader.number(Rule::Width, 0, 128)?;
@@ -39,19 +48,11 @@ fn port_line(
     reader.fixed(b" ")?;
     let name = reader.port_name(names)?;
     reader.fixed(b" $end\n")?;
+    add_name(names, name)?;
     Ok(DumpPort {
         name: Text::copy(alloc, name)?,
         width: width as u8,
     })
-}
-
-/// Adds the name of a port.
-fn add_name(alloc: Global, names: &mut HashSet<String>, port: &DumpPort) -> Result<(), NoMemory>
-    ensures { OnOk result ((ports : List DumpPort) → AreNamed ports names.old → AreNamed (ports ++ port.now ∷ []) names.new) }
-{
-    let name = String::from_str(alloc, port.name.as_str())?;
-    names.insert(name)?;
-    Ok(())
 }
 
 /// Reads the lines of the ports, and the first byte of the next line.
@@ -64,8 +65,7 @@ pub(crate) fn port_lines(alloc: Global, reader: &mut Reader) -> Result<List<Dump
     let mut ports = List::new(alloc);
     let mut names = HashSet::new(alloc);
     'ports: while port_follows(reader)? {
-        let port = port_line(alloc, reader, ports.len(), &names)?;
-        add_name(alloc, &mut names, &port)?;
+        let port = port_line(alloc, reader, ports.len(), &mut names)?;
         ports.push(port)?;
     }
     Ok(ports)

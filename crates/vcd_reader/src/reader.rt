@@ -136,7 +136,7 @@ impl<'a> Reader<'a> {
     }
 
     /// Reads the name of a port behind those of these names.
-    pub(crate) fn port_name(&mut self, names: &HashSet<String>) -> Result<&'a str, Rule>
+    pub(crate) fn port_name(&mut self, names: &HashSet<&'a str>) -> Result<&'a str, Rule>
         ensures { (ports : List DumpPort) → AreNamed ports names.now → MatchResult result
             (λ name. hole is_of_name Name (port_name_in ports) self.old ≡ Found.told name.now self.new)
             (λ rule. hole is_of_name Name (port_name_in ports) self.old ≡ Found.broken self.new rule) }

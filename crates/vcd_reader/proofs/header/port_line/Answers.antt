@@ -30,3 +30,6 @@ returns-clause-read c = λ ports is named. (
     port_told ports c.args.reader.now c.fixed.new.self c.number.new.self c.fixed-2.new.self c.code.new.self c.fixed-3.new.self c.port_name.new.self c.fixed-4.new.self c.in_ok-width.width c.in_ok-code.field-0 c.in_ok-name.name.now c.in_ok-fixed.ensures c.in_ok-width.ensures.read c.in_ok-fixed-2.ensures (c.in_ok-code.ensures.read (λ k. k == length ports) (next_port c.args.number (length ports) is)) c.in_ok-fixed-3.ensures
     (c.in_ok-name.ensures ports named) c.in_ok-fixed-4.ensures
     ∙ ap (λ (name : List ℕ). Found.told (record { name = name; width = c.in_ok-width.width }) c.fixed-4.new.self) (sym c.in_ok-copy.ensures))
+
+pub returns-clause-named : goal.returns-clause-named
+returns-clause-named c = λ ports named. c.in_ok-add_name.ensures ports _ (sym c.in_ok-copy.ensures) named

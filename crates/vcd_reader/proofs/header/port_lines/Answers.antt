@@ -41,7 +41,7 @@ ports-preserved c =
     let line = c.in_ok-port.ensures.read ports c.len.ensures c.ports.invariant.named in
     let pushed : ports ++ port ∷ [] ≡ c.push.new.self = sym c.in_ok-push.ensures.ok in
     record {
-      named = subst (λ (ps : List DumpPort). AreNamed ps c.add_name.new.names) pushed (c.in_ok-add_name.ensures ports c.ports.invariant.named);
+      named = subst (λ (ps : List DumpPort). AreNamed ps c.port_line.new.names) pushed (c.in_ok-port.ensures.named ports c.ports.invariant.named);
       bits = subst (All HasBits) pushed (All-push HasBits ports port c.ports.invariant.bits c.in_ok-port.ensures.bits);
       listed = subst (λ (ps : List DumpPort). AreListed start ps rest) pushed (one_listed start ports port c.ports.reader middle rest c.ports.invariant.listed more line);
     }
