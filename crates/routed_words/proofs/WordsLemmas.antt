@@ -1,12 +1,13 @@
 -- Four words, and what words of a module are.
-use Rattle.std.proofs.Common.{◌≡◌, ℕ, List, [], ◌∷◌, length, map, get_or, codes, refl, sym, ap, ◌∙◌, arith}
+use Rattle.std.proofs.Common.{◌≡◌, ◌⊎◌, inl, inr, ℕ, List, [], ◌∷◌, length, map, get_or, codes, refl, sym, ap, ◌∙◌, arith}
+use Rattle.std.specs.Prelude.{decimal}
 use Rattle.std.proofs.lemmas.List.{length-map}
 use Rattle.std.proofs.lemmas.Fmt.{decimal_injective}
 use Rattle.routed_modules.specs.declared.routed.Routed.{Routed}
-use Rattle.routed_modules.specs.declared.routed.Routed.TheVariants.{Demultiplexer}
-use Rattle.routed_modules.specs.Routed.{HaveSizes}
-use Rattle.routed_words.specs.Asking.{module_word, AsksForModule, IsSpelled, AreSpelled}
-use Rattle.routed_words.specs.OneModule.{bits_few}
+use Rattle.routed_modules.specs.declared.routed.Routed.TheVariants.{Multiplexer, Demultiplexer}
+use Rattle.routed_modules.specs.Demultiplexers.{AreSizes}
+use Rattle.routed_words.specs.Asking.{module_word, numbers_of, AsksForModule, IsSpelled, AreSpelled}
+use Rattle.routed_words.specs.OneModule.{bits_few, mux_apart}
 
 -- four words, each by its place
 pub four_words : {A B : Type 0} (f : A → B) (ws : List A) (a b c d : A) → length ws ≡ 4 → a ≡ get_or ws 0 a → b ≡ get_or ws 1 b → c ≡ get_or ws 2 c → d ≡ get_or ws 3 d
@@ -20,34 +21,61 @@ four_words f (v ∷ w ∷ x ∷ y ∷ z ∷ more) a b c d e p q r s = absurd (om
 
 -- words of a module are four
 pub asked_four : {A : Type 0} (f : A → List ℕ) (ws : List A) (wanted : Routed) → AsksForModule wanted (map f ws) → length ws ≡ 4
+asked_four f ws (Multiplexer inputs symbols bits) asks = let size : length (map f ws) ≡ length ws = length-map ws f in sym size ∙ ap length asks.words_are
 asked_four f ws (Demultiplexer outputs symbols bits) asks = let size : length (map f ws) ≡ length ws = length-map ws f in sym size ∙ ap length asks.words_are
 
--- the first of them is the word of a module, and the others spell its numbers
-pub record AreAsked (first second third fourth : List ℕ) : Type 0 where
-  pub outputs : ℕ
+-- the first of them is the word of the module, and the others spell its numbers
+pub record AreAsked (wanted : Routed) (first second third fourth : List ℕ) : Type 0 where
+  pub ends : ℕ
   pub symbols : ℕ
   pub bits : ℕ
-  pub first_is : first ≡ codes "demux"
-  pub spelled : AreSpelled second third fourth outputs symbols bits
-  pub sizes : HaveSizes (Demultiplexer outputs symbols bits)
+  pub first_is : first ≡ module_word wanted
+  pub numbers : numbers_of wanted ≡ ends ∷ symbols ∷ bits ∷ []
+  pub spelled : AreSpelled second third fourth ends symbols bits
 
-pub asked_as : (a b c d : List ℕ) (wanted : Routed) → AsksForModule wanted (a ∷ b ∷ c ∷ d ∷ []) → AreAsked a b c d
-asked_as a b c d (Demultiplexer outputs symbols bits) asks = record {
-  outputs = outputs;
+spelled_of : (a b c d word : List ℕ) (ends symbols bits : ℕ) → a ∷ b ∷ c ∷ d ∷ [] ≡ word ∷ decimal ends ∷ decimal symbols ∷ decimal bits ∷ [] → AreSizes ends symbols bits → AreSpelled b c d ends symbols bits
+spelled_of a b c d word ends symbols bits e sizes =
+    let most = sizes.few_ends in
+    let few = sizes.few_symbols in
+    let narrow = bits_few symbols bits sizes.some_symbols sizes.narrow in
+    record {
+      first_is = record { is = ap (λ (ws : List (List ℕ)). get_or ws 1 []) e; small = omega (arith, most) };
+      second_is = record { is = ap (λ (ws : List (List ℕ)). get_or ws 2 []) e; small = omega (arith, few) };
+      third_is = record { is = ap (λ (ws : List (List ℕ)). get_or ws 3 []) e; small = omega (arith, narrow) };
+    }
+
+pub asked_as : (a b c d : List ℕ) (wanted : Routed) → AsksForModule wanted (a ∷ b ∷ c ∷ d ∷ []) → AreAsked wanted a b c d
+asked_as a b c d (Multiplexer inputs symbols bits) asks = record {
+  ends = inputs;
   symbols = symbols;
   bits = bits;
   first_is = ap (λ (ws : List (List ℕ)). get_or ws 0 []) asks.words_are;
-  spelled = (let ends = asks.sizes.few_ends in let few = asks.sizes.few_symbols in let narrow = bits_few symbols bits asks.sizes.some_symbols asks.sizes.narrow in record {
-    first_is = record { is = ap (λ (ws : List (List ℕ)). get_or ws 1 []) asks.words_are; small = omega (arith, ends) };
-    second_is = record { is = ap (λ (ws : List (List ℕ)). get_or ws 2 []) asks.words_are; small = omega (arith, few) };
-    third_is = record { is = ap (λ (ws : List (List ℕ)). get_or ws 3 []) asks.words_are; small = omega (arith, narrow) };
-  });
-  sizes = asks.sizes;
+  numbers = refl;
+  spelled = spelled_of a b c d (codes "mux") inputs symbols bits asks.words_are asks.sizes;
 }
+asked_as a b c d (Demultiplexer outputs symbols bits) asks = record {
+  ends = outputs;
+  symbols = symbols;
+  bits = bits;
+  first_is = ap (λ (ws : List (List ℕ)). get_or ws 0 []) asks.words_are;
+  numbers = refl;
+  spelled = spelled_of a b c d (codes "demux") outputs symbols bits asks.words_are asks.sizes;
+}
+
+-- a module is known by its word and its numbers
+pub known_by : (one other : Routed) → module_word one ≡ module_word other → numbers_of one ≡ numbers_of other → one ≡ other
+known_by (Multiplexer a b c) (Multiplexer d e f) word numbers = cc
+known_by (Demultiplexer a b c) (Demultiplexer d e f) word numbers = cc
+known_by (Multiplexer a b c) (Demultiplexer d e f) word numbers = absurd (mux_apart word)
+known_by (Demultiplexer a b c) (Multiplexer d e f) word numbers = absurd (mux_apart (sym word))
+
+pub numbers_same : (a b c d e f : ℕ) → a ≡ d → b ≡ e → c ≡ f → a ∷ b ∷ c ∷ [] ≡ d ∷ e ∷ f ∷ []
+numbers_same a b c d e f p q r = rw (p, q, r) refl
 
 -- a word spells one number
 pub one_spelled : (word other : List ℕ) (m n : ℕ) → word ≡ other → IsSpelled word m → IsSpelled other n → m ≡ n
 one_spelled word other m n e p q = let few = p.small in let less = q.small in decimal_injective m n (omega (arith, few)) (omega (arith, less)) (sym p.is ∙ e ∙ q.is)
 
-pub module_words : (word : List ℕ) (wanted : Routed) → module_word wanted ≡ word → word ≡ codes "demux"
-module_words word (Demultiplexer outputs symbols bits) e = sym e
+pub module_words : (word : List ℕ) (wanted : Routed) → module_word wanted ≡ word → (word ≡ codes "mux") ⊎ (word ≡ codes "demux")
+module_words word (Multiplexer inputs symbols bits) e = inl (sym e)
+module_words word (Demultiplexer outputs symbols bits) e = inr (sym e)

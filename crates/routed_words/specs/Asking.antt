@@ -6,9 +6,11 @@ use Rattle.routed_modules.specs.Routed.{HaveSizes}
 
 -- its word, and its numbers
 abbrev pub module_word : Routed → List ℕ
+module_word (routed.Multiplexer inputs symbols bits) = codes "mux"
 module_word (routed.Demultiplexer outputs symbols bits) = codes "demux"
 
 abbrev pub numbers_of : Routed → List ℕ
+numbers_of (routed.Multiplexer inputs symbols bits) = inputs ∷ symbols ∷ bits ∷ []
 numbers_of (routed.Demultiplexer outputs symbols bits) = outputs ∷ symbols ∷ bits ∷ []
 
 -- the word is that of such a module

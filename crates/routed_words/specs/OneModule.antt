@@ -1,10 +1,11 @@
 -- Words ask for one module. No contract reads a proof of it; the crate above cites it.
-use Rattle.std.specs.Prelude.{◌≡◌, ℕ, zero, suc, ◌+◌, ◌*◌, ◌≤◌, List, decimal, slice_get, Some}
-use Rattle.std.proofs.Common.{refl, sym, ap, ◌∙◌, arith}
+use Rattle.std.specs.Prelude.{◌≡◌, ◌≢◌, ℕ, zero, suc, ◌+◌, ◌*◌, ◌≤◌, List, [], ◌∷◌, codes, decimal, slice_get, Some}
+use Rattle.std.proofs.Common.{refl, sym, ap, ◌∙◌, get_or, arith}
 use Rattle.std.proofs.lemmas.Fmt.{decimal_injective}
 use Rattle.std.proofs.lemmas.Option.{same_Some}
 use Rattle.routed_modules.specs.declared.routed.Routed.{Routed}
 use Rattle.routed_modules.specs.declared.routed.Routed.TheVariants as routed
+use Rattle.routed_modules.specs.Demultiplexers.{AreSizes}
 use Rattle.routed_words.specs.Asking.{AsksForModule}
 
 -- so few bits that they are spelled in one way
@@ -15,15 +16,40 @@ bits_few (suc symbols) bits some few = let whole : suc symbols * bits ≡ symbol
 same_number : (m n place : ℕ) (words : List (List ℕ)) → m ≤ 128 → n ≤ 128 → slice_get words place ≡ Some (decimal m) → slice_get words place ≡ Some (decimal n) → m ≡ n
 same_number m n place words few less is also = decimal_injective m n (omega (arith, few)) (omega (arith, less)) (same_Some _ _ (sym is ∙ also))
 
+module _ (words : List (List ℕ)) (word other : List ℕ) (a b c d e f : ℕ) (asks : words ≡ word ∷ decimal a ∷ decimal b ∷ decimal c ∷ []) (others : words ≡ other ∷ decimal d ∷ decimal e ∷ decimal f ∷ [])
+    (sizes : AreSizes a b c) (sizes_too : AreSizes d e f) where
+  here : (place : ℕ) → slice_get words place ≡ slice_get (word ∷ decimal a ∷ decimal b ∷ decimal c ∷ []) place
+  here place = ap (λ (ws : List (List ℕ)). slice_get ws place) asks
+
+  there : (place : ℕ) → slice_get words place ≡ slice_get (other ∷ decimal d ∷ decimal e ∷ decimal f ∷ []) place
+  there place = ap (λ (ws : List (List ℕ)). slice_get ws place) others
+
+  pub same_word : word ≡ other
+  same_word = same_Some _ _ (sym (here 0) ∙ there 0)
+
+  pub same_ends : a ≡ d
+  same_ends = let few = sizes.few_ends in let less = sizes_too.few_ends in same_number a d 1 words (omega (arith, few)) (omega (arith, less)) (here 1) (there 1)
+
+  pub same_symbols : b ≡ e
+  same_symbols = let few = sizes.few_symbols in let less = sizes_too.few_symbols in same_number b e 2 words (omega (arith, few)) (omega (arith, less)) (here 2) (there 2)
+
+  pub same_bits : c ≡ f
+  same_bits = same_number c f 3 words (bits_few b c sizes.some_symbols sizes.narrow) (bits_few e f sizes_too.some_symbols sizes_too.narrow) (here 3) (there 3)
+
+-- the words of two kinds of module differ
+pub mux_apart : codes "mux" ≢ codes "demux"
+mux_apart same = absurd (let no : get_or (codes "mux") 0 0 ≡ get_or (codes "demux") 0 0 = ap (λ w. get_or w 0 0) same in omega (arith, no))
+
 pub one_module : (words : List (List ℕ)) (one other : Routed) → AsksForModule one words → AsksForModule other words → one ≡ other
+one_module words (routed.Multiplexer a b c) (routed.Multiplexer d e f) asks others =
+    let p = asks.words_are in
+    let q = others.words_are in
+    rw (same_ends words _ _ a b c d e f p q asks.sizes others.sizes, same_symbols words _ _ a b c d e f p q asks.sizes others.sizes, same_bits words _ _ a b c d e f p q asks.sizes others.sizes) refl
 one_module words (routed.Demultiplexer a b c) (routed.Demultiplexer d e f) asks others =
-    let here = λ (place : ℕ). ap (λ (ws : List (List ℕ)). slice_get ws place) asks.words_are in
-    let there = λ (place : ℕ). ap (λ (ws : List (List ℕ)). slice_get ws place) others.words_are in
-    let few = asks.sizes.few_ends in
-    let less = others.sizes.few_ends in
-    let few_symbols = asks.sizes.few_symbols in
-    let less_symbols = others.sizes.few_symbols in
-    let ends : a ≡ d = same_number a d 1 words (omega (arith, few)) (omega (arith, less)) (here 1) (there 1) in
-    let symbols : b ≡ e = same_number b e 2 words (omega (arith, few_symbols)) (omega (arith, less_symbols)) (here 2) (there 2) in
-    let bits : c ≡ f = same_number c f 3 words (bits_few b c asks.sizes.some_symbols asks.sizes.narrow) (bits_few e f others.sizes.some_symbols others.sizes.narrow) (here 3) (there 3) in
-    rw (ends, symbols, bits) refl
+    let p = asks.words_are in
+    let q = others.words_are in
+    rw (same_ends words _ _ a b c d e f p q asks.sizes others.sizes, same_symbols words _ _ a b c d e f p q asks.sizes others.sizes, same_bits words _ _ a b c d e f p q asks.sizes others.sizes) refl
+one_module words (routed.Multiplexer a b c) (routed.Demultiplexer d e f) asks others =
+    absurd (mux_apart (same_word words (codes "mux") (codes "demux") a b c d e f asks.words_are others.words_are asks.sizes others.sizes))
+one_module words (routed.Demultiplexer a b c) (routed.Multiplexer d e f) asks others =
+    absurd (mux_apart (sym (same_word words (codes "demux") (codes "mux") a b c d e f asks.words_are others.words_are asks.sizes others.sizes)))

@@ -1,9 +1,9 @@
 //! The words that ask for a module that leads beats by their channels, and the numbers among words.
 #![tactic(auto)]
 
-ghost use Rattle.std.specs.Prelude.{◌≡◌, ◌≢◌, ◌↔◌, ℕ, ◌^◌, ◌<◌, decimal, map, string_bytes, MatchOption, IsTrue};
+ghost use Rattle.std.specs.Prelude.{◌≡◌, ◌≢◌, ◌↔◌, ℕ, ◌^◌, ◌<◌, decimal, map, string_bytes, [], ◌∷◌, MatchOption, IsTrue};
 ghost use Rattle.routed_modules.specs.declared.routed.Routed.{Routed as Wanted};
-ghost use Rattle.routed_words.specs.Asking.{IsModuleWord, AreWordsOf, AsksForModule, IsSpelled, AreSpelled};
+ghost use Rattle.routed_words.specs.Asking.{module_word, numbers_of, IsModuleWord, AreWordsOf, AsksForModule, IsSpelled, AreSpelled};
 
 use byte_lines::Line;
 use routed_modules::Routed;
@@ -42,7 +42,7 @@ fn small_number_of(word: &str) -> Option<u8>
 pub fn is_module_word(word: &str) -> bool
     ensures { IsTrue result ↔ IsModuleWord word.now }
 {
-    word == "demux"
+    word == "mux" || word == "demux"
 }
 
 /// Whether so many words are a module's, and its numbers in their ranges.
@@ -50,6 +50,7 @@ pub fn are_words_of(routed: Routed, words: usize) -> bool
     ensures { IsTrue result ↔ AreWordsOf routed words }
 {
     let count = match routed {
+        Routed::Multiplexer { .. } => 4,
         Routed::Demultiplexer { .. } => 4,
     };
     words == count && routed.has_sizes()
@@ -71,27 +72,40 @@ fn three_numbers(first: &str, second: &str, third: &str) -> Option<(u8, u8, u8)>
     Some((a, b, c))
 }
 
+/// The module that a word asks for, with these numbers.
+fn module_of(word: &str, ends: u8, symbols: u8, bits: u8) -> Option<Routed>
+    ensures { MatchOption result (¬ IsModuleWord word.now) (λ wanted. (module_word wanted ≡ word.now) × (numbers_of wanted ≡ ends ∷ symbols ∷ bits ∷ [])) }
+{
+    if word == "mux" {
+        return Some(Routed::Multiplexer {
+            inputs: ends,
+            symbols,
+            bits,
+        });
+    }
+    if word == "demux" {
+        return Some(Routed::Demultiplexer {
+            outputs: ends,
+            symbols,
+            bits,
+        });
+    }
+    None
+}
+
 /// Reads the words that ask for such a module.
 pub fn read_routed(words: &[String]) -> Option<Routed>
     ensures { MatchOption result ((wanted : Wanted) → ¬ AsksForModule wanted (map string_bytes words.now)) (λ wanted. AsksForModule wanted (map string_bytes words.now)) }
 {
-    let [command, outputs, symbols, bits] = words else {
+    let [command, ends, symbols, bits] = words else {
         return None;
     };
-    if !is_module_word(command.as_str()) {
-        return None;
-    }
-    let Some((outputs, symbols, bits)) = three_numbers(
-        outputs.as_str(),
-        symbols.as_str(),
-        bits.as_str(),
-    ) else {
+    let Some((ends, symbols, bits)) = three_numbers(ends.as_str(), symbols.as_str(), bits.as_str())
+    else {
         return None;
     };
-    let routed = Routed::Demultiplexer {
-        outputs,
-        symbols,
-        bits,
+    let Some(routed) = module_of(command.as_str(), ends, symbols, bits) else {
+        return None;
     };
     if routed.has_sizes() {
         Some(routed)
