@@ -26,9 +26,9 @@ pub struct DemultiplexerNets {
     pub ready: Net,
 }
 
-/// A beat is shown on this channel.
+/// Whether a beat is shown on the channel of this number.
 #[tactic(auto, using(net_parts::specs::Laws::growing))]
-fn shown_on(
+pub fn shown_on(
     builder: &mut Builder,
     shown: Net,
     channel: Net,

@@ -8,6 +8,7 @@ mod packet;
 mod select;
 mod turns;
 
-pub use demux::{DemultiplexerNets, emit_demultiplexer};
+pub use demux::{DemultiplexerNets, emit_demultiplexer, shown_on};
 pub use mux::{MultiplexerNets, emit_multiplexer};
 pub use packet::PacketNets;
+pub use select::select_bit;

@@ -30,7 +30,7 @@ fn half_of(bits: u8) -> usize
 
 /// Of these bits the one that has the number of the index's lowest bits.
 #[tactic(auto, using(net_parts::specs::Laws::growing))]
-pub(crate) fn select_bit(
+pub fn select_bit(
     builder: &mut Builder,
     index: Net,
     bits: u8,

@@ -1,0 +1,5 @@
+pub mod Whole
+pub mod Counts
+pub mod Words
+pub mod Gatherers
+pub mod Flows
