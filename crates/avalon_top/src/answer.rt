@@ -217,7 +217,7 @@ pub fn run<S: Shelf, K: Sink>(alloc: Global, words: &[String], shelf: &mut S, si
     // the text, in each cycle of the waves, and at `Done` of `dump` it is the dump of what stands at all of its ports. At `Done` of
     // `undump` it is the rows of the one dump whose text the file is. At `Done` of `simulate` it is the trace of a run of such a
     // module with what the scenario states; at `Done` of `workload` it tells what is counted in such a run of the workload system of
-    // the number. At `Done` of `demux` the text of a module is written that leads beats by their channels, in every run.
+    // the number. At `Done` of `mux`, `demux` and `gather` the text of a module is written that does so in every run.
     ensures answers { Answers (map string_bytes words.now)
         (record { told = S.told shelf.old; before = S.faults shelf.old; after = S.faults shelf.new; failed = S.failed shelf.new })
         (record { held = K.held sink.old; holds = K.held sink.new; before = K.faults sink.old; after = K.faults sink.new }) result }

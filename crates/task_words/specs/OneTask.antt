@@ -45,6 +45,7 @@ bare_at (Module wanted) bare = absurd bare
 
 pub module_at : (wanted : Routed) → task_at (mark (module_word wanted)) ≡ Workload 0
 unfolding task_at mark
+module_at (routed.Multiplexer inputs symbols bits) = refl
 module_at (routed.Demultiplexer outputs symbols bits) = refl
 
 pub workload_at : (number : ℕ) → task_at (mark (word_of (Workload number))) ≡ Workload 0
@@ -53,6 +54,7 @@ workload_at number = refl
 
 pub no_workload : (wanted : Routed) → module_word wanted ≢ codes "workload"
 unfolding mark
+no_workload (routed.Multiplexer inputs symbols bits) e = let marks : mark (codes "mux") ≡ mark (codes "workload") = ap mark e in absurd (omega (arith, marks))
 no_workload (routed.Demultiplexer outputs symbols bits) e = let marks : mark (codes "demux") ≡ mark (codes "workload") = ap mark e in absurd (omega (arith, marks))
 
 -- a word that isn't a workload's or a module's is that of a bare task

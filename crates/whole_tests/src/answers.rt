@@ -70,7 +70,7 @@ fn sink_of(alloc: Global, room: usize, failing: u64) -> Result<MemSink, NoMemory
 }
 
 /// Words, and what they ask for.
-const TRIED: [(&[&str], Option<Task>); 35] = [
+const TRIED: [(&[&str], Option<Task>); 37] = [
     (&[], None),
     (&["generate"], None),
     (&["generate", "a"], Some(Task::Generate)),
@@ -105,6 +105,17 @@ const TRIED: [(&[&str], Option<Task>); 35] = [
     (&["workload", "1a"], None),
     (&["workload"], None),
     (&["workload", "1", "2"], None),
+    (
+        &["mux", "16", "1", "128"],
+        Some(Task::Module {
+            wanted: Routed::Multiplexer {
+                inputs: 16,
+                symbols: 1,
+                bits: 128,
+            },
+        }),
+    ),
+    (&["mux", "17", "1", "8"], None),
     (
         &["demux", "2", "16", "8"],
         Some(Task::Module {
