@@ -43,7 +43,7 @@ def must(holds, *lines):
 
 # ---- rows of scripts
 
-COMMANDS = ["generate", "simulate", "replay", "workload"]
+COMMANDS = ["generate", "simulate", "replay", "dump", "undump", "workload", "mux", "demux", "gather"]
 
 
 class Row:
