@@ -75,17 +75,17 @@ module _ {F : Type 0} (Can : Type 0) (IsFault : F → Type 0) (answer : F → Ex
   cases exit.NoMemory h = inr h
 
   refused : (e : Exit) → RefusesFiles e → IsAnswerOf IsFault answer e → DoneOrRefused Can IsFault answer e
-  refused exit.Done no h = absurd no
-  refused exit.Usage no h = h
-  refused (exit.ReadFault file) no h = h
-  refused exit.WriteFault no h = h
-  refused (exit.ScriptRefused place rule) no h = h
-  refused (exit.LinkRefused connection rule other) no h = h
-  refused (exit.Limit which count) no h = h
-  refused (exit.VerilogRefused byte rule) no h = h
-  refused (exit.ScenarioRefused file line rule) no h = h
-  refused (exit.DumpRefused byte rule) no h = h
-  refused exit.NoMemory no h = h
+  refused exit.Done names h = absurd names
+  refused exit.Usage names h = h
+  refused (exit.ReadFault file) names h = h
+  refused exit.WriteFault names h = h
+  refused (exit.ScriptRefused place rule) names h = h
+  refused (exit.LinkRefused connection rule other) names h = h
+  refused (exit.Limit which count) names h = h
+  refused (exit.VerilogRefused byte rule) names h = h
+  refused (exit.ScenarioRefused file line rule) names h = h
+  refused (exit.DumpRefused byte rule) names h = h
+  refused exit.NoMemory names h = h
 
   only_done : AreJudged Can IsFault → Can → IsOnly (DoneOrRefused Can IsFault answer) exit.Done
   only_done judged can = record {
@@ -129,7 +129,7 @@ system_refuses refusal.NoMemory = tt
 pub refused_files : (files : List (List ℕ)) (r : Refusal) → AreJudged (IsAccepted files) (IsRefusedBy files) → IsCause files r → IsStop (SystemCallsFor files) (exit_of r)
 refused_files files r judged cause = stops_for (IsAccepted files) (IsRefusedBy files) exit_of system_refuses r judged (⊎_elim (λ e. inl (ap exit_of e)) (λ is. inr is) cause)
 
-pub accepted_files : (files : List (List ℕ)) (plan : PlanTable) → IsPlanned files plan → IsAccepted files
+abbrev pub accepted_files : (files : List (List ℕ)) (plan : PlanTable) → IsPlanned files plan → IsAccepted files
 accepted_files files plan is = record { system = plan.system; stated = is.stated; maps = is.is_plan.maps.kept; links = is.is_plan.links; limits = is.is_plan.limits }
 
 -- they state a plan
@@ -269,7 +269,7 @@ of_files (Module wanted) files e h = inl (only_to_do e h)
 
 -- so these answers aren't called for
 never_called : (task : Task) (files : List (List ℕ)) (e : Exit) → (e ≡ exit.Done → ⊥) → (RefusesFiles e → ⊥) → CallsFor task files e → ⊥
-never_called task files e other no h = ⊎_elim (λ done. other done) (λ r. no r) (of_files task files e h)
+never_called task files e other none h = ⊎_elim (λ done. other done) (λ r. none r) (of_files task files e h)
 
 -- ---- from files to words
 

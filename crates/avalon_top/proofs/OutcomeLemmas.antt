@@ -10,6 +10,7 @@ use Rattle.task_words.specs.declared.Task.TheVariants.{Simulate}
 use Rattle.avalon_top.specs.declared.outcome.Outcome.{Outcome}
 use Rattle.avalon_top.specs.declared.outcome.Outcome.TheVariants.{Text, Trace}
 use Rattle.avalon_top.specs.Run.{Reads, Writes, IsResult, IsOnlyAnswer, Answers, IsRefusal, WritesLine, IsComplete}
+use Rattle.avalon_top.specs.Loading.{StopsFiles}
 use Rattle.avalon_top.specs.Outcome.{IsSimulation, IsOutcome, IsOutcomeOf, CanBeWritten, IsItsText, Ends}
 use Rattle.avalon_top.proofs.AnswerLemmas.{same_answer}
 
@@ -43,6 +44,11 @@ only_done task files (Trace prepared) is = is.only
 -- a result of the same task, with the same text
 pub same_result : (task other : Task) (files : List (List ℕ)) (text result : List ℕ) → task ≡ other → text ≡ result → IsResult other files result → IsResult task files text
 same_result task other files text result same is h = subst (λ (t : Task). IsResult t files text) (sym same) (subst (IsResult other files) (sym is) h)
+
+-- what stops another task of the same files stops this one, where they are the same
+pub stops_same : (task other : Task) (files given : List (List ℕ)) (e : Exit) → task ≡ other → given ≡ files → StopsFiles other given e → StopsFiles task files e
+stops_same task other files given e is same s =
+    subst (λ (t : Task). StopsFiles t files e) (sym is) (subst (λ (fs : List (List ℕ)). StopsFiles other fs e) same s)
 
 -- what is to be written can be written
 pub can_be_written : (words : List (List ℕ)) (reads : Reads) (outcome : Outcome) → IsOutcomeOf words reads outcome → CanBeWritten outcome

@@ -4,7 +4,7 @@ use Rattle.task_words.specs.declared.Task.{Task}
 use Rattle.task_words.specs.declared.Task.TheVariants.{Generate, Check, Replay, Dump, Undump, Workload, Module}
 use Rattle.task_words.specs.Words.{AreItsFiles}
 use Rattle.avalon_top.specs.Loading.{StopsFiles}
-use Rattle.avalon_top.proofs.OutcomeLemmas.{same_result}
+use Rattle.avalon_top.proofs.OutcomeLemmas.{same_result, stops_same}
 use Rattle.avalon_top.proofs.answer.outcome_of.Goals as goal
 use Rattle.avalon_top.proofs.answer.outcome_of.Goals.{in-Generate+in_ok-text-in-Generate, in-Check+in_ok-text-in-Check, in-Replay+in_ok-text-in-Replay, in-Dump+in_ok-text-in-Dump, in-Undump+in_ok-text-in-Undump, in-Workload+in_ok-text-in-Workload, in-Module+in_ok-text-in-Module}
 
@@ -14,6 +14,31 @@ returns-in_err-simulation-in-Simulate-clause-stops c =
     let handed = err_from_is_err_and c.from_residual.result c.from_residual.ensures.1 in
     rw (handed.1, handed.2)
     (subst (λ (t : Task). StopsFiles t c.args.files.items c.in_err-simulation-in-Simulate.field-0.0) (sym c.in-Simulate.is) c.in_err-simulation-in-Simulate.ensures.stops)
+
+pub returns-in_err-text-in-Generate-clause-stops : goal.returns-in_err-text-in-Generate-clause-stops
+returns-in_err-text-in-Generate-clause-stops c =
+    let handed = err_from_is_err_and c.from_residual-in_err-text-in-Generate.result c.from_residual-in_err-text-in-Generate.ensures.1 in
+    rw (handed.1, handed.2) (stops_same c.args.task Generate c.args.files.items c.as_slice.result.now c.in_err-text-in-Generate.field-0.0 c.in-Generate.is c.as_slice.ensures.value c.in_err-text-in-Generate.ensures.stops)
+
+pub returns-in_err-text-in-Check-clause-stops : goal.returns-in_err-text-in-Check-clause-stops
+returns-in_err-text-in-Check-clause-stops c =
+    let handed = err_from_is_err_and c.from_residual-in_err-text-in-Check.result c.from_residual-in_err-text-in-Check.ensures.1 in
+    rw (handed.1, handed.2) (stops_same c.args.task Check c.args.files.items c.as_slice-in-Check.result.now c.in_err-text-in-Check.field-0.0 c.in-Check.is c.as_slice-in-Check.ensures.value c.in_err-text-in-Check.ensures.stops)
+
+pub returns-in_err-text-in-Replay-clause-stops : goal.returns-in_err-text-in-Replay-clause-stops
+returns-in_err-text-in-Replay-clause-stops c =
+    let handed = err_from_is_err_and c.from_residual-in_err-text-in-Replay.result c.from_residual-in_err-text-in-Replay.ensures.1 in
+    rw (handed.1, handed.2) (stops_same c.args.task Replay c.args.files.items c.as_slice-in-Replay.result.now c.in_err-text-in-Replay.field-0.0 c.in-Replay.is c.as_slice-in-Replay.ensures.value c.in_err-text-in-Replay.ensures.stops)
+
+pub returns-in_err-text-in-Dump-clause-stops : goal.returns-in_err-text-in-Dump-clause-stops
+returns-in_err-text-in-Dump-clause-stops c =
+    let handed = err_from_is_err_and c.from_residual-in_err-text-in-Dump.result c.from_residual-in_err-text-in-Dump.ensures.1 in
+    rw (handed.1, handed.2) (stops_same c.args.task Dump c.args.files.items c.as_slice-in-Dump.result.now c.in_err-text-in-Dump.field-0.0 c.in-Dump.is c.as_slice-in-Dump.ensures.value c.in_err-text-in-Dump.ensures.stops)
+
+pub returns-in_err-text-in-Undump-clause-stops : goal.returns-in_err-text-in-Undump-clause-stops
+returns-in_err-text-in-Undump-clause-stops c =
+    let handed = err_from_is_err_and c.from_residual-in_err-text-in-Undump.result c.from_residual-in_err-text-in-Undump.ensures.1 in
+    rw (handed.1, handed.2) (stops_same c.args.task Undump c.args.files.items c.as_slice-in-Undump.result.now c.in_err-text-in-Undump.field-0.0 c.in-Undump.is c.as_slice-in-Undump.ensures.value c.in_err-text-in-Undump.ensures.stops)
 
 pub module_text-requires : goal.module_text-requires
 module_text-requires c = (subst (λ (t : Task). AreItsFiles t (length c.args.files.items)) c.in-Module.is c.requires.enough).enough.1
