@@ -21,7 +21,7 @@ use Rattle.routed_modules.proofs.EndItems.{first_item, last_item, empty_item, ch
 abbrev pub IsNamed : Type 0
 IsNamed = (netlist : Netlist) → IsWellMade netlist → (k : ℕ) (port : PortLine) → slice_get netlist.ports k ≡ Some port → (run : Run) → signal netlist run port.name ≡ Some (λ c. port_value netlist run c k)
 
-beat_by_parts : (w w' ch ch' f f' l l' m m' : ℕ) → w ≡ w' → ch ≡ ch' → f ≡ f' → l ≡ l' → m ≡ m'
+pub beat_by_parts : (w w' ch ch' f f' l l' m m' : ℕ) → w ≡ w' → ch ≡ ch' → f ≡ f' → l ≡ l' → m ≡ m'
     → ◌≡◌ {A = Beat} (record { word = w; channel = ch; error = 0; first = f; last = l; empty = m }) (record { word = w'; channel = ch'; error = 0; first = f'; last = l'; empty = m' })
 beat_by_parts w w' ch ch' f f' l l' m m' p0 p1 p2 p3 p4 = rw (p0, p1, p2, p3, p4) refl
 

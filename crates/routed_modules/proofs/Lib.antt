@@ -6,6 +6,7 @@ mod EndItems
 mod AtPorts
 mod Driving
 mod DemuxModule
+mod GatherModule
 mod InputPorts
 mod InputBeats
 mod MuxBeginnings

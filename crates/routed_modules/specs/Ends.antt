@@ -8,6 +8,7 @@ use Rattle.netlist.specs.Runs.{Always}
 use Rattle.net_parts.specs.Nets.{IsNetOfWidth}
 use Rattle.st_mux.specs.declared.packet.PacketNets.{PacketNets}
 use Rattle.st_mux.specs.Packets.{ArePacketNets}
+use Rattle.st_gather.specs.declared.words.WordNets.{WordNets}
 use Rattle.routed_modules.specs.declared.header.EndPorts.{EndPorts}
 use Rattle.routed_modules.specs.Ports.{end_ports}
 use Rattle.routed_modules.specs.Drivers.{StandsAt}
@@ -42,6 +43,12 @@ pub record IsBeatAt (netlist : Netlist) (place : ℕ) (has : EndPorts) (beat : P
 -- and the channel
 abbrev pub IsChannelAt : Netlist → ℕ → ℕ → NetValue → Type 0
 IsChannelAt netlist place width net = IsInputAt netlist (place + 3) width net
+
+-- the nets are those of the word at an end without packets whose ports stand there
+pub record IsWordAt (netlist : Netlist) (place word_bits channel_bits : ℕ) (nets : WordNets) : Type 0 where
+  pub valid : IsInputAt netlist (place + 1) 1 nets.valid
+  pub word : IsInputAt netlist (place + 2) word_bits nets.word
+  pub channel : IsChannelAt netlist place channel_bits nets.channel
 
 -- each of so many ends begins with a ready that comes in, so many ports behind that of the end before
 abbrev pub HaveReadies : Netlist → ℕ → ℕ → ℕ → Type 0

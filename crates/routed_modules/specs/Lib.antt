@@ -4,4 +4,5 @@ pub mod Drivers
 pub mod Ends
 pub mod Demultiplexers
 pub mod Multiplexers
+pub mod Gatherers
 pub mod Routed

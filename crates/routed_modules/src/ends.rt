@@ -4,12 +4,13 @@ ghost use Rattle.std.specs.Prelude.{◌≡◌, ℕ, ◌+◌, ◌*◌, ◌^◌, �
 ghost use Rattle.netlist.specs.Netlists.{IsNet, IsInputPort};
 ghost use Rattle.net_parts.specs.Growth.{AddsNets};
 ghost use Rattle.st_mux.specs.Packets.{ArePacketNets};
-ghost use Rattle.routed_modules.specs.Ends.{HasEndAt, IsInputAt, IsInputIf, IsBeatAt, IsChannelAt, HaveReadies, AreReadies, HaveEnds, AreBeats, marks_at};
+ghost use Rattle.routed_modules.specs.Ends.{HasEndAt, IsInputAt, IsInputIf, IsBeatAt, IsChannelAt, IsWordAt, HaveReadies, AreReadies, HaveEnds, AreBeats, marks_at};
 
 use crate::header::EndPorts;
 use crate::sizes::one_if;
 use net_parts::level;
 use netlist::{Builder, Net, NetFault};
+use st_gather::WordNets;
 use st_mux::PacketNets;
 use std::alloc::Global;
 
@@ -68,6 +69,23 @@ pub(crate) fn beat_at(
         last,
         empty,
     })
+}
+
+/// The word at an end without packets where beats come in, whose ports begin at this place.
+pub(crate) fn word_at(builder: &Builder, place: u32, has: EndPorts, channel_bits: u8) -> WordNets
+    requires stands { HasEndAt builder.now place has }
+    requires channel { has.channel ≡ Some channel_bits }
+    requires small { place ≤ 1000 }
+    ensures { IsWordAt builder.now place has.word channel_bits result }
+{
+    let valid = builder.input(place + 1);
+    let word = builder.input(place + 2);
+    let channel = channel_at(builder, place, has, channel_bits);
+    WordNets {
+        valid,
+        word,
+        channel,
+    }
 }
 
 /// The readies of so many ends where beats go out, each with so many ports.

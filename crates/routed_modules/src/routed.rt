@@ -3,8 +3,10 @@
 ghost use Rattle.std.specs.Prelude.{◌↔◌, ◌≡◌, IsTrue, IfOk};
 ghost use Rattle.routed_modules.specs.Routed.{HaveSizes, IsRoutedModule};
 ghost use Rattle.routed_modules.specs.Demultiplexers.{AreSizes};
+ghost use Rattle.routed_modules.specs.Gatherers.{AreGathererSizes};
 
 use crate::demux::demux_module;
+use crate::gather::gather_module;
 use crate::mux::mux_module;
 use av_base::NoMemory;
 use netlist::Module;
@@ -14,9 +16,24 @@ use std::alloc::Global;
 #[derive(Clone, Copy, Debug, PartialEq, Eq)]
 pub enum Routed {
     /// A multiplexer of so many inputs, and of so many symbols of so many bits a beat.
-    Multiplexer { inputs: u8, symbols: u8, bits: u8 },
+    Multiplexer {
+        inputs: u8,
+        symbols: u8,
+        bits: u8,
+    },
     /// A demultiplexer of so many outputs, and of so many symbols of so many bits a beat.
-    Demultiplexer { outputs: u8, symbols: u8, bits: u8 },
+    Demultiplexer {
+        outputs: u8,
+        symbols: u8,
+        bits: u8,
+    },
+    /// A gatherer of so many channels, which makes a beat of so many parts, each of so many symbols of so many bits.
+    Gatherer {
+        channels: u8,
+        symbols: u8,
+        parts: u8,
+        bits: u8,
+    },
 }
 
 /// Whether so many ends may share beats of so many symbols of so many bits.
@@ -27,6 +44,19 @@ fn are_sizes(ends: u8, symbols: u8, bits: u8) -> bool
         && (1..=16).contains(&symbols)
         && bits >= 1
         && u16::from(symbols) * u16::from(bits) <= 128
+}
+
+/// Whether beats of so many symbols of so many bits on so many channels may be gathered to so many.
+fn are_gatherer_sizes(channels: u8, symbols: u8, parts: u8, bits: u8) -> bool
+    ensures { IsTrue result ↔ AreGathererSizes channels symbols parts bits }
+{
+    let gathered = u32::from(symbols) * u32::from(parts);
+    (2..=16).contains(&channels)
+        && (1..=16).contains(&symbols)
+        && (2..=16).contains(&parts)
+        && bits >= 1
+        && gathered <= 32
+        && gathered * u32::from(bits) <= 128
 }
 
 impl Routed {
@@ -45,6 +75,12 @@ impl Routed {
                 symbols,
                 bits,
             } => are_sizes(outputs, symbols, bits),
+            Routed::Gatherer {
+                channels,
+                symbols,
+                parts,
+                bits,
+            } => are_gatherer_sizes(channels, symbols, parts, bits),
         }
     }
 
@@ -64,6 +100,12 @@ impl Routed {
                 symbols,
                 bits,
             } => demux_module(alloc, outputs, symbols, bits),
+            Routed::Gatherer {
+                channels,
+                symbols,
+                parts,
+                bits,
+            } => gather_module(alloc, channels, symbols, parts, bits),
         }
     }
 }
