@@ -8,10 +8,22 @@ use Rattle.routed_modules.specs.Routed.{HaveSizes}
 abbrev pub module_word : Routed → List ℕ
 module_word (routed.Multiplexer inputs symbols bits) = codes "mux"
 module_word (routed.Demultiplexer outputs symbols bits) = codes "demux"
+module_word (routed.Gatherer channels symbols parts bits) = codes "gather"
 
 abbrev pub numbers_of : Routed → List ℕ
 numbers_of (routed.Multiplexer inputs symbols bits) = inputs ∷ symbols ∷ bits ∷ []
 numbers_of (routed.Demultiplexer outputs symbols bits) = outputs ∷ symbols ∷ bits ∷ []
+numbers_of (routed.Gatherer channels symbols parts bits) = channels ∷ symbols ∷ parts ∷ bits ∷ []
+
+-- it is one of those with packets
+abbrev pub HasPackets : Routed → Type 0
+HasPackets (routed.Multiplexer inputs symbols bits) = Unit {0}
+HasPackets (routed.Demultiplexer outputs symbols bits) = Unit {0}
+HasPackets (routed.Gatherer channels symbols parts bits) = ⊥
+
+-- the word is that of one with packets
+abbrev pub IsPacketsWord : List ℕ → Type 0
+IsPacketsWord word = (wanted : Routed) × HasPackets wanted × (module_word wanted ≡ word)
 
 -- the word is that of such a module
 abbrev pub IsModuleWord : List ℕ → Type 0

@@ -3,7 +3,8 @@
 
 ghost use Rattle.std.specs.Prelude.{◌≡◌, ◌≢◌, ◌↔◌, ℕ, ◌^◌, ◌<◌, decimal, map, string_bytes, [], ◌∷◌, MatchOption, IsTrue};
 ghost use Rattle.routed_modules.specs.declared.routed.Routed.{Routed as Wanted};
-ghost use Rattle.routed_words.specs.Asking.{module_word, numbers_of, IsModuleWord, AreWordsOf, AsksForModule, IsSpelled, AreSpelled};
+ghost use Rattle.routed_modules.specs.declared.routed.Routed.TheVariants.{Gatherer};
+ghost use Rattle.routed_words.specs.Asking.{module_word, numbers_of, IsModuleWord, IsPacketsWord, HasPackets, AreWordsOf, AsksForModule, IsSpelled, AreSpelled};
 
 use byte_lines::Line;
 use routed_modules::Routed;
@@ -38,11 +39,18 @@ fn small_number_of(word: &str) -> Option<u8>
     }
 }
 
+/// Whether a word asks for a module with packets.
+fn is_packets_word(word: &str) -> bool
+    ensures { IsTrue result ↔ IsPacketsWord word.now }
+{
+    word == "mux" || word == "demux"
+}
+
 /// Whether a word asks for such a module, whatever stands behind it.
 pub fn is_module_word(word: &str) -> bool
     ensures { IsTrue result ↔ IsModuleWord word.now }
 {
-    word == "mux" || word == "demux"
+    is_packets_word(word) || word == "gather"
 }
 
 /// Whether so many words are a module's, and its numbers in their ranges.
@@ -52,6 +60,7 @@ pub fn are_words_of(routed: Routed, words: usize) -> bool
     let count = match routed {
         Routed::Multiplexer { .. } => 4,
         Routed::Demultiplexer { .. } => 4,
+        Routed::Gatherer { .. } => 5,
     };
     words == count && routed.has_sizes()
 }
@@ -72,9 +81,9 @@ fn three_numbers(first: &str, second: &str, third: &str) -> Option<(u8, u8, u8)>
     Some((a, b, c))
 }
 
-/// The module that a word asks for, with these numbers.
+/// The module with packets that a word asks for, with these numbers.
 fn module_of(word: &str, ends: u8, symbols: u8, bits: u8) -> Option<Routed>
-    ensures { MatchOption result (¬ IsModuleWord word.now) (λ wanted. (module_word wanted ≡ word.now) × (numbers_of wanted ≡ ends ∷ symbols ∷ bits ∷ [])) }
+    ensures { MatchOption result (¬ IsPacketsWord word.now) (λ wanted. (module_word wanted ≡ word.now) × (numbers_of wanted ≡ ends ∷ symbols ∷ bits ∷ [])) }
 {
     if word == "mux" {
         return Some(Routed::Multiplexer {
@@ -93,9 +102,9 @@ fn module_of(word: &str, ends: u8, symbols: u8, bits: u8) -> Option<Routed>
     None
 }
 
-/// Reads the words that ask for such a module.
-pub fn read_routed(words: &[String]) -> Option<Routed>
-    ensures { MatchOption result ((wanted : Wanted) → ¬ AsksForModule wanted (map string_bytes words.now)) (λ wanted. AsksForModule wanted (map string_bytes words.now)) }
+/// Reads the words that ask for a module with packets.
+fn read_packets(words: &[String]) -> Option<Routed>
+    ensures { MatchOption result ((wanted : Wanted) → HasPackets wanted → ¬ AsksForModule wanted (map string_bytes words.now)) (λ wanted. AsksForModule wanted (map string_bytes words.now)) }
 {
     let [command, ends, symbols, bits] = words else {
         return None;
@@ -112,4 +121,50 @@ pub fn read_routed(words: &[String]) -> Option<Routed>
     } else {
         None
     }
+}
+
+/// Reads the words that ask for a gatherer.
+fn read_gatherer(words: &[String]) -> Option<Routed>
+    ensures { MatchOption result ((channels symbols parts bits : ℕ) → ¬ AsksForModule (Gatherer channels symbols parts bits) (map string_bytes words.now)) (λ wanted. AsksForModule wanted (map string_bytes words.now)) }
+{
+    let [command, channels, symbols, parts, bits] = words else {
+        return None;
+    };
+    if command.as_str() != "gather" {
+        return None;
+    }
+    let Some((channels, symbols, parts)) = three_numbers(
+        channels.as_str(),
+        symbols.as_str(),
+        parts.as_str(),
+    ) else {
+        return None;
+    };
+    let Some(bits) = small_number_of(bits.as_str()) else {
+        return None;
+    };
+    let routed = Routed::Gatherer {
+        channels,
+        symbols,
+        parts,
+        bits,
+    };
+    if routed.has_sizes() {
+        Some(routed)
+    } else {
+        None
+    }
+}
+
+/// Reads the words that ask for such a module.
+pub fn read_routed(words: &[String]) -> Option<Routed>
+    ensures { MatchOption result ((wanted : Wanted) → ¬ AsksForModule wanted (map string_bytes words.now)) (λ wanted. AsksForModule wanted (map string_bytes words.now)) }
+{
+    if let Some(routed) = read_packets(words) {
+        return Some(routed);
+    }
+    let Some(routed) = read_gatherer(words) else {
+        return None;
+    };
+    Some(routed)
 }

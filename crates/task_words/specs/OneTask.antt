@@ -47,6 +47,7 @@ pub module_at : (wanted : Routed) → task_at (mark (module_word wanted)) ≡ Wo
 unfolding task_at mark
 module_at (routed.Multiplexer inputs symbols bits) = refl
 module_at (routed.Demultiplexer outputs symbols bits) = refl
+module_at (routed.Gatherer channels symbols parts bits) = refl
 
 pub workload_at : (number : ℕ) → task_at (mark (word_of (Workload number))) ≡ Workload 0
 unfolding task_at mark
@@ -55,6 +56,7 @@ workload_at number = refl
 pub no_workload : (wanted : Routed) → module_word wanted ≢ codes "workload"
 unfolding mark
 no_workload (routed.Multiplexer inputs symbols bits) e = let marks : mark (codes "mux") ≡ mark (codes "workload") = ap mark e in absurd (omega (arith, marks))
+no_workload (routed.Gatherer channels symbols parts bits) e = let marks : mark (codes "gather") ≡ mark (codes "workload") = ap mark e in absurd (omega (arith, marks))
 no_workload (routed.Demultiplexer outputs symbols bits) e = let marks : mark (codes "demux") ≡ mark (codes "workload") = ap mark e in absurd (omega (arith, marks))
 
 -- a word that isn't a workload's or a module's is that of a bare task

@@ -70,7 +70,7 @@ fn sink_of(alloc: Global, room: usize, failing: u64) -> Result<MemSink, NoMemory
 }
 
 /// Words, and what they ask for.
-const TRIED: [(&[&str], Option<Task>); 37] = [
+const TRIED: [(&[&str], Option<Task>); 40] = [
     (&[], None),
     (&["generate"], None),
     (&["generate", "a"], Some(Task::Generate)),
@@ -130,6 +130,19 @@ const TRIED: [(&[&str], Option<Task>); 37] = [
     (&["demux", "1", "1", "8"], None),
     (&["demux", "2", "1", "-"], None),
     (&["demux", "+2", "1", "8"], None),
+    (
+        &["gather", "16", "2", "16", "4"],
+        Some(Task::Module {
+            wanted: Routed::Gatherer {
+                channels: 16,
+                symbols: 2,
+                parts: 16,
+                bits: 4,
+            },
+        }),
+    ),
+    (&["gather", "16", "2", "16"], None),
+    (&["gather", "16", "2", "17", "4"], None),
     (&["campaign", "5", "a", "b"], None),
 ];
 

@@ -1,17 +1,14 @@
 use Rattle.std.proofs.Common.{◌≡◌, true, codes, inl, inr, sym, ◌∙◌}
 use Rattle.std.proofs.lemmas.Slice.Eq.{bytes_eq-Decides}
-use Rattle.routed_modules.specs.declared.routed.Routed.TheVariants.{Multiplexer, Demultiplexer}
-use Rattle.routed_words.proofs.WordsLemmas.{module_words}
+use Rattle.routed_modules.specs.declared.routed.Routed.TheVariants.{Gatherer}
+use Rattle.routed_words.proofs.WordsLemmas.{packets_or}
 use Rattle.routed_words.proofs.is_module_word.Goals as goal
 
-pub returns-then-eq : goal.returns-then-eq
-returns-then-eq c = (λ is. (Multiplexer 0 0 0, sym ((bytes_eq-Decides c.args.word.now (codes "mux")).0 (sym c.eq.ensures ∙ is))), λ h. c.if-eq.true)
-
-pub returns-else-eq : goal.returns-else-eq
-returns-else-eq c = (
-  λ is. (Demultiplexer 0 0 0, sym ((bytes_eq-Decides c.args.word.now (codes "demux")).0 (sym c.eq-else-eq.ensures ∙ is))),
-  λ h. elim (module_words c.args.word.now h.0 h.1) [
-    | inl mux ↦ absurd (let yes : c.eq.result ≡ true = c.eq.ensures ∙ (bytes_eq-Decides c.args.word.now (codes "mux")).1 mux in let no = c.if-eq.false in cc)
-    | inr demux ↦ c.eq-else-eq.ensures ∙ (bytes_eq-Decides c.args.word.now (codes "demux")).1 demux
+pub returns-else-is_packets_word : goal.returns-else-is_packets_word
+returns-else-is_packets_word c = (
+  λ is. (Gatherer 0 0 0 0, sym ((bytes_eq-Decides c.args.word.now (codes "gather")).0 (sym c.eq.ensures ∙ is))),
+  λ h. elim (packets_or c.args.word.now h.0 h.1) [
+    | inl packets ↦ absurd (let yes = c.is_packets_word.ensures.1 (h.0, packets, h.1) in let no = c.if-is_packets_word.false in cc)
+    | inr gather ↦ c.eq.ensures ∙ (bytes_eq-Decides c.args.word.now (codes "gather")).1 gather
   ],
 )
