@@ -239,4 +239,5 @@ def main():
     print("all as they must be")
 
 
-main()
+if __name__ == "__main__":
+    main()
