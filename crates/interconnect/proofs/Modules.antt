@@ -32,7 +32,8 @@ use Rattle.interconnect.specs.Streams.{IsStream, IsWired}
 use Rattle.pruned_netlists.specs.Needed.{IsNeeded}
 use Rattle.pruned_netlists.specs.Pruned.{IsPruned}
 use Rattle.pruned_netlists.specs.Inputs.{inputs_needed}
-use Rattle.interconnect.proofs.Unneeded.{memory_pruned, stream_pruned, wired_pruned, counted_at}
+use Rattle.settled_netlists.specs.Settled.{IsSettled}
+use Rattle.interconnect.proofs.Unneeded.{Replaces, KeepsWires, pruned_replaces, settled_replaces, pruned_keeps, settled_keeps, memory_as, stream_as, wired_as, counted_at}
 use Rattle.interconnect.specs.Joins.{IsJoinedUpTo}
 use Rattle.interconnect.specs.Interconnect.{IsInterconnect}
 use Rattle.interconnect.proofs.Weights.{HasFewLinks, memory_few}
@@ -187,7 +188,7 @@ interconnect_is plan netlist fabrics runs goes_on w =
       memory = served plan netlist (memory_in plan netlist w) fabrics runs goes_on;
     }
 
--- ---- without what no output depends on
+-- ---- with constants for settled nets, and without what no output depends on
 
 wire_back : (system : SystemTable) (connection : Connection) (place : ℕ) (source : StreamPort) (sink : StreamPort) → slice_get system.connections place ≡ Some connection → known_at system connection.start ≡ Source source
     → known_at system connection.end ≡ Sink sink → is_wire_at system place ≡ true → is_wire_stream (declared source) (declared sink) connection.fifo ≡ true
@@ -196,13 +197,13 @@ wire_back system connection place source sink is e f test =
     rw (e, f) at wire
 
 -- below the low net of a stream stand those of inputs, and of wires, each of which drives its `dropped`
-lows_needed : (plan : PlanTable) (netlist : Netlist) (number m : ℕ) → (w : IsWhole plan netlist) → IsInterconnect plan netlist → m < input_count netlist.ports + wires_before plan.system number → IsNeeded netlist m
-lows_needed plan netlist number m w i lt = elim (cases_lt m (input_count netlist.ports)) [
-  | inl inside ↦ inputs_needed netlist (input_count netlist.ports) w.well_made (omega arith) m inside
+lows_needed : (plan : PlanTable) (netlist : Netlist) (number m : ℕ) → HasKnownPorts plan.system → IsWellMade netlist → IsInterconnect plan netlist → m < input_count netlist.ports + wires_before plan.system number → IsNeeded netlist m
+lows_needed plan netlist number m ports made i lt = elim (cases_lt m (input_count netlist.ports)) [
+  | inl inside ↦ inputs_needed netlist (input_count netlist.ports) made (omega arith) m inside
   | inr behind ↦
       (let its = counted_at (is_wire_at plan.system) (streams_of plan.system) number (m - input_count netlist.ports) (omega (arith, lt, behind)) in
       let known = stream_number plan.system its.item (among_at (streams_of plan.system) its.place its.item its.at) in
-      let at = stream_at plan.system its.item known.connection w.known.planned known.is known.kind in
+      let at = stream_at plan.system its.item known.connection ports.planned known.is known.kind in
       let source_is = known_is plan.system known.connection.start (Source at.joins.source) at.joins.start in
       let sink_is = known_is plan.system known.connection.end (Sink at.joins.sink) at.joins.end in
       let is : IsStream plan.system its.place known.connection at.joins.source at.joins.sink = record {
@@ -218,17 +219,27 @@ lows_needed plan netlist number m w i lt = elim (cases_lt m (input_count netlist
       subst (IsNeeded netlist) number_is (IsNeeded.drives wired.dropped_port (input_count netlist.ports + wires_before plan.system its.place) wired.dropped))
 ]
 
--- all that is said of the whole module holds of the pruned one
-pub interconnect_pruned : (plan : PlanTable) (whole pruned : Netlist) → IsWhole plan whole → IsPruned whole pruned → IsInterconnect plan whole → IsInterconnect plan pruned
-interconnect_pruned plan whole pruned w p i = record {
-  name = p.name ∙ i.name;
-  ports = p.ports ∙ i.ports;
-  few = (let fewer = p.few in let few = i.few in omega (arith, fewer, few));
+-- all that is said of the whole module holds of one that shows the same and keeps its wires
+interconnect_as : (plan : PlanTable) (whole other : Netlist) → other.name ≡ whole.name → length other.lines ≤ length whole.lines → other.ports ≡ whole.ports → Replaces whole other
+    → ((number : ℕ) → KeepsWires whole other (input_count whole.ports + wires_before plan.system number)) → IsInterconnect plan whole → IsInterconnect plan other
+interconnect_as plan whole other name fewer ports r wires i = record {
+  name = name ∙ i.name;
+  ports = ports ∙ i.ports;
+  few = (let few = i.few in omega (arith, fewer, few));
   wired = λ number connection source sink is wire.
-      subst (λ (ps : List PortLine). IsWired pruned (name_at plan.system connection.start) (name_at plan.system connection.end) (declared source) (input_count ps + wires_before plan.system number)) (sym p.ports)
-      (wired_pruned whole pruned (name_at plan.system connection.start) (name_at plan.system connection.end) (declared source) (input_count whole.ports + wires_before plan.system number) w.well_made p
-      (λ m lt. lows_needed plan whole number m w i lt) (i.wired number connection source sink is wire));
-  streams = λ number connection source sink is. stream_pruned whole pruned (name_at plan.system connection.start) (name_at plan.system connection.end) (declared source) (declared sink) connection.fifo p
+      subst (λ (ps : List PortLine). IsWired other (name_at plan.system connection.start) (name_at plan.system connection.end) (declared source) (input_count ps + wires_before plan.system number)) (sym ports)
+      (wired_as whole other (name_at plan.system connection.start) (name_at plan.system connection.end) (declared source) (input_count whole.ports + wires_before plan.system number) (wires number)
+      (i.wired number connection source sink is wire));
+  streams = λ number connection source sink is. stream_as whole other (name_at plan.system connection.start) (name_at plan.system connection.end) (declared source) (declared sink) connection.fifo r
       (i.streams number connection source sink is);
-  memory = memory_pruned plan whole pruned p i.memory;
+  memory = memory_as plan whole other r i.memory;
 }
+
+pub interconnect_settled : (plan : PlanTable) (whole settled : Netlist) → IsSettled whole settled → IsInterconnect plan whole → IsInterconnect plan settled
+interconnect_settled plan whole settled s i =
+    interconnect_as plan whole settled s.name (let same = s.count in omega (arith, same)) s.ports (settled_replaces whole settled s) (λ number. settled_keeps whole settled (input_count whole.ports + wires_before plan.system number) s) i
+
+pub interconnect_pruned : (plan : PlanTable) (whole pruned : Netlist) → HasKnownPorts plan.system → IsWellMade whole → IsPruned whole pruned → IsInterconnect plan whole → IsInterconnect plan pruned
+interconnect_pruned plan whole pruned ports made p i =
+    interconnect_as plan whole pruned p.name p.few p.ports (pruned_replaces whole pruned p)
+    (λ number. pruned_keeps whole pruned (input_count whole.ports + wires_before plan.system number) made p (λ m lt. lows_needed plan whole number m ports made i lt)) i

@@ -1,4 +1,4 @@
--- What is said of a plan's module holds of the module without what no output depends on.
+-- What is said of a plan's module holds of the one with constants for settled nets, and of the one without what no output depends on.
 use Rattle.std.proofs.Common.{◌≡◌, ℕ, zero, suc, ◌+◌, ◌-◌, ◌^◌, ◌<◌, Bool, true, false, cond, List, [], ◌∷◌, take, count_by, slice_get, Option, Some, refl, sym, ap, subst, ◌∙◌, arith}
 use Rattle.std.specs.Prelude.{codes}
 use Rattle.std.specs.Option.{option_map_or}
@@ -9,8 +9,9 @@ use Rattle.system_tables.specs.declared.tables.EndId.{EndId}
 use Rattle.address_map.specs.Maps.{hosts_of, agents_of}
 use Rattle.link_rules.specs.Plans.{PlanTable}
 use Rattle.netlist.specs.declared.line.PortLine.{PortLine}
-use Rattle.netlist.specs.Netlists.{Netlist, IsWellMade, driver_of, input_net}
-use Rattle.netlist.specs.Runs.{Cycle, Run}
+use Rattle.netlist.specs.declared.line.Equation.TheVariants.{Constant}
+use Rattle.netlist.specs.Netlists.{Netlist, IsWellMade, driver_of, input_net, line_of}
+use Rattle.netlist.specs.Runs.{Cycle, Run, IsRun}
 use Rattle.netlist.specs.Signals.{signal, port_named}
 use Rattle.stream_runs.specs.Source.{IsLegalSource}
 use Rattle.stream_runs.specs.Awake.{IsServedAwake}
@@ -25,8 +26,9 @@ use Rattle.memory_plans.specs.Systems.{memory_system}
 use Rattle.mm_path.specs.Shown.{silent_host, silent_agent, moment_in, standing_still}
 use Rattle.port_tables.specs.Ports.{EndName, port_name, name_at, is_forward, role_word}
 use Rattle.pruned_netlists.specs.Needed.{IsNeeded}
-use Rattle.pruned_netlists.specs.Pruned.{IsPruned, HasWholeState, AreNeededBelow}
+use Rattle.pruned_netlists.specs.Pruned.{IsPruned, HasWholeRun, HasWholeState, AreNeededBelow, over_and_over}
 use Rattle.pruned_netlists.specs.Inputs.{inputs_needed, input_net_few}
+use Rattle.settled_netlists.specs.Settled.{IsSettled}
 use Rattle.interconnect.specs.Memory.{ServesMemory, CanShow, module_run}
 use Rattle.interconnect.specs.Streams.{ServesStream, IsDrivenBy, IsJoinedBy, IsWired}
 
@@ -89,6 +91,31 @@ ends_by shows name = record {
   empty = shows (port_name name (codes "empty"));
 }
 
+-- ---- modules that show the same
+
+-- each run and each valuation of the other module shows what one of the whole module shows
+pub record Replaces (whole other : Netlist) : Type 0 where
+  pub runs : (run : Run) (cycles : ℕ) → IsRun other run cycles → HasWholeRun whole other run cycles
+  pub states : (state : Cycle) → HasWholeState whole other state
+
+pub pruned_replaces : (whole pruned : Netlist) → IsPruned whole pruned → Replaces whole pruned
+pruned_replaces whole pruned p = record { runs = p.runs; states = p.states }
+
+pub settled_replaces : (whole settled : Netlist) → IsSettled whole settled → Replaces whole settled
+settled_replaces whole settled s = record {
+  runs = λ run cycles is. record { whole_run = run; is_run = s.runs run cycles is; inputs = refl; signals = λ name. sym (s.signals run name) };
+  states = λ state. record {
+    whole_state = (s.states state).whole_state;
+    each = λ cycle v same. record {
+      whole_cycle = cycle;
+      valuation = s.valuations cycle v;
+      same_state = (s.states state).each cycle v same;
+      inputs = refl;
+      signals = λ name. sym (s.signals (over_and_over cycle) name);
+    };
+  };
+}
+
 -- ---- memory and streams
 
 can_show : (plan : PlanTable) (whole pruned : Netlist) (state : Cycle) (moment : Moment) → (s : HasWholeState whole pruned state) → CanShow plan pruned state moment → CanShow plan whole s.whole_state moment
@@ -96,8 +123,8 @@ can_show plan whole pruned state moment s c =
     let w = s.each c.0 c.1 c.2 in
     (w.whole_cycle, w.valuation, w.same_state, c.3 ∙ ap (λ (m : MemoryRun). moment_in m 0) (sym (same_memory plan whole pruned (standing_still w.whole_cycle) (standing_still c.0) w.signals)))
 
-pub memory_pruned : (plan : PlanTable) (whole pruned : Netlist) → IsPruned whole pruned → ServesMemory plan whole → ServesMemory plan pruned
-memory_pruned plan whole pruned p h = record {
+pub memory_as : (plan : PlanTable) (whole pruned : Netlist) → Replaces whole pruned → ServesMemory plan whole → ServesMemory plan pruned
+memory_as plan whole pruned p h = record {
   kept = h.kept;
   safe = λ run cycles is legal. (let w = p.runs run cycles is in
       let same = same_memory plan whole pruned w.whole_run run w.signals in
@@ -117,8 +144,8 @@ memory_pruned plan whole pruned p h = record {
       h.ignores_readdata s.whole_state one other (can_show plan whole pruned state one s shows_one) (can_show plan whole pruned state other s shows_other) inputs a lt);
 }
 
-pub stream_pruned : (whole pruned : Netlist) (from to : EndName) (source sink : Declared) (fifo : ℕ) → IsPruned whole pruned → ServesStream whole from to source sink fifo → ServesStream pruned from to source sink fifo
-stream_pruned whole pruned from to source sink fifo p h run cycles is legal =
+pub stream_as : (whole pruned : Netlist) (from to : EndName) (source sink : Declared) (fifo : ℕ) → Replaces whole pruned → ServesStream whole from to source sink fifo → ServesStream pruned from to source sink fifo
+stream_as whole pruned from to source sink fifo p h run cycles is legal =
     let w = p.runs run cycles is in
     let same : signal whole w.whole_run ≡ signal pruned run = fun_ext w.signals in
     subst (λ (shows : Shows). IsServedAwake (stream_of source sink fifo) (run_of (ends_by shows from) (ends_by shows to) (signal_or 0 (shows (port_name to (codes "dropped"))))) cycles) same
@@ -126,27 +153,49 @@ stream_pruned whole pruned from to source sink fifo p h run cycles is legal =
 
 -- ---- wires
 
-driven_pruned : (whole pruned : Netlist) (output input : List ℕ) → IsWellMade whole → IsPruned whole pruned → IsDrivenBy whole output input → IsDrivenBy pruned output input
-driven_pruned whole pruned output input m p d = record {
-  output_port = d.output_port;
-  input_port = d.input_port;
-  output_is = subst (λ (ps : List PortLine). port_named ps output ≡ Some d.output_port) (sym p.ports) d.output_is;
-  input_is = subst (λ (ps : List PortLine). port_named ps input ≡ Some d.input_port) (sym p.ports) d.input_is;
-  driver = subst (λ (ps : List PortLine). driver_of pruned d.output_port ≡ Some (input_net ps d.input_port)) (sym p.ports)
-      (p.drivers d.output_port (input_net whole.ports d.input_port) d.driver (inputs_needed whole (input_net whole.ports d.input_port) m (input_net_few whole.ports d.input_port)));
+-- the other module has the same ports; an input drives what it drove, and so does this low net, which is as it was
+pub record KeepsWires (whole other : Netlist) (low : ℕ) : Type 0 where
+  pub ports : other.ports ≡ whole.ports
+  pub inputs : (k j : ℕ) → driver_of whole k ≡ Some (input_net whole.ports j) → driver_of other k ≡ Some (input_net whole.ports j)
+  pub dropped : (k : ℕ) → driver_of whole k ≡ Some low → driver_of other k ≡ Some low
+  pub is_low : (k : ℕ) → driver_of whole k ≡ Some low → slice_get whole.lines low ≡ Some (line_of 1 (Constant (word 1 0))) → slice_get other.lines low ≡ Some (line_of 1 (Constant (word 1 0)))
+
+pub pruned_keeps : (whole pruned : Netlist) (low : ℕ) → IsWellMade whole → IsPruned whole pruned → AreNeededBelow whole low → KeepsWires whole pruned low
+pruned_keeps whole pruned low m p below = record {
+  ports = p.ports;
+  inputs = λ k j e. p.drivers k (input_net whole.ports j) e (inputs_needed whole (input_net whole.ports j) m (input_net_few whole.ports j));
+  dropped = λ k e. p.drivers k low e below;
+  is_low = λ k e at. p.constants low 1 (word 1 0) at (IsNeeded.drives k low e) below;
 }
 
-joined_pruned : (forward : Bool) (whole pruned : Netlist) (from to : EndName) (role : List ℕ) → IsWellMade whole → IsPruned whole pruned → IsJoinedBy forward whole from to role → IsJoinedBy forward pruned from to role
-joined_pruned true whole pruned from to role m p h = driven_pruned whole pruned (port_name to role) (port_name from role) m p h
-joined_pruned false whole pruned from to role m p h = driven_pruned whole pruned (port_name from role) (port_name to role) m p h
+pub settled_keeps : (whole settled : Netlist) (low : ℕ) → IsSettled whole settled → KeepsWires whole settled low
+settled_keeps whole settled low s = record {
+  ports = s.ports;
+  inputs = λ k j e. s.drivers k ∙ e;
+  dropped = λ k e. s.drivers k ∙ e;
+  is_low = λ k e at. s.constants low 1 (word 1 0) at;
+}
 
-pub wired_pruned : (whole pruned : Netlist) (from to : EndName) (declared : Declared) (low : ℕ) → IsWellMade whole → IsPruned whole pruned → AreNeededBelow whole low → IsWired whole from to declared low → IsWired pruned from to declared low
-wired_pruned whole pruned from to declared low m p below h = record {
-  joined = λ k port at. joined_pruned (is_forward port.role) whole pruned from to (role_word port.role) m p (h.joined k port at);
+driven_as : (whole other : Netlist) (output input : List ℕ) (low : ℕ) → KeepsWires whole other low → IsDrivenBy whole output input → IsDrivenBy other output input
+driven_as whole other output input low w d = record {
+  output_port = d.output_port;
+  input_port = d.input_port;
+  output_is = subst (λ (ps : List PortLine). port_named ps output ≡ Some d.output_port) (sym w.ports) d.output_is;
+  input_is = subst (λ (ps : List PortLine). port_named ps input ≡ Some d.input_port) (sym w.ports) d.input_is;
+  driver = subst (λ (ps : List PortLine). driver_of other d.output_port ≡ Some (input_net ps d.input_port)) (sym w.ports) (w.inputs d.output_port d.input_port d.driver);
+}
+
+joined_as : (forward : Bool) (whole other : Netlist) (from to : EndName) (role : List ℕ) (low : ℕ) → KeepsWires whole other low → IsJoinedBy forward whole from to role → IsJoinedBy forward other from to role
+joined_as true whole other from to role low w h = driven_as whole other (port_name to role) (port_name from role) low w h
+joined_as false whole other from to role low w h = driven_as whole other (port_name from role) (port_name to role) low w h
+
+pub wired_as : (whole other : Netlist) (from to : EndName) (declared : Declared) (low : ℕ) → KeepsWires whole other low → IsWired whole from to declared low → IsWired other from to declared low
+wired_as whole other from to declared low w h = record {
+  joined = λ k port at. joined_as (is_forward port.role) whole other from to (role_word port.role) low w (h.joined k port at);
   dropped_port = h.dropped_port;
-  dropped_is = subst (λ (ps : List PortLine). port_named ps (port_name to (codes "dropped")) ≡ Some h.dropped_port) (sym p.ports) h.dropped_is;
-  dropped = p.drivers h.dropped_port low h.dropped below;
-  is_low = p.constants low 1 (word 1 0) h.is_low (IsNeeded.drives h.dropped_port low h.dropped) below;
+  dropped_is = subst (λ (ps : List PortLine). port_named ps (port_name to (codes "dropped")) ≡ Some h.dropped_port) (sym w.ports) h.dropped_is;
+  dropped = w.dropped h.dropped_port h.dropped;
+  is_low = w.is_low h.dropped_port h.dropped h.is_low;
 }
 
 -- ---- the low nets stand behind those of inputs, each of them needed

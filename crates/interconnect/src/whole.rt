@@ -16,6 +16,7 @@ use mm_runs::{memory_is_read_back, same_beginnings};
 use netlist::{Module, goes_on};
 use port_tables::{PortMap, ports_are_known, start};
 use pruned_netlists::prune;
+use settled_netlists::settle;
 use std::alloc::Global;
 
 /// The interconnect of a plan, and where its ports stand.
@@ -25,7 +26,7 @@ pub struct Built {
     pub ports: PortMap,
 }
 
-/// The module of a plan, without what no output depends on.
+/// The module of a plan, with constants for the nets that are settled and without what no output depends on then.
 pub fn build(alloc: Global, plan: &Plan) -> Result<Built, NoMemory>
     ensures module { IfOk result (λ built. IsInterconnect plan.now built.module) }
     ensures ports { IfOk result (λ built. AreTold plan.now.system built.ports) }
@@ -55,6 +56,8 @@ pub fn build(alloc: Global, plan: &Plan) -> Result<Built, NoMemory>
     join_streams(&mut builder, plan, &ports, lows.as_slice())?;
     builder.well_made();
     let whole = builder.finish();
-    let module = prune(alloc, &whole)?;
+    let settled = settle(alloc, &whole)?;
+    settled.well_made();
+    let module = prune(alloc, &settled)?;
     Ok(Built { module, ports })
 }

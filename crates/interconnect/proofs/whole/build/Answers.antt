@@ -1,8 +1,8 @@
 use Rattle.std.proofs.Common.{subst}
 use Rattle.netlist.specs.Netlists.{Netlist}
-use Rattle.pruned_netlists.specs.Pruned.{IsPruned}
+use Rattle.settled_netlists.specs.Settled.{IsSettled}
 use Rattle.interconnect.proofs.LowNets.{begins}
-use Rattle.interconnect.proofs.Modules.{IsWhole, all_driven, interconnect_is, interconnect_pruned}
+use Rattle.interconnect.proofs.Modules.{IsWhole, all_driven, interconnect_is, interconnect_pruned, interconnect_settled}
 use Rattle.interconnect.proofs.whole.build.Goals as goal
 
 pub join_memory-requires-clause-begun : goal.join_memory-requires-clause-begun
@@ -48,8 +48,9 @@ returns-clause-module c =
       well_made = c.well_made-2.ensures;
       few_links = record { connections = c.links_are_connections.ensures plan is_plan; agents = c.links_are_few.ensures plan is_plan };
     } in
-    let pruned : IsPruned c.join_streams.new.builder c.in_ok-module.module = subst (λ (b : Netlist). IsPruned b c.in_ok-module.module) c.finish-whole.ensures.same c.in_ok-module.ensures in
-    interconnect_pruned plan c.join_streams.new.builder c.in_ok-module.module whole pruned
+    let settled : IsSettled c.join_streams.new.builder c.in_ok-settled.settled = subst (λ (b : Netlist). IsSettled b c.in_ok-settled.settled) c.finish-whole.ensures.same c.in_ok-settled.ensures in
+    interconnect_pruned plan c.in_ok-settled.settled c.in_ok-module.module whole.known c.well_made-3.ensures.well_made c.in_ok-module.ensures
+    (interconnect_settled plan c.join_streams.new.builder c.in_ok-settled.settled settled
     (interconnect_is plan c.join_streams.new.builder (record {
       kept = c.plans_are_memory_plans.ensures.kept plan is_plan;
       safe = c.fabrics_are_served.ensures.safe plan is_plan;
@@ -63,7 +64,7 @@ returns-clause-module c =
       awake = c.same_beginnings.ensures.awake;
       fair = c.same_beginnings.ensures.fair;
       reads = c.memory_is_read_back.ensures;
-    }) (c.goes_on.ensures c.join_streams.new.builder c.well_made-2.ensures) whole)
+    }) (c.goes_on.ensures c.join_streams.new.builder c.well_made-2.ensures) whole))
 
 pub returns-clause-needed : goal.returns-clause-needed
 returns-clause-needed c = c.in_ok-module.ensures.needed
