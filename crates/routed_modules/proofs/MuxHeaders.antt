@@ -1,5 +1,6 @@
 -- The header of a multiplexer.
 use Rattle.std.proofs.Common.{◌≡◌, ◌≢◌, ℕ, ◌≤◌, true, false, ◌∷◌, [], length, length-append, codes, get_or, refl, ap, arith}
+use Rattle.std.specs.Prelude.{nat_le, if◌then◌else◌}
 use Rattle.netlist.specs.Netlists.{IsHeader}
 use Rattle.routed_runs.specs.Multiplexed.{Multiplexer}
 use Rattle.routed_modules.specs.Ports.{numbered, end_ports, numbered_ports}
@@ -21,6 +22,16 @@ few_mux_ports mux h =
     let whole = length-append (numbered_ports true (coming mux) (codes "in") mux.inputs) (end_ports false (going mux) (codes "out")) in
     let few = h.few_ends in
     omega (arith, one, many, whole, few)
+
+-- so few numbers have the channel's bits
+pub few_numbers : (count : ℕ) → 2 ^ bits_for count ≤ 16
+few_numbers count = by_tests (nat_le count 2) (nat_le count 4) (nat_le count 8)
+  where
+    by_tests : (a b c : Bool) → 2 ^ (if a then 1 else if b then 2 else if c then 3 else 4) ≤ 16
+    by_tests true b c = omega arith
+    by_tests false true c = omega arith
+    by_tests false false true = omega arith
+    by_tests false false false = omega arith
 
 output_apart : (number : ℕ) → numbered (codes "in") number ≢ codes "out"
 output_apart number same = absurd (let no : get_or (codes "in") 0 0 ≡ get_or (codes "out") 0 0 = ap (λ w. get_or w 0 0) same in omega (arith, no))

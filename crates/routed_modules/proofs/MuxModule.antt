@@ -1,5 +1,5 @@
 -- In each run of a module whose ports stand on the nets of a multiplexer, it is one.
-use Rattle.std.proofs.Common.{◌≡◌, ℕ, suc, ◌+◌, ◌*◌, ◌<◌, ◌≤◌, Bool, true, false, List, length, codes, slice_get, get_or, Option, Some, None, refl, sym, ap, subst, ◌∙◌, arith}
+use Rattle.std.proofs.Common.{◌≡◌, ℕ, suc, ◌+◌, ◌*◌, ◌^◌, ◌<◌, ◌≤◌, Bool, true, false, List, length, codes, slice_get, get_or, Option, Some, None, refl, sym, ap, subst, ◌∙◌, arith}
 use Rattle.std.specs.Prelude.{unwrap_or, IfSome}
 use Rattle.std.specs.Option.{is_some}
 use Rattle.std.proofs.Math.Path.{fun_ext}
@@ -33,7 +33,7 @@ use Rattle.routed_modules.specs.Multiplexers.{IsFilled, IsMultiplexerModule, com
 use Rattle.routed_modules.proofs.Beginnings.{SameLegal, agree_turned}
 use Rattle.routed_modules.proofs.MuxBeginnings.{same_multiplexed}
 use Rattle.routed_modules.proofs.Driving.{aligned_append, aligned_before}
-use Rattle.routed_modules.proofs.MuxHeaders.{few_mux_ports}
+use Rattle.routed_modules.proofs.MuxHeaders.{few_mux_ports, few_numbers}
 use Rattle.routed_modules.proofs.Places.{stands, stands_first, stands_whole, stands_behind, stands_as, stands_in, length_before}
 use Rattle.routed_modules.proofs.EndItems.{end_length, coming_length}
 use Rattle.routed_modules.proofs.InputPorts.{input_lasts}
@@ -276,7 +276,7 @@ pub record IsMadeOf (mux : Multiplexer) (old first whole : Netlist) (inputs : Li
   pub clocked : IsClocked old
   pub written : IsWritten old
   pub one : AddsNets mux.inputs old first
-  pub more : GrowsBy (17 * length inputs) first whole
+  pub more : GrowsBy (14 * length inputs + 4 * 2 ^ bits_for mux.inputs) first whole
   pub no_more_wait : StillWait whole first
   pub beats : AreBeats first (stride mux) (coming mux) mux.inputs inputs
   pub ready_is : IsInputAt first (stride mux * mux.inputs) 1 ready
@@ -330,13 +330,14 @@ module _ (mux : Multiplexer) (old first whole : Netlist) (inputs : List PacketNe
       let more = m.more.most in
       let inputs_are = m.beats.lengths in
       let most = sizes.few_ends in
+      let numbers = few_numbers mux.inputs in
       let size = ap (λ (lines : List Line). length lines) same.lines in
       let on = extends_twice first whole new m.more.extends e in
       record {
         is = record {
           name = same.name ∙ m.more.extends.keeps.name ∙ m.one.grows.extends.keeps.name ∙ m.name;
           ports = same.ports ∙ made_ports;
-          few = omega (arith, few, begun, one, more, inputs_are, most, size);
+          few = omega (arith, few, begun, one, more, inputs_are, most, numbers, size);
           multiplexes = multiplexes mux new inputs made ready
               (record {
                 well_made = well;

@@ -1,5 +1,6 @@
 pub mod Selecting
 pub mod Each
+pub mod Splitting
 pub mod Packets
 pub mod DemultiplexerNets
 pub mod Choosing

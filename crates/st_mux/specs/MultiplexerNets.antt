@@ -1,5 +1,5 @@
 -- The nets of a multiplexer, and that they are the machine of one.
-use Rattle.std.specs.Prelude.{ℕ, zero, suc, ◌+◌, ◌^◌, ◌<◌, ◌≤◌, ◌≡◌, ◌≢◌, ◌⊎◌, Bool, true, false, ◌&&◌, ◌==◌, not, if◌then◌else◌, IsTrue, List, [], ◌∷◌, length, map}
+use Rattle.std.specs.Prelude.{ℕ, zero, suc, ◌+◌, ◌%◌, ◌^◌, ◌<◌, ◌≤◌, ◌≡◌, ◌≢◌, ◌⊎◌, Bool, true, false, ◌&&◌, ◌==◌, not, if◌then◌else◌, IsTrue, List, [], ◌∷◌, length, map}
 use Rattle.std.proofs.Common.{refl, sym, ap, ◌∙◌, arith, subst, get_or}
 use Rattle.std.proofs.lemmas.List.{get_or-map, length-map}
 use Rattle.std.proofs.Math.Nat.{mod-eq_of_lt}
@@ -17,7 +17,8 @@ use Rattle.st_mux.specs.declared.mux.Turns.{Turns as TurnNets}
 use Rattle.st_mux.specs.Packets.{ArePacketNets, packet_view}
 use Rattle.st_mux.specs.PacketChoices.{shown_in, AreAlike, IsLike, packet_lasts}
 use Rattle.st_mux.specs.Selecting.{AreBits, Selects, bits_last}
-use Rattle.st_mux.specs.Each.{AreSetWhere, shown_on}
+use Rattle.st_mux.specs.Each.{AreSetWhere}
+use Rattle.st_mux.specs.Splitting.{led_to}
 use Rattle.st_mux.specs.Choosing.{is_set, set_at}
 use Rattle.st_mux.specs.Chosen.{IsChosen}
 
@@ -52,7 +53,7 @@ pub record Leads (netlist : Netlist) (inputs : List PacketNets) (turns : TurnNet
   pub count : length made.readies.items ≡ length inputs
   pub chosen : Always netlist (λ cycle. IsChosen (length inputs) (cycle.net turns.holder.number) (is_set cycle (valid_nets inputs)) (cycle.net turns.locked.number == 1) (cycle.net made.channel.number))
   pub led : Always netlist (λ cycle. Selects (shown_in cycle) (cycle.net made.channel.number) bits inputs made.beat)
-  pub shown : Always netlist (AreSetWhere (shown_on ready made.channel) made.readies.items)
+  pub shown : Always netlist (AreSetWhere (led_to ready made.channel bits) made.readies.items)
 
 -- all nets of a multiplexer: what leads its inputs, and what its registers take
 pub record AreMultiplexerNets (netlist : Netlist) (inputs : List PacketNets) (bits : ℕ) (ready : NetValue) (made : MultiplexerNets) : Type 0 where
@@ -147,6 +148,9 @@ module _ (netlist : Netlist) (inputs : List PacketNets) (bits : ℕ) (ready : Ne
   inside : (c : ℕ) → run.net c made.channel.number < length inputs
   inside c = (chosen_at c).is_input (holds c)
 
+  small : (c : ℕ) → run.net c made.channel.number % 2 ^ bits ≡ run.net c made.channel.number
+  small c = mod-eq_of_lt (let below = inside c in omega (arith, below, few))
+
   abbrev view : MultiplexerRun
   view = multiplexer_run run inputs made ready
 
@@ -157,7 +161,7 @@ module _ (netlist : Netlist) (inputs : List PacketNets) (bits : ℕ) (ready : Ne
       ∙ ap (λ (net : NetValue). run.net c net.number == 1) (get_or-map (λ (input : PacketNets). input.valid) inputs i made.beat made.beat.valid below)
 
   led_by : (c : ℕ) (other : PacketNets) → shown_in (cycle_of run c) made.beat ≡ shown_in (cycle_of run c) (get_or inputs (run.net c made.channel.number) other)
-  led_by c other = m.leads.led (cycle_of run c) (at c) other (run.net c made.channel.number) (inside c) (mod-eq_of_lt (let below = inside c in omega (arith, below, few)))
+  led_by c other = m.leads.led (cycle_of run c) (at c) other (run.net c made.channel.number) (inside c) (small c)
 
   pub shows_some : (c : ℕ) → (i : ℕ) × (i < length inputs) × ((other : PacketNets) → shown_in (cycle_of run c) made.beat ≡ shown_in (cycle_of run c) (get_or inputs i other))
   shows_some c = (run.net c made.channel.number, inside c, led_by c)
@@ -179,7 +183,10 @@ module _ (netlist : Netlist) (inputs : List PacketNets) (bits : ℕ) (ready : Ne
         subst (λ n. turns_to n (run.net c turns.holder.number) (run.net c made.channel.number) ≤ turns_to n (run.net c turns.holder.number) i) (sym same) ((chosen_at c).first free i (omega (arith, below, same)) asks_i));
     valid = λ c. ap (λ shown. shown.valid == 1) (led_by c made.beat);
     beat = λ c high. ap (λ shown. record { word = shown.word; channel = run.net c made.channel.number; error = 0; first = shown.first; last = shown.last; empty = shown.empty }) (led_by c made.beat);
-    ready = λ c i below. m.leads.shown (cycle_of run c) (at c) made.channel i (let count = m.leads.count in omega (arith, below, same, count)) ∙ both_turned (run.net c ready.number == 1) (run.net c made.channel.number == i);
+    ready = λ c i below.
+        (m.leads.shown (cycle_of run c) (at c) made.channel i (let count = m.leads.count in omega (arith, below, same, count))
+        ∙ ap (λ n. (run.net c ready.number == 1) && (n == i)) (small c)
+        ∙ both_turned (run.net c ready.number == 1) (run.net c made.channel.number == i));
     holds = λ c. takes turns.holder made.channel m.holder_takes c;
     locks = λ c. ap (λ n. n == 1) (takes turns.locked m.stays m.locked_takes c) ∙ m.stays_value (cycle_of run c) (at c);
   }

@@ -41,7 +41,7 @@ two_halves b some =
     let back : b ≡ (b - 1) + 1 = omega (arith, some) in
     ap (λ n. 2 ^ n) back ∙ pow-add 2 (b - 1) 1 ∙ omega arith
 
-two_fits : (b : ℕ) → 2 ^ suc b ≡ 2 ^ (1 + b)
+pub two_fits : (b : ℕ) → 2 ^ suc b ≡ 2 ^ (1 + b)
 two_fits b = let same : suc b ≡ 1 + b = omega arith in ap (λ n. 2 ^ n) same
 
 module _ {A V : Type 0} (value : A → V) (index b : ℕ) (items : List A) where

@@ -52,7 +52,7 @@ pub fn shown_on(
 
 /// For each of so many channels whether a beat is shown on it.
 #[tactic(auto, using(net_parts::specs::Laws::growing))]
-pub(crate) fn shown_on_each(
+fn shown_on_each(
     alloc: Global,
     builder: &mut Builder,
     shown: Net,

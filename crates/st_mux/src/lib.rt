@@ -6,6 +6,7 @@ mod first;
 pub mod mux;
 mod packet;
 mod select;
+mod split;
 mod turns;
 
 pub use demux::{DemultiplexerNets, emit_demultiplexer, shown_on};

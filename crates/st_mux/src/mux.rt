@@ -9,9 +9,9 @@ ghost use Rattle.st_mux.specs.Packets.{ArePacketNets};
 ghost use Rattle.st_mux.specs.PacketChoices.{AreAlike, IsLike};
 ghost use Rattle.st_mux.specs.MultiplexerNets.{owns_turns, AreTurns, Leads, AreMultiplexerNets, ShowsSomeInput, MultiplexesInLonger};
 
-use crate::demux::shown_on_each;
 use crate::packet::PacketNets;
 use crate::select::select_packet;
+use crate::split::lead_bit;
 use crate::turns::{choose_input, stays_locked, valids_of};
 use av_base::Val;
 use netlist::{Builder, Net, NetFault};
@@ -116,8 +116,8 @@ fn lead(
     requires some { 0 < length inputs.now }
     requires few { length inputs.now ≤ 2 ^ bits }
     ensures leads { IfOk result (λ made. Leads builder.new inputs.now turns.now bits ready made) }
-    ensures adds { AddsNets (17 * length inputs.now - 5) builder.old builder.new }
-    ensures full { result ≡ Err NetFault.TooManyNets → 2 ^ 20 < length builder.old.lines + (17 * length inputs.now - 5) }
+    ensures adds { AddsNets (14 * length inputs.now + 4 * 2 ^ bits - 5) builder.old builder.new }
+    ensures full { result ≡ Err NetFault.TooManyNets → 2 ^ 20 < length builder.old.lines + (14 * length inputs.now + 4 * 2 ^ bits - 5) }
 {
     let asks = valids_of(alloc, inputs)?;
     let channel = choose_input(
@@ -129,7 +129,7 @@ fn lead(
         bits,
     )?;
     let beat = select_packet(builder, channel, bits, inputs)?;
-    let readies = shown_on_each(alloc, builder, ready, channel, bits, inputs.len() as u8)?;
+    let readies = lead_bit(alloc, builder, ready, channel, bits, inputs.len())?;
     Ok(MultiplexerNets {
         beat,
         channel,
@@ -152,9 +152,9 @@ fn make_multiplexer(
     requires some { 0 < length inputs.now }
     requires few { length inputs.now ≤ 2 ^ bits }
     ensures nets { IfOk result (λ made. AreMultiplexerNets builder.new inputs.now bits ready made) }
-    ensures grows { GrowsBy (17 * length inputs.now) builder.old builder.new }
+    ensures grows { GrowsBy (14 * length inputs.now + 4 * 2 ^ bits) builder.old builder.new }
     ensures no_more_wait { OnOk result (StillWait builder.new builder.old) }
-    ensures full { result ≡ Err NetFault.TooManyNets → 2 ^ 20 < length builder.old.lines + 17 * length inputs.now }
+    ensures full { result ≡ Err NetFault.TooManyNets → 2 ^ 20 < length builder.old.lines + (14 * length inputs.now + 4 * 2 ^ bits) }
 {
     let turns = make_turns(builder, bits)?;
     let made = lead(alloc, builder, inputs, &turns, bits, ready)?;
@@ -186,9 +186,9 @@ pub fn emit_multiplexer(
     ensures count { IfOk result (λ made. length made.readies.items ≡ length inputs.now) }
     ensures shows { IfOk result (λ made. ShowsSomeInput builder.new inputs.now made.beat) }
     ensures multiplexes { IfOk result (λ made. MultiplexesInLonger builder.new inputs.now made ready) }
-    ensures grows { GrowsBy (17 * length inputs.now) builder.old builder.new }
+    ensures grows { GrowsBy (14 * length inputs.now + 4 * 2 ^ bits) builder.old builder.new }
     ensures no_more_wait { OnOk result (StillWait builder.new builder.old) }
-    ensures full { result ≡ Err NetFault.TooManyNets → 2 ^ 20 < length builder.old.lines + 17 * length inputs.now }
+    ensures full { result ≡ Err NetFault.TooManyNets → 2 ^ 20 < length builder.old.lines + (14 * length inputs.now + 4 * 2 ^ bits) }
 {
     multiplexer_multiplexes();
     make_multiplexer(alloc, builder, inputs, bits, ready)

@@ -15,7 +15,7 @@ use net_parts::choose;
 use netlist::{Builder, Net, NetFault};
 
 /// How many numbers the bits below the highest one have.
-fn half_of(bits: u8) -> usize
+pub(crate) fn half_of(bits: u8) -> usize
     requires some { 1 ≤ bits }
     requires few { bits ≤ 4 }
     ensures { result ≡ 2 ^ (bits - 1) }
