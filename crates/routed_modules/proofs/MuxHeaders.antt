@@ -1,9 +1,10 @@
 -- The header of a multiplexer.
-use Rattle.std.proofs.Common.{◌≡◌, ◌≢◌, ℕ, ◌≤◌, true, false, ◌∷◌, [], length, length-append, codes, get_or, refl, ap, arith}
+use Rattle.std.proofs.Common.{◌≡◌, ◌≢◌, ℕ, ◌^◌, ◌≤◌, Bool, true, false, ◌∷◌, [], length, length-append, codes, get_or, refl, ap, arith}
 use Rattle.std.specs.Prelude.{nat_le, if◌then◌else◌}
 use Rattle.netlist.specs.Netlists.{IsHeader}
 use Rattle.routed_runs.specs.Multiplexed.{Multiplexer}
 use Rattle.routed_modules.specs.Ports.{numbered, end_ports, numbered_ports}
+use Rattle.routed_modules.specs.Sizes.{bits_for}
 use Rattle.routed_modules.specs.Demultiplexers.{AreSizes}
 use Rattle.routed_modules.specs.Multiplexers.{coming, going, multiplexer_ports}
 use Rattle.routed_modules.proofs.Names.{IsEnd, of_end, apart_append, apart_end, apart_ends, ends_new, named_append, named_of, named_ends}
