@@ -14,9 +14,8 @@ use agent_ends::{AgentLevels, AgentPlaces, AgentPorts};
 use agent_stand_ins::AgentStandIn;
 use av_base::Val;
 use av_files::{Sink, put_all};
-use bench_parts::{Component, level_at};
+use bench_parts::{Component, Simulator, level_at};
 use byte_lines::Line;
-use cycle_sim::Sim;
 use host_stand_ins::CommandLevels;
 use iface_roles::AgentPort;
 use port_rows::InputRow;
@@ -57,7 +56,7 @@ fn put_line<K: Sink>(line: &Line, sink: &mut K) -> bool
 
 impl BenchAgent<'_> {
     /// The command signals in the present cycle.
-    fn levels(&self, sim: &Sim) -> CommandLevels
+    fn levels(&self, sim: &Simulator) -> CommandLevels
         requires stepped { sim.now.stepped ≡ true }
         requires fits { Fits self.now sim.now }
         ensures value { levels_of result ≡ commanded self.now sim.now }
@@ -94,7 +93,7 @@ impl BenchAgent<'_> {
     }
 
     /// The word of the cycle, once the command is known.
-    fn word_answered(&self, sim: &Sim) -> u128
+    fn word_answered(&self, sim: &Simulator) -> u128
         requires stepped { sim.now.stepped ≡ true }
         requires fits { Fits self.now sim.now }
         ensures { result ≡ word_answered self.now sim.now }
@@ -107,7 +106,7 @@ impl BenchAgent<'_> {
     }
 
     /// Sets what it shows in this cycle, once its command is known, in a row that has room for it.
-    pub fn answer(&self, sim: &Sim, row: &mut InputRow)
+    pub fn answer(&self, sim: &Simulator, row: &mut InputRow)
         requires stepped { sim.now.stepped ≡ true }
         requires fits { Fits self.now sim.now }
         requires room { AllFit row.old (sets_answered self.now sim.now) }
@@ -118,7 +117,7 @@ impl BenchAgent<'_> {
     }
 
     /// The line that tells of what it takes.
-    fn taken_line(&self, cycle: u32, sim: &Sim, levels: &CommandLevels) -> Line
+    fn taken_line(&self, cycle: u32, sim: &Simulator, levels: &CommandLevels) -> Line
         requires stepped { sim.now.stepped ≡ true }
         requires fits { Fits self.now sim.now }
         requires word { levels.now.word < 2 ^ (8 * self.now.stand_in.port.word_bytes) }
@@ -169,7 +168,7 @@ impl Component for BenchAgent<'_> {
         self.places.show(row, levels);
     }
 
-    fn tell<K: Sink>(&self, cycle: u32, sim: &Sim, sink: &mut K) -> bool {
+    fn tell<K: Sink>(&self, cycle: u32, sim: &Simulator, sink: &mut K) -> bool {
         let levels = self.levels(sim);
         if !self.stand_in.accepts(&levels) {
             return true;
@@ -177,7 +176,7 @@ impl Component for BenchAgent<'_> {
         put_line(&self.taken_line(cycle, sim, &levels), sink)
     }
 
-    fn count(&self, sim: &Sim) -> Counts {
+    fn count(&self, sim: &Simulator) -> Counts {
         let beats = self.beats_taken(&self.levels(sim));
         Counts {
             taken: u64::from(beats),
@@ -187,7 +186,7 @@ impl Component for BenchAgent<'_> {
         }
     }
 
-    fn end_cycle(&mut self, sim: &Sim) {
+    fn end_cycle(&mut self, sim: &Simulator) {
         let levels = self.levels(sim);
         self.stand_in.take(&levels);
     }

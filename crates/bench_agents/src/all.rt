@@ -19,7 +19,7 @@ use crate::agent::BenchAgent;
 use agent_ends::{AgentPlaces, AgentPorts, script_holds_bytes};
 use agent_stand_ins::AgentStandIn;
 use av_base::NoMemory;
-use cycle_sim::Sim;
+use bench_parts::Simulator;
 use iface_roles::{AgentPort, Finished, proper_records_are_bounded};
 use interconnect::PortMap;
 use link_rules::{Plan, ends_are_known};
@@ -116,7 +116,7 @@ pub fn agents_of_plan<'a>(
 }
 
 /// Sets what all of them show in this cycle, once their commands are known, in a row that has room for it.
-pub fn answer_all(agents: &[BenchAgent], sim: &Sim, row: &mut InputRow)
+pub fn answer_all(agents: &[BenchAgent], sim: &Simulator, row: &mut InputRow)
     requires stepped { sim.now.stepped ≡ true }
     requires fits { (a : ℕ) (agent : BenchAgentValue) → slice_get agents.now a ≡ Some agent → Fits agent sim.now }
     requires room { AllFit row.old (flat_map (λ agent. sets_answered agent sim.now) agents.now) }

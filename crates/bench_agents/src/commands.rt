@@ -5,8 +5,7 @@ ghost use Rattle.histories.specs.History.{one_if};
 ghost use Rattle.scenario_tables.specs.Statements.{all_lanes};
 ghost use Rattle.bench_parts.specs.Outputs.{level_now, IsOutputIf};
 
-use bench_parts::level_at;
-use cycle_sim::Sim;
+use bench_parts::{Simulator, level_at};
 
 /// All lanes of a word.
 pub(crate) fn all_lanes(word_bytes: u8) -> u16
@@ -17,7 +16,7 @@ pub(crate) fn all_lanes(word_bytes: u8) -> u16
 }
 
 /// Whether an output of one bit is high; an absent one is low.
-pub(crate) fn is_high(sim: &Sim, port: Option<u32>) -> bool
+pub(crate) fn is_high(sim: &Simulator, port: Option<u32>) -> bool
     requires stepped { sim.now.stepped ≡ true }
     requires there { IsOutputIf sim.now.netlist 1 port }
     ensures { one_if result ≡ level_now sim.now 0 port }
@@ -26,7 +25,7 @@ pub(crate) fn is_high(sim: &Sim, port: Option<u32>) -> bool
 }
 
 /// The level at an output of at most 4 bits, 0 where it is absent.
-pub(crate) fn nibble_at(sim: &Sim, port: Option<u32>) -> u8
+pub(crate) fn nibble_at(sim: &Simulator, port: Option<u32>) -> u8
     requires stepped { sim.now.stepped ≡ true }
     requires there { IsOutputIf sim.now.netlist 4 port }
     ensures { result ≡ level_now sim.now 0 port }
@@ -35,7 +34,7 @@ pub(crate) fn nibble_at(sim: &Sim, port: Option<u32>) -> u8
 }
 
 /// The level at an output of at most 16 bits.
-pub(crate) fn short_at(sim: &Sim, port: Option<u32>, absent: u16) -> u16
+pub(crate) fn short_at(sim: &Simulator, port: Option<u32>, absent: u16) -> u16
     requires stepped { sim.now.stepped ≡ true }
     requires there { IsOutputIf sim.now.netlist 16 port }
     ensures value { result ≡ level_now sim.now absent port }
@@ -45,7 +44,7 @@ pub(crate) fn short_at(sim: &Sim, port: Option<u32>, absent: u16) -> u16
 }
 
 /// The level at an output of at most 32 bits, 0 where it is absent.
-pub(crate) fn address_at(sim: &Sim, port: Option<u32>) -> u32
+pub(crate) fn address_at(sim: &Simulator, port: Option<u32>) -> u32
     requires stepped { sim.now.stepped ≡ true }
     requires there { IsOutputIf sim.now.netlist 32 port }
     ensures { result ≡ level_now sim.now 0 port }

@@ -19,8 +19,7 @@ ghost use Rattle.bench_hosts.specs.Hosts.{AreFirstHosts, Fits, IsFirstHost, behi
 
 use av_base::{NoMemory, Val};
 use av_files::{Sink, put_all};
-use bench_parts::{Component, level_at};
-use cycle_sim::Sim;
+use bench_parts::{Component, Simulator, level_at};
 use host_ends::{HostPlaces, HostPorts};
 use host_stand_ins::HostStandIn;
 use iface_roles::{Finished, HostPort, proper_records_are_bounded};
@@ -121,7 +120,7 @@ pub fn hosts_of_plan<'a>(
 }
 
 impl BenchHost<'_> {
-    fn waits(&self, sim: &Sim) -> bool
+    fn waits(&self, sim: &Simulator) -> bool
         requires stepped { sim.now.stepped ≡ true }
         requires fits { Fits self.now sim.now }
         ensures { result ≡ is_raised (level_now sim.now 0 self.now.ports.wait) }
@@ -130,7 +129,7 @@ impl BenchHost<'_> {
     }
 
     /// Whether it is given a word in the present cycle.
-    fn is_given(&self, sim: &Sim) -> bool
+    fn is_given(&self, sim: &Simulator) -> bool
         requires stepped { sim.now.stepped ≡ true }
         requires fits { Fits self.now sim.now }
         ensures { result ≡ is_given self.now sim.now }
@@ -143,7 +142,7 @@ impl BenchHost<'_> {
     }
 
     /// The word that answers it in the present cycle.
-    fn word(&self, sim: &Sim) -> Val
+    fn word(&self, sim: &Simulator) -> Val
         requires stepped { sim.now.stepped ≡ true }
         requires fits { Fits self.now sim.now }
         ensures { result ≡ word (8 * self.now.stand_in.port.word_bytes) (level_now sim.now 0 self.now.ports.word) }
@@ -168,7 +167,7 @@ impl Component for BenchHost<'_> {
         self.places.show(row, self.stand_in.shown());
     }
 
-    fn tell<K: Sink>(&self, cycle: u32, sim: &Sim, sink: &mut K) -> bool {
+    fn tell<K: Sink>(&self, cycle: u32, sim: &Simulator, sink: &mut K) -> bool {
         if !self.is_given(sim) {
             return true;
         }
@@ -180,7 +179,7 @@ impl Component for BenchHost<'_> {
         put_all(sink, line.as_slice())
     }
 
-    fn count(&self, sim: &Sim) -> Counts {
+    fn count(&self, sim: &Simulator) -> Counts {
         Counts {
             taken: 0,
             answered: u64::from(self.is_given(sim)),
@@ -189,7 +188,7 @@ impl Component for BenchHost<'_> {
         }
     }
 
-    fn end_cycle(&mut self, sim: &Sim) {
+    fn end_cycle(&mut self, sim: &Simulator) {
         let waits = self.waits(sim);
         self.stand_in.go_on(waits);
     }

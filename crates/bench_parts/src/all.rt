@@ -9,8 +9,8 @@ ghost use Rattle.bench_parts.specs.Counting.{AreFew, HaveRoom, counted_together}
 ghost use Rattle.bench_parts.specs.Writing.{text_of, HoldsPart};
 
 use crate::component::Component;
+use crate::simulator::Simulator;
 use av_files::Sink;
-use cycle_sim::Sim;
 use port_rows::{InputRow, levels_stand};
 use trace_lines::Counts;
 
@@ -29,7 +29,7 @@ pub fn show_all<C: Component>(components: &[C], row: &mut InputRow)
 pub fn tell_all<C: Component, K: Sink>(
     components: &[C],
     cycle: u32,
-    sim: &Sim,
+    sim: &Simulator,
     sink: &mut K,
 ) -> bool
     requires stepped { sim.now.stepped ≡ true }
@@ -49,7 +49,7 @@ pub fn tell_all<C: Component, K: Sink>(
 }
 
 /// Ends the present cycle of all of them.
-pub fn end_cycle_of_all<C: Component>(components: &mut [C], sim: &Sim)
+pub fn end_cycle_of_all<C: Component>(components: &mut [C], sim: &Simulator)
     requires stepped { sim.now.stepped ≡ true }
     requires fits { (k : ℕ) (component : C) → slice_get components.old k ≡ Some component → C.fits component sim.now }
     ensures count { length components.new ≡ length components.old }
@@ -75,7 +75,7 @@ fn with_more(counts: Counts, more: Counts) -> Counts
 }
 
 /// Adds what all of them count in the present cycle to counts that have room for it.
-pub fn count_all<C: Component>(components: &[C], sim: &Sim, counts: Counts) -> Counts
+pub fn count_all<C: Component>(components: &[C], sim: &Simulator, counts: Counts) -> Counts
     requires stepped { sim.now.stepped ≡ true }
     requires fits { (k : ℕ) (component : C) → slice_get components.now k ≡ Some component → C.fits component sim.now }
     requires room { HaveRoom (length components.now) counts }

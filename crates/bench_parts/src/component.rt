@@ -7,8 +7,8 @@ ghost use Rattle.trace_lines.specs.declared.counts.Counts.{Counts as Counted};
 ghost use Rattle.bench_parts.specs.Counting.{AreFew};
 ghost use Rattle.bench_parts.specs.Writing.{text_of, HoldsPart};
 
+use crate::simulator::Simulator;
 use av_files::Sink;
-use cycle_sim::Sim;
 use port_rows::InputRow;
 use trace_lines::Counts;
 
@@ -36,7 +36,7 @@ pub trait Component {
         ensures { row.new ≡ set_levels row.old (sets self.now) };
 
     /// Writes the lines that tell of it in the present cycle, which has this number.
-    fn tell<K: Sink>(&self, cycle: u32, sim: &Sim, sink: &mut K) -> bool
+    fn tell<K: Sink>(&self, cycle: u32, sim: &Simulator, sink: &mut K) -> bool
         requires stepped { sim.now.stepped ≡ true }
         requires fits { fits self.now sim.now }
         ensures all { OnTrue result (K.held sink.new ≡ with_more (K.held sink.old) (text_of (tells self.now sim.now cycle))) }
@@ -46,14 +46,14 @@ pub trait Component {
         ensures below { K.faults sink.old < 2 ^ 64 → K.faults sink.new < 2 ^ 64 };
 
     /// What it adds to the counts in the present cycle.
-    fn count(&self, sim: &Sim) -> Counts
+    fn count(&self, sim: &Simulator) -> Counts
         requires stepped { sim.now.stepped ≡ true }
         requires fits { fits self.now sim.now }
         ensures value { result ≡ counts self.now sim.now }
         ensures few { AreFew result };
 
     /// Ends the present cycle.
-    fn end_cycle(&mut self, sim: &Sim)
+    fn end_cycle(&mut self, sim: &Simulator)
         requires stepped { sim.now.stepped ≡ true }
         requires fits { fits self.old sim.now }
         ensures { follows self.old sim.now self.new };

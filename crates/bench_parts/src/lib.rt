@@ -3,8 +3,11 @@
 
 mod all;
 mod component;
+mod kind;
 mod outputs;
+mod simulator;
 
 pub use all::{count_all, end_cycle_of_all, show_all, tell_all};
 pub use component::Component;
 pub use outputs::level_at;
+pub use simulator::Simulator;

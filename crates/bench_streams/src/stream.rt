@@ -22,9 +22,8 @@ ghost use Rattle.bench_streams.specs.Streams.{AreFirstStreams, Fits, IsFirstStre
 use crate::laws::{links_are_few, links_are_sound, outputs_are_within};
 use av_base::{NoMemory, Val};
 use av_files::{Sink, put_all};
-use bench_parts::{Component, level_at};
+use bench_parts::{Component, Simulator, level_at};
 use byte_lines::Line;
-use cycle_sim::Sim;
 use iface_roles::{Role, StreamPort};
 use interconnect::PortMap;
 use link_rules::{Plan, StreamLink};
@@ -177,7 +176,7 @@ fn put_if<K: Sink>(sink: &mut K, line: Option<Line>) -> bool
 
 impl BenchStream<'_> {
     /// The module is ready for the source's beat in the present cycle.
-    fn is_answered(&self, sim: &Sim) -> bool
+    fn is_answered(&self, sim: &Simulator) -> bool
         requires stepped { sim.now.stepped ≡ true }
         requires fits { Fits self.now sim.now }
         ensures { result ≡ is_answered self.now sim.now }
@@ -194,7 +193,7 @@ impl BenchStream<'_> {
     }
 
     /// A beat that its source shows transfers in the present cycle.
-    fn may_send(&self, sim: &Sim) -> bool
+    fn may_send(&self, sim: &Simulator) -> bool
         requires stepped { sim.now.stepped ≡ true }
         requires fits { Fits self.now sim.now }
         ensures { result ≡ (nat_lt 0 (port_pace self.now.source).latency || is_answered self.now sim.now) }
@@ -203,7 +202,7 @@ impl BenchStream<'_> {
     }
 
     /// A beat at its sink transfers in the present cycle.
-    fn is_got(&self, sim: &Sim) -> bool
+    fn is_got(&self, sim: &Simulator) -> bool
         requires stepped { sim.now.stepped ≡ true }
         requires fits { Fits self.now sim.now }
         ensures { result ≡ is_got self.now sim.now }
@@ -214,7 +213,7 @@ impl BenchStream<'_> {
     }
 
     /// A beat is dropped in the present cycle.
-    fn is_dropped(&self, sim: &Sim) -> bool
+    fn is_dropped(&self, sim: &Simulator) -> bool
         requires stepped { sim.now.stepped ≡ true }
         requires fits { Fits self.now sim.now }
         ensures { result ≡ is_dropped self.now sim.now }
@@ -239,7 +238,7 @@ impl BenchStream<'_> {
     }
 
     /// The beat on the ports of its sink in the present cycle, as a trace tells it.
-    fn got_beat(&self, sim: &Sim) -> ShownBeat
+    fn got_beat(&self, sim: &Simulator) -> ShownBeat
         requires stepped { sim.now.stepped ≡ true }
         requires fits { Fits self.now sim.now }
         ensures { result ≡ told_beat self.now.sink (beat_now self.now sim.now) }
@@ -262,7 +261,7 @@ impl BenchStream<'_> {
     }
 
     /// The line of the beat that is sent in the present cycle, if one is.
-    fn sent(&self, cycle: u32, sim: &Sim) -> Option<Line>
+    fn sent(&self, cycle: u32, sim: &Simulator) -> Option<Line>
         requires stepped { sim.now.stepped ≡ true }
         requires fits { Fits self.now sim.now }
         ensures { line_if result ≡ only_if (is_sent self.now sim.now) (sent_line cycle self.now.source_name (told_beat self.now.source (unwrap_or (shown_by self.now) no_beat))) }
@@ -279,7 +278,7 @@ impl BenchStream<'_> {
     }
 
     /// The line of the beat that is got in the present cycle, if one is.
-    fn got(&self, cycle: u32, sim: &Sim) -> Option<Line>
+    fn got(&self, cycle: u32, sim: &Simulator) -> Option<Line>
         requires stepped { sim.now.stepped ≡ true }
         requires fits { Fits self.now sim.now }
         ensures { line_if result ≡ only_if (is_got self.now sim.now) (got_line cycle self.now.sink_name (told_beat self.now.sink (beat_now self.now sim.now))) }
@@ -295,7 +294,7 @@ impl BenchStream<'_> {
     }
 
     /// The line that tells that a beat is dropped in the present cycle, if one is.
-    fn dropped(&self, cycle: u32, sim: &Sim) -> Option<Line>
+    fn dropped(&self, cycle: u32, sim: &Simulator) -> Option<Line>
         requires stepped { sim.now.stepped ≡ true }
         requires fits { Fits self.now sim.now }
         ensures { line_if result ≡ only_if (is_dropped self.now sim.now) (dropped_line cycle self.now.sink_name) }
@@ -307,7 +306,7 @@ impl BenchStream<'_> {
     }
 
     /// How many symbols its sink is given in the present cycle.
-    fn delivered(&self, sim: &Sim) -> u8
+    fn delivered(&self, sim: &Simulator) -> u8
         requires stepped { sim.now.stepped ≡ true }
         requires fits { Fits self.now sim.now }
         ensures value { result ≡ (counts self.now sim.now).delivered }
@@ -341,7 +340,7 @@ impl Component for BenchStream<'_> {
         row.set_if(self.ready_place, u128::from(self.is_ready()));
     }
 
-    fn tell<K: Sink>(&self, cycle: u32, sim: &Sim, sink: &mut K) -> bool {
+    fn tell<K: Sink>(&self, cycle: u32, sim: &Simulator, sink: &mut K) -> bool {
         if !put_if(sink, self.sent(cycle, sim)) {
             return false;
         }
@@ -351,7 +350,7 @@ impl Component for BenchStream<'_> {
         put_if(sink, self.dropped(cycle, sim))
     }
 
-    fn count(&self, sim: &Sim) -> Counts {
+    fn count(&self, sim: &Simulator) -> Counts {
         Counts {
             taken: 0,
             answered: 0,
@@ -360,7 +359,7 @@ impl Component for BenchStream<'_> {
         }
     }
 
-    fn end_cycle(&mut self, sim: &Sim) {
+    fn end_cycle(&mut self, sim: &Simulator) {
         let answered = self.is_answered(sim);
         self.stand_in.end_cycle(answered);
         self.cycle += 1;

@@ -17,3 +17,4 @@ mod Answering
 mod Inputs
 mod OneRun
 mod Answered
+mod Sims

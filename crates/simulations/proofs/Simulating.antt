@@ -8,7 +8,7 @@ use Rattle.link_rules.specs.Plans.{PlanTable}
 use Rattle.netlist.specs.Netlists.{Netlist}
 use Rattle.netlist.specs.Runs.{Run, Cycle}
 use Rattle.cycle_sim.specs.Sims.{present}
-use Rattle.cycle_sim.specs.Standing.{with_cycle}
+use Rattle.cycle_sim.specs.Standing.{StandsFor, with_cycle}
 use Rattle.bench_parts.specs.Writing.{text_of, HoldsPart}
 use Rattle.trace_lines.specs.declared.counts.Counts.{Counts}
 use Rattle.trace_lines.specs.Counted.{counts_before}
@@ -18,7 +18,7 @@ use Rattle.trace_lines.specs.Lines.{end_line}
 use Rattle.scenario_tables.specs.declared.scenario.Scenario.{Scenario}
 use Rattle.simulations.specs.Benches.{BenchValue, IsSetUp, IsUnderWay}
 use Rattle.simulations.specs.Cycles.{IsEvaluated, IsTold, counts_of, lines_of, run_with}
-use Rattle.simulations.specs.Runs.{TellsSoFar, CountsSoFar}
+use Rattle.simulations.specs.Runs.{TellsSoFar, CountsSoFar, IsCountedRun}
 use Rattle.simulated_runs.specs.Simulated.{IsSimulated}
 use Rattle.simulations.specs.Traces.{run_ends, AreCounts, IsTrace}
 use Rattle.simulations.specs.Written.{Holds, HoldsTrace, HoldsTracePart}
@@ -189,6 +189,14 @@ counts_on none next counted earlier plan scenario netlist c bench evaluated afte
 simulated_whole : (plan : PlanTable) (scenario : Scenario) (netlist own : Netlist) (run : Run) (c : ℕ) → own ≡ netlist → c ≡ scenario.cycles → IsSimulated plan scenario own run c → IsSimulated plan scenario netlist run scenario.cycles
 simulated_whole plan scenario netlist own run c same last is =
     subst (λ (n : Netlist). IsSimulated plan scenario n run scenario.cycles) same (subst (IsSimulated plan scenario own run) last is)
+
+pub counted_run : (plan : PlanTable) (scenario : Scenario) (netlist : Netlist) (c : ℕ) (bench : BenchValue) (counts : Counts) → CountsSoFar plan scenario netlist c bench counts → c ≡ scenario.cycles → IsCountedRun plan scenario netlist bench.sim counts
+counted_run plan scenario netlist c bench counts so_far last = record {
+  run = so_far.run;
+  simulated = simulated_whole plan scenario netlist bench.sim.netlist so_far.run c so_far.netlist_is last so_far.under_way.simulated;
+  stands = subst (StandsFor bench.sim so_far.run) last so_far.under_way.stands;
+  counted = so_far.counted ∙ ap (λ (n : Netlist). counts_before (run_ends plan n so_far.run) c) so_far.netlist_is ∙ ap (counts_before (run_ends plan netlist so_far.run)) last;
+}
 
 pub counted_whole : (plan : PlanTable) (scenario : Scenario) (netlist : Netlist) (c : ℕ) (bench : BenchValue) (counts : Counts) → CountsSoFar plan scenario netlist c bench counts → c ≡ scenario.cycles → AreCounts plan scenario netlist counts
 counted_whole plan scenario netlist c bench counts so_far last = record {

@@ -5,7 +5,7 @@ use Rattle.netlist.specs.Netlists.{IsInputPort}
 use Rattle.netlist.specs.Runs.{Run, IsValuation}
 use Rattle.cycle_sim.specs.Sims.{present, given_to}
 use Rattle.cycle_sim.specs.Standing.{IsClearedRun, with_cycle}
-use Rattle.port_rows.specs.Levels.{AllStand}
+use Rattle.port_rows.specs.Levels.{AllStand, set_levels}
 use Rattle.interconnect.specs.Memory.{host_in, agent_in}
 use Rattle.scenario_tables.specs.declared.scenario.Scenario.{Scenario}
 use Rattle.simulated_runs.specs.Simulated.{AreShown}
@@ -25,6 +25,18 @@ use Rattle.simulations.specs.Sound.{AllFitPorts, StreamsAreShown}
 -- the run with the present cycle of a bench
 abbrev pub run_with : Run → ℕ → BenchValue → Run
 run_with run c bench = with_cycle run c (present bench.sim)
+
+-- the agents' words before any command is known
+abbrev pub first_words : BenchAgentValue → ℕ
+first_words agent = word_shown agent.stand_in
+
+-- a bench whose row has what the components show then
+abbrev pub shown_first : BenchValue → BenchValue
+shown_first bench = record bench { row = set_levels bench.row (all_levels bench first_words) }
+
+-- a bench whose row has what the agents show once the commands are known
+abbrev pub answered : BenchValue → BenchValue
+answered bench = record bench { row = set_levels bench.row (flat_map (λ (agent : BenchAgentValue). of_agents.sets_answered agent bench.sim) bench.agents) }
 
 -- the cycle was evaluated with what the components set, where the agents' words are these
 pub record IsShown (plan : PlanTable) (scenario : Scenario) (run : Run) (c : ℕ) (words : BenchAgentValue → ℕ) (bench : BenchValue) : Type 0 where
@@ -66,7 +78,7 @@ pub record IsAsked (bench : BenchValue) : Type 0 where
   pub cycle : ℕ
   pub set : IsSetUp plan scenario bench.sim.netlist
   pub left : cycle < scenario.cycles
-  pub shown : IsShown plan scenario run cycle (λ (agent : BenchAgentValue). word_shown agent.stand_in) bench
+  pub shown : IsShown plan scenario run cycle first_words bench
 
 -- its present cycle is evaluated
 pub record IsTold (bench : BenchValue) : Type 0 where

@@ -11,10 +11,10 @@ pub cycles-init : goal.cycles-init
 cycles-init c = record {
   so_far = record {
     run = no_run;
-    netlist_is = c.in_ok-bench.ensures.netlist;
-    set = c.in_ok-bench.ensures.set;
-    under_way = c.in_ok-bench.ensures.under_way no_run;
-    counted = sym (c.counts_grow_by_cycles.ensures.first (run_ends c.args.plan.now c.in_ok-bench.bench.sim.netlist no_run));
+    netlist_is = c.in_ok-simulation.ensures.netlist;
+    set = c.in_ok-simulation.ensures.set;
+    under_way = c.in_ok-simulation.ensures.under_way no_run;
+    counted = sym (c.counts_grow_by_cycles.ensures.first (run_ends c.args.plan.now c.in_ok-simulation.simulation.sim.netlist no_run));
   };
   room = let few = c.requires.scenario.few in record { taken = omega (arith, few); answered = omega (arith, few); delivered = omega (arith, few); dropped = omega (arith, few) };
 }
@@ -38,13 +38,13 @@ count-counts-requires-clause-room c =
 pub count-counts-requires-clause-told : goal.count-counts-requires-clause-told
 count-counts-requires-clause-told c =
     let f = c.cycles.invariant.so_far in
-    is_told c.args.plan.now c.args.scenario.now f.run c.cycles.counter (value_of c.cycles.bench) (value_of c.evaluate.new.self) f.set c.cycles-test.true c.evaluate.ensures.netlist
+    is_told c.args.plan.now c.args.scenario.now f.run c.cycles.counter (value_of c.cycles.simulation) (value_of c.evaluate.new.self) f.set c.cycles-test.true c.evaluate.ensures.netlist
     (c.evaluate.ensures.evaluated c.args.plan.now c.args.scenario.now f.run c.cycles.counter f.set c.cycles-test.true f.under_way)
 
 pub end_cycle-requires : goal.end_cycle-requires
 end_cycle-requires c =
     let f = c.cycles.invariant.so_far in
-    is_told c.args.plan.now c.args.scenario.now f.run c.cycles.counter (value_of c.cycles.bench) (value_of c.evaluate.new.self) f.set c.cycles-test.true c.evaluate.ensures.netlist
+    is_told c.args.plan.now c.args.scenario.now f.run c.cycles.counter (value_of c.cycles.simulation) (value_of c.evaluate.new.self) f.set c.cycles-test.true c.evaluate.ensures.netlist
     (c.evaluate.ensures.evaluated c.args.plan.now c.args.scenario.now f.run c.cycles.counter f.set c.cycles-test.true f.under_way)
 
 pub cycles-preserved : goal.cycles-preserved
@@ -57,7 +57,7 @@ cycles-preserved c =
     let set = subst (IsSetUp plan scenario) (sym c.evaluate.ensures.netlist) f.set in
     record {
       so_far = counts_on c.counts_grow_by_cycles.ensures.first c.counts_grow_by_cycles.ensures.next c.cycles_are_told.ensures.counted c.earlier_cycles_are_told.ensures.counted plan scenario c.args.module k
-          (value_of c.cycles.bench) (value_of c.evaluate.new.self) (value_of c.end_cycle.new.self) c.cycles.counts c.count-counts.result f (record {
+          (value_of c.cycles.simulation) (value_of c.evaluate.new.self) (value_of c.end_cycle.new.self) c.cycles.counts c.count-counts.result f (record {
             set = f.set;
             same = c.evaluate.ensures.netlist;
             evaluated_is = evaluated;
@@ -72,4 +72,4 @@ pub returns : goal.returns
 returns c =
     let low = c.cycles-test.false in
     let most = c.cycles.auto.counter-end in
-    counted_whole c.args.plan.now c.args.scenario.now c.args.module c.cycles.counter (value_of c.cycles.bench) c.cycles.counts c.cycles.invariant.so_far (omega (arith, low, most))
+    counted_whole c.args.plan.now c.args.scenario.now c.args.module c.cycles.counter (value_of c.cycles.simulation) c.cycles.counts c.cycles.invariant.so_far (omega (arith, low, most))

@@ -6,6 +6,6 @@ use Rattle.simulations.proofs.simulate.count_module.Given as goal
 
 abbrev pub invariant-cycles : goal.invariant-cycles
 invariant-cycles l = record {
-  so_far : CountsSoFar l.plan l.scenario l.fn.module l.counter (value_of l.bench) l.counts;
+  so_far : CountsSoFar l.plan l.scenario l.fn.module l.counter (value_of l.simulation) l.counts;
   room : HaveRoom (64 * (l.end - l.counter)) l.counts;
 }

@@ -8,9 +8,9 @@ use Rattle.simulations.proofs.simulate.simulate_module.Goals as goal
 pub cycles-init : goal.cycles-init
 cycles-init g c = record {
   run = no_run;
-  netlist_is = c.in_ok-bench.ensures.netlist;
-  set = c.in_ok-bench.ensures.set;
-  under_way = c.in_ok-bench.ensures.under_way no_run;
+  netlist_is = c.in_ok-simulation.ensures.netlist;
+  set = c.in_ok-simulation.ensures.set;
+  under_way = c.in_ok-simulation.ensures.under_way no_run;
   holding = holds_nothing _ _;
 }
 
@@ -22,13 +22,13 @@ evaluate-requires g c =
 pub tell_more-whole-requires : goal.tell_more-whole-requires
 tell_more-whole-requires g c =
     let f = c.cycles.invariant in
-    is_told c.args.plan.now c.args.scenario.now f.run c.cycles.cycle (value_of c.cycles.bench) (value_of c.evaluate.new.self) f.set c.cycles-test.true c.evaluate.ensures.netlist
+    is_told c.args.plan.now c.args.scenario.now f.run c.cycles.cycle (value_of c.cycles.simulation) (value_of c.evaluate.new.self) f.set c.cycles-test.true c.evaluate.ensures.netlist
     (c.evaluate.ensures.evaluated c.args.plan.now c.args.scenario.now f.run c.cycles.cycle f.set c.cycles-test.true f.under_way)
 
 pub end_cycle-requires : goal.end_cycle-requires
 end_cycle-requires g c =
     let f = c.cycles.invariant in
-    is_told c.args.plan.now c.args.scenario.now f.run c.cycles.cycle (value_of c.cycles.bench) (value_of c.evaluate.new.self) f.set c.cycles-test.true c.evaluate.ensures.netlist
+    is_told c.args.plan.now c.args.scenario.now f.run c.cycles.cycle (value_of c.cycles.simulation) (value_of c.evaluate.new.self) f.set c.cycles-test.true c.evaluate.ensures.netlist
     (c.evaluate.ensures.evaluated c.args.plan.now c.args.scenario.now f.run c.cycles.cycle f.set c.cycles-test.true f.under_way)
 
 pub cycles-preserved : goal.cycles-preserved
@@ -39,7 +39,7 @@ cycles-preserved g c =
     let k = c.cycles.cycle in
     let evaluated : IsEvaluated plan scenario f.run k (value_of c.evaluate.new.self) = c.evaluate.ensures.evaluated plan scenario f.run k f.set c.cycles-test.true f.under_way in
     let set = subst (IsSetUp plan scenario) (sym c.evaluate.ensures.netlist) f.set in
-    tells_next c.cycles_are_told.ensures.lines c.earlier_cycles_are_told.ensures.lines plan scenario c.args.module k (value_of c.cycles.bench) (value_of c.evaluate.new.self) (value_of c.end_cycle.new.self)
+    tells_next c.cycles_are_told.ensures.lines c.earlier_cycles_are_told.ensures.lines plan scenario c.args.module k (value_of c.cycles.simulation) (value_of c.evaluate.new.self) (value_of c.end_cycle.new.self)
     c.cycles.whole c.tell_more-whole.result _ _ _ _ _ _ f (record {
       set = f.set;
       same = c.evaluate.ensures.netlist;
@@ -51,29 +51,29 @@ cycles-preserved g c =
 pub returns-clause-whole : goal.returns-clause-whole
 returns-clause-whole g c = trace_whole c.args.plan.now c.args.scenario.now c.args.module c.tell_end.result (g.K.Sink.held c.args.sink.now) (g.K.Sink.faults c.args.sink.now) (g.K.Sink.held c.tell_end.new.sink) (g.K.Sink.faults c.tell_end.new.sink) (let low = c.cycles-test.false in
     let most = c.cycles.auto.cycle-end in
-    told_whole c.args.plan.now c.args.scenario.now c.args.module c.cycles.cycle (value_of c.cycles.bench) c.cycles.whole c.tell_end.result (g.K.Sink.held c.args.sink.now) (g.K.Sink.held c.cycles.sink)
+    told_whole c.args.plan.now c.args.scenario.now c.args.module c.cycles.cycle (value_of c.cycles.simulation) c.cycles.whole c.tell_end.result (g.K.Sink.held c.args.sink.now) (g.K.Sink.held c.cycles.sink)
     (g.K.Sink.held c.tell_end.new.sink) (g.K.Sink.faults c.args.sink.now) (g.K.Sink.faults c.cycles.sink) (g.K.Sink.faults c.tell_end.new.sink) c.cycles.invariant (omega (arith, low, most)) c.tell_end.ensures.lines)
 
 pub returns-clause-part : goal.returns-clause-part
 returns-clause-part g c = trace_part c.args.plan.now c.args.scenario.now c.args.module c.tell_end.result (g.K.Sink.held c.args.sink.now) (g.K.Sink.faults c.args.sink.now) (g.K.Sink.held c.tell_end.new.sink) (g.K.Sink.faults c.tell_end.new.sink) (let low = c.cycles-test.false in
     let most = c.cycles.auto.cycle-end in
-    told_whole c.args.plan.now c.args.scenario.now c.args.module c.cycles.cycle (value_of c.cycles.bench) c.cycles.whole c.tell_end.result (g.K.Sink.held c.args.sink.now) (g.K.Sink.held c.cycles.sink)
+    told_whole c.args.plan.now c.args.scenario.now c.args.module c.cycles.cycle (value_of c.cycles.simulation) c.cycles.whole c.tell_end.result (g.K.Sink.held c.args.sink.now) (g.K.Sink.held c.cycles.sink)
     (g.K.Sink.held c.tell_end.new.sink) (g.K.Sink.faults c.args.sink.now) (g.K.Sink.faults c.cycles.sink) (g.K.Sink.faults c.tell_end.new.sink) c.cycles.invariant (omega (arith, low, most)) c.tell_end.ensures.lines)
 
 pub returns-clause-rose : goal.returns-clause-rose
 returns-clause-rose g c = trace_rose c.tell_end.result (g.K.Sink.faults c.args.sink.now) (g.K.Sink.faults c.tell_end.new.sink) (let low = c.cycles-test.false in
     let most = c.cycles.auto.cycle-end in
-    told_whole c.args.plan.now c.args.scenario.now c.args.module c.cycles.cycle (value_of c.cycles.bench) c.cycles.whole c.tell_end.result (g.K.Sink.held c.args.sink.now) (g.K.Sink.held c.cycles.sink)
+    told_whole c.args.plan.now c.args.scenario.now c.args.module c.cycles.cycle (value_of c.cycles.simulation) c.cycles.whole c.tell_end.result (g.K.Sink.held c.args.sink.now) (g.K.Sink.held c.cycles.sink)
     (g.K.Sink.held c.tell_end.new.sink) (g.K.Sink.faults c.args.sink.now) (g.K.Sink.faults c.cycles.sink) (g.K.Sink.faults c.tell_end.new.sink) c.cycles.invariant (omega (arith, low, most)) c.tell_end.ensures.lines).holding.rose
 
 pub returns-clause-grows : goal.returns-clause-grows
 returns-clause-grows g c = (let low = c.cycles-test.false in
     let most = c.cycles.auto.cycle-end in
-    told_whole c.args.plan.now c.args.scenario.now c.args.module c.cycles.cycle (value_of c.cycles.bench) c.cycles.whole c.tell_end.result (g.K.Sink.held c.args.sink.now) (g.K.Sink.held c.cycles.sink)
+    told_whole c.args.plan.now c.args.scenario.now c.args.module c.cycles.cycle (value_of c.cycles.simulation) c.cycles.whole c.tell_end.result (g.K.Sink.held c.args.sink.now) (g.K.Sink.held c.cycles.sink)
     (g.K.Sink.held c.tell_end.new.sink) (g.K.Sink.faults c.args.sink.now) (g.K.Sink.faults c.cycles.sink) (g.K.Sink.faults c.tell_end.new.sink) c.cycles.invariant (omega (arith, low, most)) c.tell_end.ensures.lines).holding.grows
 
 pub returns-clause-below : goal.returns-clause-below
 returns-clause-below g c = (let low = c.cycles-test.false in
     let most = c.cycles.auto.cycle-end in
-    told_whole c.args.plan.now c.args.scenario.now c.args.module c.cycles.cycle (value_of c.cycles.bench) c.cycles.whole c.tell_end.result (g.K.Sink.held c.args.sink.now) (g.K.Sink.held c.cycles.sink)
+    told_whole c.args.plan.now c.args.scenario.now c.args.module c.cycles.cycle (value_of c.cycles.simulation) c.cycles.whole c.tell_end.result (g.K.Sink.held c.args.sink.now) (g.K.Sink.held c.cycles.sink)
     (g.K.Sink.held c.tell_end.new.sink) (g.K.Sink.faults c.args.sink.now) (g.K.Sink.faults c.cycles.sink) (g.K.Sink.faults c.tell_end.new.sink) c.cycles.invariant (omega (arith, low, most)) c.tell_end.ensures.lines).holding.below

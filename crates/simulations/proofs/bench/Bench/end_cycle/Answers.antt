@@ -3,36 +3,36 @@ use Rattle.bench_hosts.specs.Hosts.{BenchHostValue}
 use Rattle.bench_agents.specs.Agents.{BenchAgentValue}
 use Rattle.bench_streams.specs.Streams.{BenchStreamValue}
 use Rattle.simulations.specs.Benches.{BenchValue}
-use Rattle.simulations.specs.Value.{value_of}
+use Rattle.simulations.specs.Value.{value_with}
 use Rattle.simulations.proofs.Slices.{refilled, under_way_with}
 use Rattle.simulations.proofs.bench.Bench.end_cycle.Goals as goal
 
 pub end_cycle_of_all-requires-clause-fits : goal.end_cycle_of_all-requires-clause-fits
 end_cycle_of_all-requires-clause-fits c = λ h host at.
     let r = c.requires in
-    let bench = value_of c.args.self.now in
+    let bench = value_with c.args.sim.now c.args.self.now in
     c.components_fit.ensures.hosts r.plan r.scenario bench.sim.netlist r.run r.cycle bench bench.sim r.set r.evaluated.under_way.components refl h host
     (subst (λ (items : List BenchHostValue). slice_get items h ≡ Some host) c.as_mut_slice.ensures.value at)
 
 pub end_cycle_of_all-requires-2-clause-fits : goal.end_cycle_of_all-requires-2-clause-fits
 end_cycle_of_all-requires-2-clause-fits c = λ a agent at.
     let r = c.requires in
-    let bench = value_of c.args.self.now in
+    let bench = value_with c.args.sim.now c.args.self.now in
     c.components_fit.ensures.agents r.plan r.scenario bench.sim.netlist r.run r.cycle bench bench.sim r.set r.evaluated.under_way.components r.left refl a agent
     (subst (λ (items : List BenchAgentValue). slice_get items a ≡ Some agent) c.as_mut_slice-2.ensures.value at)
 
 pub end_cycle_of_all-requires-3-clause-fits : goal.end_cycle_of_all-requires-3-clause-fits
 end_cycle_of_all-requires-3-clause-fits c = λ s stream at.
     let r = c.requires in
-    let bench = value_of c.args.self.now in
+    let bench = value_with c.args.sim.now c.args.self.now in
     c.components_fit.ensures.streams r.plan r.scenario bench.sim.netlist r.run r.cycle bench bench.sim r.set r.evaluated.under_way.components r.left refl s stream
     (subst (λ (items : List BenchStreamValue). slice_get items s ≡ Some stream) c.as_mut_slice-3.ensures.value at)
 
-pub returns-clause-under_way : goal.returns-clause-under_way
-returns-clause-under_way c = λ plan scenario run k set left is.
-    let bench = value_of c.args.self.now in
+pub returns : goal.returns
+returns c = λ plan scenario run k sim set left is edge.
+    let bench = value_with c.args.sim.now c.args.self.now in
     let after : BenchValue = record {
-      sim = c.advance.new.self;
+      sim = sim;
       row = bench.row;
       hosts = c.end_cycle_of_all.new.components;
       agents = c.end_cycle_of_all-2.new.components;
@@ -53,4 +53,4 @@ returns-clause-under_way c = λ plan scenario run k set left is.
       hosts = λ h old new before now. c.end_cycle_of_all.ensures.each h old new (subst (λ (items : List BenchHostValue). slice_get items h ≡ Some old) (sym c.as_mut_slice.ensures.value) before) now;
       agents = λ a old new before now. c.end_cycle_of_all-2.ensures.each a old new (subst (λ (items : List BenchAgentValue). slice_get items a ≡ Some old) (sym c.as_mut_slice-2.ensures.value) before) now;
       streams = λ s old new before now. c.end_cycle_of_all-3.ensures.each s old new (subst (λ (items : List BenchStreamValue). slice_get items s ≡ Some old) (sym c.as_mut_slice-3.ensures.value) before) now;
-    }) c.advance.ensures.netlist (c.advance.ensures.stands run k is.under_way.stands) refl)
+    }) edge.netlist (edge.stands run k is.under_way.stands) refl)

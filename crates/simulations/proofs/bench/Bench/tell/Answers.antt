@@ -9,28 +9,28 @@ use Rattle.bench_agents.specs.Agents as of_agents
 use Rattle.bench_streams.specs.Streams.{BenchStreamValue}
 use Rattle.bench_streams.specs.Streams as of_streams
 use Rattle.cycle_sim.specs.Sims.{SimValue}
-use Rattle.simulations.specs.Value.{value_of}
+use Rattle.simulations.specs.Value.{value_with}
 use Rattle.simulations.proofs.Written.{all_if, back_held, both_held, front_held, part_if, rose_since}
 use Rattle.simulations.proofs.bench.Bench.tell.Goals as goal
 
 pub tell_all-requires-clause-fits : goal.tell_all-requires-clause-fits
 tell_all-requires-clause-fits g c = λ h host at.
     let r = c.requires in
-    let bench = value_of c.args.self.now in
+    let bench = value_with c.args.sim.now c.args.self.now in
     c.components_fit.ensures.hosts r.plan r.scenario bench.sim.netlist r.run r.cycle bench bench.sim r.set r.evaluated.under_way.components refl h host
     (subst (λ (items : List BenchHostValue). slice_get items h ≡ Some host) c.as_slice.ensures.value at)
 
 pub tell_all-requires-2-clause-fits : goal.tell_all-requires-2-clause-fits
 tell_all-requires-2-clause-fits g c = λ a agent at.
     let r = c.requires in
-    let bench = value_of c.args.self.now in
+    let bench = value_with c.args.sim.now c.args.self.now in
     c.components_fit.ensures.agents r.plan r.scenario bench.sim.netlist r.run r.cycle bench bench.sim r.set r.evaluated.under_way.components r.left refl a agent
     (subst (λ (items : List BenchAgentValue). slice_get items a ≡ Some agent) c.as_slice-2.ensures.value at)
 
 pub tell_all-requires-3-clause-fits : goal.tell_all-requires-3-clause-fits
 tell_all-requires-3-clause-fits g c = λ s stream at.
     let r = c.requires in
-    let bench = value_of c.args.self.now in
+    let bench = value_with c.args.sim.now c.args.self.now in
     c.components_fit.ensures.streams r.plan r.scenario bench.sim.netlist r.run r.cycle bench bench.sim r.set r.evaluated.under_way.components r.left refl s stream
     (subst (λ (items : List BenchStreamValue). slice_get items s ≡ Some stream) c.as_slice-3.ensures.value at)
 
@@ -45,7 +45,7 @@ stream_lines sim cycle streams = flat_map (λ (stream : BenchStreamValue). of_st
 
 pub returns-then-not-tell_all-clause-part : goal.returns-then-not-tell_all-clause-part
 returns-then-not-tell_all-clause-part g c =
-    let bench = value_of c.args.self.now in
+    let bench = value_with c.args.sim.now c.args.self.now in
     let hosts = host_lines bench.sim c.args.cycle bench.hosts in
     let agents = agent_lines bench.sim c.args.cycle bench.agents in
     let own = subst (λ (items : List BenchHostValue). HoldsPart (g.K.Sink.held c.args.sink.now) (g.K.Sink.held c.tell_all.new.sink) (text_of (host_lines bench.sim c.args.cycle items))) c.as_slice.ensures.value c.if-not-tell_all.ensures.part in
@@ -53,7 +53,7 @@ returns-then-not-tell_all-clause-part g c =
 
 pub returns-then-not-tell_all-2-clause-part : goal.returns-then-not-tell_all-2-clause-part
 returns-then-not-tell_all-2-clause-part g c =
-    let bench = value_of c.args.self.now in
+    let bench = value_with c.args.sim.now c.args.self.now in
     let hosts = host_lines bench.sim c.args.cycle bench.hosts in
     let agents = agent_lines bench.sim c.args.cycle bench.agents in
     let first = c.if-not-tell_all.ensures.all ∙ ap (λ (items : List BenchHostValue). with_more (g.K.Sink.held c.args.sink.now) (text_of (host_lines bench.sim c.args.cycle items))) c.as_slice.ensures.value in
@@ -65,7 +65,7 @@ returns-then-not-tell_all-2-clause-rose g c = rose_since _ _ _ c.tell_all.ensure
 
 pub returns-clause-all : goal.returns-clause-all
 returns-clause-all g c =
-    let bench = value_of c.args.self.now in
+    let bench = value_with c.args.sim.now c.args.self.now in
     let hosts = host_lines bench.sim c.args.cycle bench.hosts in
     let agents = agent_lines bench.sim c.args.cycle bench.agents in
     let streams = stream_lines bench.sim c.args.cycle bench.streams in
@@ -78,7 +78,7 @@ returns-clause-all g c =
 
 pub returns-clause-part : goal.returns-clause-part
 returns-clause-part g c =
-    let bench = value_of c.args.self.now in
+    let bench = value_with c.args.sim.now c.args.self.now in
     let hosts = host_lines bench.sim c.args.cycle bench.hosts in
     let agents = agent_lines bench.sim c.args.cycle bench.agents in
     let streams = stream_lines bench.sim c.args.cycle bench.streams in
