@@ -1,3 +1,4 @@
 pub mod Simulations
 pub mod Prepared
 pub mod Workloads
+pub mod Campaigns

@@ -1,0 +1,4 @@
+mod Many
+mod Rows
+mod Cycles
+mod Begun

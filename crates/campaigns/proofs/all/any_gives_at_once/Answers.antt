@@ -1,0 +1,17 @@
+use Rattle.std.proofs.Common.{◌≡◌, ℕ, get_or, slice_get, Some, IsFalse, refl, sym, subst, arith}
+use Rattle.bench_agents.specs.Agents.{BenchAgentValue, gives_at_once}
+use Rattle.campaigns.specs.declared.lane_bench.LaneBench.{LaneBench}
+use Rattle.campaigns.proofs.Many.{each_up_to, within}
+use Rattle.campaigns.proofs.all.any_gives_at_once.Goals as goal
+
+abbrev WaitsAll : ℕ → LaneBench → Type 0
+WaitsAll j lane = (a : ℕ) (agent : BenchAgentValue) → slice_get lane.bench.agents.items a ≡ Some agent → IsFalse (gives_at_once agent)
+
+pub lanes-preserved : goal.lanes-preserved
+lanes-preserved c =
+    each_up_to WaitsAll c.args.benches.now c.lanes.lane-index c.lane-item.result c.lanes.invariant (subst (WaitsAll c.lanes.lane-index) c.lane-item.is (c.if-gives_at_once.ensures refl))
+
+pub returns : goal.returns
+returns c = λ _ j lane at.
+    let low = within c.args.benches.now j lane at in
+    c.lanes.invariant j lane (omega (arith, low, c.lanes-test.false)) at
