@@ -5,109 +5,158 @@ use Rattle.std.proofs.lemmas.Fmt.{decimal_injective}
 use Rattle.std.proofs.lemmas.Option.{same_Some}
 use Rattle.routed_modules.specs.declared.routed.Routed.{Routed}
 use Rattle.routed_modules.specs.declared.routed.Routed.TheVariants as routed
-use Rattle.routed_words.specs.Asking.{module_word, IsModuleWord}
 use Rattle.routed_words.specs.OneModule.{one_module}
 use Rattle.task_words.specs.declared.Task.{Task}
-use Rattle.task_words.specs.declared.Task.TheVariants.{Generate, Check, Simulate, Replay, Dump, Undump, Workload, Module}
-use Rattle.task_words.specs.Words.{AsksFor, StatesNumbers, word_of}
-
--- a task without numbers
-abbrev pub IsBare : Task → Type 0
-IsBare (Workload number) = ⊥
-IsBare (Module wanted) = ⊥
-IsBare _ = Unit {0}
+use Rattle.task_words.specs.declared.Task.TheVariants.{Generate, Check, Simulate, Replay, Dump, Undump, Campaign, Workload, Module}
+use Rattle.task_words.specs.Words.{AsksFor, Names, StatesNumber, StatesNumbers, word_of}
 
 -- how long a word is, and its first byte
 pub mark : List ℕ → ℕ
 mark word = length word * 256 + get_or word 0 0
 
--- the bare task whose word has this mark, and a workload where there is none
-pub task_at : ℕ → Task
-task_at at =
+-- a module, whichever it is
+pub some_module : Routed
+some_module = routed.Multiplexer 0 0 0
+
+-- a task but for its numbers
+pub kind_of : Task → Task
+kind_of Generate = Generate
+kind_of Check = Check
+kind_of Simulate = Simulate
+kind_of Replay = Replay
+kind_of Dump = Dump
+kind_of Undump = Undump
+kind_of (Campaign number) = Campaign 0
+kind_of (Workload number) = Workload 0
+kind_of (Module wanted) = Module some_module
+
+-- the kind of the task whose word has this mark
+pub kind_at : ℕ → Task
+kind_at at =
     if at == 2151 then Generate
     else if at == 1379 then Check
     else if at == 2163 then Simulate
     else if at == 1650 then Replay
     else if at == 1124 then Dump
     else if at == 1653 then Undump
-    else Workload 0
+    else if at == 2147 then Campaign 0
+    else if at == 2167 then Workload 0
+    else Module some_module
 
-bare_at : (task : Task) → IsBare task → task_at (mark (word_of task)) ≡ task
-unfolding task_at mark
-bare_at Generate bare = refl
-bare_at Check bare = refl
-bare_at Simulate bare = refl
-bare_at Replay bare = refl
-bare_at Dump bare = refl
-bare_at Undump bare = refl
-bare_at (Workload number) bare = absurd bare
-bare_at (Module wanted) bare = absurd bare
+kind_is : (task : Task) → kind_at (mark (word_of task)) ≡ kind_of task
+unfolding kind_at kind_of mark some_module
+kind_is Generate = refl
+kind_is Check = refl
+kind_is Simulate = refl
+kind_is Replay = refl
+kind_is Dump = refl
+kind_is Undump = refl
+kind_is (Campaign number) = refl
+kind_is (Workload number) = refl
+kind_is (Module (routed.Multiplexer inputs symbols bits)) = refl
+kind_is (Module (routed.Demultiplexer outputs symbols bits)) = refl
+kind_is (Module (routed.Gatherer channels symbols parts bits)) = refl
 
-pub module_at : (wanted : Routed) → task_at (mark (module_word wanted)) ≡ Workload 0
-unfolding task_at mark
-module_at (routed.Multiplexer inputs symbols bits) = refl
-module_at (routed.Demultiplexer outputs symbols bits) = refl
-module_at (routed.Gatherer channels symbols parts bits) = refl
+-- tasks of one word are of one kind
+pub one_kind : (one other : Task) → word_of one ≡ word_of other → kind_of one ≡ kind_of other
+one_kind one other named = sym (kind_is one) ∙ ap (λ (w : List ℕ). kind_at (mark w)) named ∙ kind_is other
 
-pub workload_at : (number : ℕ) → task_at (mark (word_of (Workload number))) ≡ Workload 0
-unfolding task_at mark
-workload_at number = refl
+-- what stands behind the word of a task of this kind: this number, or nothing
+abbrev pub HasBehind : Task → List (List ℕ) → ℕ → Type 0
+HasBehind (Campaign any) words number = StatesNumber words number
+HasBehind (Workload any) words number = StatesNumber words number
+HasBehind _ words number = number ≡ 0
 
-pub no_workload : (wanted : Routed) → module_word wanted ≢ codes "workload"
-unfolding mark
-no_workload (routed.Multiplexer inputs symbols bits) e = let marks : mark (codes "mux") ≡ mark (codes "workload") = ap mark e in absurd (omega (arith, marks))
-no_workload (routed.Gatherer channels symbols parts bits) e = let marks : mark (codes "gather") ≡ mark (codes "workload") = ap mark e in absurd (omega (arith, marks))
-no_workload (routed.Demultiplexer outputs symbols bits) e = let marks : mark (codes "demux") ≡ mark (codes "workload") = ap mark e in absurd (omega (arith, marks))
+pub one_behind : (kind : Task) (words : List (List ℕ)) (n m : ℕ) → HasBehind kind words n → HasBehind kind words m → n ≡ m
+one_behind Generate words n m is also = is ∙ sym also
+one_behind Check words n m is also = is ∙ sym also
+one_behind Simulate words n m is also = is ∙ sym also
+one_behind Replay words n m is also = is ∙ sym also
+one_behind Dump words n m is also = is ∙ sym also
+one_behind Undump words n m is also = is ∙ sym also
+one_behind (Campaign any) words n m is also = decimal_injective n m (omega (arith, is.few)) (omega (arith, also.few)) (same_Some _ _ (sym is.is ∙ also.is))
+one_behind (Workload any) words n m is also = decimal_injective n m (omega (arith, is.few)) (omega (arith, also.few)) (same_Some _ _ (sym is.is ∙ also.is))
+one_behind (Module wanted) words n m is also = is ∙ sym also
 
--- a word that isn't a workload's or a module's is that of a bare task
-pub bare_word : (task : Task) (word : List ℕ) → word_of task ≡ word → word ≢ codes "workload" → ¬ IsModuleWord word → IsBare task
-bare_word Generate word is other none = tt
-bare_word Check word is other none = tt
-bare_word Simulate word is other none = tt
-bare_word Replay word is other none = tt
-bare_word Dump word is other none = tt
-bare_word Undump word is other none = tt
-bare_word (Workload number) word is other none = absurd (other (sym is))
-bare_word (Module wanted) word is other none = absurd (none (wanted, is))
+-- a kind with this number
+pub numbered : Task → ℕ → Task
+numbered (Campaign any) n = Campaign n
+numbered (Workload any) n = Workload n
+numbered Generate n = Generate
+numbered Check n = Check
+numbered Simulate n = Simulate
+numbered Replay n = Replay
+numbered Dump n = Dump
+numbered Undump n = Undump
+numbered (Module wanted) n = Module wanted
 
--- a bare task has its word for itself
-pub no_bare : (one other : Task) → IsBare one → task_at (mark (word_of other)) ≡ Workload 0 → word_of one ≡ word_of other → ⊥
-no_bare one other bare at named = subst IsBare (sym (bare_at one bare) ∙ ap (λ (w : List ℕ). task_at (mark w)) named ∙ at) bare
+-- it is no module's
+abbrev pub IsNoModule : Task → Type 0
+IsNoModule (Module wanted) = ⊥
+IsNoModule _ = Unit {0}
 
-pub one_bare : (one other : Task) → IsBare one → IsBare other → word_of one ≡ word_of other → one ≡ other
-one_bare one other bare also named = sym (bare_at one bare) ∙ ap (λ (w : List ℕ). task_at (mark w)) named ∙ bare_at other also
+-- a task is a kind with the number behind its word
+pub record IsNumbered (words : List (List ℕ)) (task : Task) : Type 0 where
+  pub number : ℕ
+  pub behind : HasBehind (kind_of task) words number
+  pub is : numbered (kind_of task) number ≡ task
+  pub apart : IsNoModule (kind_of task)
 
-one_number : (words : List (List ℕ)) (n m : ℕ) → StatesNumbers (Workload n) words → StatesNumbers (Workload m) words → n ≡ m
-one_number words n m is also = decimal_injective n m (omega (arith, is.0)) (omega (arith, also.0)) (same_Some _ _ (sym is.1 ∙ also.1))
+-- it is so, or that of a module
+abbrev pub IsEither : List (List ℕ) → Task → Type 0
+IsEither words task = IsNumbered words task ⊎ ((wanted : Routed) × (task ≡ Module wanted))
 
--- a task is bare, or a workload, or that of a module
-abbrev pub Kinds : Task → Type 0
-Kinds task = IsBare task ⊎ (((n : ℕ) × (task ≡ Workload n)) ⊎ ((wanted : Routed) × (task ≡ Module wanted)))
+either : (words : List (List ℕ)) (task : Task) → StatesNumbers task words → IsEither words task
+unfolding kind_of numbered
+either words Generate states = inl (record { number = 0; behind = refl; is = refl; apart = tt })
+either words Check states = inl (record { number = 0; behind = refl; is = refl; apart = tt })
+either words Simulate states = inl (record { number = 0; behind = refl; is = refl; apart = tt })
+either words Replay states = inl (record { number = 0; behind = refl; is = refl; apart = tt })
+either words Dump states = inl (record { number = 0; behind = refl; is = refl; apart = tt })
+either words Undump states = inl (record { number = 0; behind = refl; is = refl; apart = tt })
+either words (Campaign number) states = inl (record { number = number; behind = states; is = refl; apart = tt })
+either words (Workload number) states = inl (record { number = number; behind = states; is = refl; apart = tt })
+either words (Module wanted) states = inr (wanted, refl)
 
-pub kind_of : (task : Task) → Kinds task
-kind_of Generate = inl tt
-kind_of Check = inl tt
-kind_of Simulate = inl tt
-kind_of Replay = inl tt
-kind_of Dump = inl tt
-kind_of Undump = inl tt
-kind_of (Workload number) = inr (inl (number, refl))
-kind_of (Module wanted) = inr (inr (wanted, refl))
+pub no_module_kind : (task : Task) → IsNoModule task → IsNoModule (kind_of task)
+unfolding kind_of
+no_module_kind Generate none = tt
+no_module_kind Check none = tt
+no_module_kind Simulate none = tt
+no_module_kind Replay none = tt
+no_module_kind Dump none = tt
+no_module_kind Undump none = tt
+no_module_kind (Campaign number) none = tt
+no_module_kind (Workload number) none = tt
+no_module_kind (Module wanted) none = absurd none
 
-one_of : (words : List (List ℕ)) (one other : Task) → word_of one ≡ word_of other → StatesNumbers one words → StatesNumbers other words → Kinds one → Kinds other → one ≡ other
-one_of words one other named here there (inl bare) (inl also) = one_bare one other bare also named
-one_of words one other named here there (inl bare) (inr (inl (n, is))) = absurd (no_bare one other bare (ap (λ (t : Task). task_at (mark (word_of t))) is ∙ workload_at n) named)
-one_of words one other named here there (inl bare) (inr (inr (wanted, is))) = absurd (no_bare one other bare (ap (λ (t : Task). task_at (mark (word_of t))) is ∙ module_at wanted) named)
-one_of words one other named here there (inr (inl (n, is))) (inl bare) = absurd (no_bare other one bare (ap (λ (t : Task). task_at (mark (word_of t))) is ∙ workload_at n) (sym named))
-one_of words one other named here there (inr (inr (wanted, is))) (inl bare) = absurd (no_bare other one bare (ap (λ (t : Task). task_at (mark (word_of t))) is ∙ module_at wanted) (sym named))
-one_of words one other named here there (inr (inl (n, is))) (inr (inl (m, also))) =
-    is ∙ ap Workload (one_number words n m (subst (λ (t : Task). StatesNumbers t words) is here) (subst (λ (t : Task). StatesNumbers t words) also there)) ∙ sym also
-one_of words one other named here there (inr (inl (n, is))) (inr (inr (wanted, also))) = absurd (no_workload wanted (sym (ap word_of also) ∙ sym named ∙ ap word_of is))
-one_of words one other named here there (inr (inr (wanted, is))) (inr (inl (n, also))) = absurd (no_workload wanted (sym (ap word_of is) ∙ named ∙ ap word_of also))
-one_of words one other named here there (inr (inr (wanted, is))) (inr (inr (routed, also))) =
+pub module_kind : (wanted : Routed) → IsNoModule (kind_of (Module wanted)) → ⊥
+unfolding kind_of
+module_kind wanted none = none
+
+one_numbered : (words : List (List ℕ)) (one other : Task) → kind_of one ≡ kind_of other → IsNumbered words one → IsNumbered words other → one ≡ other
+one_numbered words one other same is also =
+    let behind : HasBehind (kind_of one) words also.number = subst (λ (t : Task). HasBehind t words also.number) (sym same) also.behind in
+    let number : is.number ≡ also.number = one_behind (kind_of one) words is.number also.number is.behind behind in
+    sym is.is ∙ ap (λ (t : Task). numbered t is.number) same ∙ ap (λ (n : ℕ). numbered (kind_of other) n) number ∙ also.is
+
+-- a task of a module's kind has no number
+apart : (words : List (List ℕ)) (one other : Task) (wanted : Routed) → kind_of one ≡ kind_of other → IsNumbered words one → other ≡ Module wanted → ⊥
+apart words one other wanted same is also = module_kind wanted (subst IsNoModule (same ∙ ap kind_of also) is.apart)
+
+one_of : (words : List (List ℕ)) (one other : Task) → kind_of one ≡ kind_of other → StatesNumbers one words → StatesNumbers other words → IsEither words one → IsEither words other → one ≡ other
+one_of words one other same here there (inl is) (inl also) = one_numbered words one other same is also
+one_of words one other same here there (inl is) (inr (wanted, also)) = absurd (apart words one other wanted same is also)
+one_of words one other same here there (inr (wanted, is)) (inl also) = absurd (apart words other one wanted (sym same) also is)
+one_of words one other same here there (inr (wanted, is)) (inr (routed, also)) =
     is ∙ ap Module (one_module words wanted routed (subst (λ (t : Task). StatesNumbers t words) is here) (subst (λ (t : Task). StatesNumbers t words) also there)) ∙ sym also
 
--- words ask for one task
+-- words name one task
+pub one_named : (words : List (List ℕ)) (one other : Task) → Names words one → Names words other → one ≡ other
+one_named words one other is also =
+    one_of words one other (one_kind one other (same_Some _ _ (sym is.command ∙ also.command))) is.numbers also.numbers (either words one is.numbers) (either words other also.numbers)
+
+-- and so ask for one
 pub one_task : (words : List (List ℕ)) (one other : Task) → AsksFor words one → AsksFor words other → one ≡ other
 one_task words one other asks others =
-    one_of words one other (same_Some _ _ (sym asks.command ∙ others.command)) asks.numbers others.numbers (kind_of one) (kind_of other)
+    one_named words one other (record { command = asks.command; numbers = asks.numbers }) (record { command = others.command; numbers = others.numbers })

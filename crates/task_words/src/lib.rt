@@ -1,16 +1,16 @@
 //! The words of a command line, and the task that they ask for.
 #![tactic(auto)]
 
-ghost use Rattle.std.specs.Prelude.{◌≡◌, ◌≢◌, ◌↔◌, ◌≤◌, codes, slice_get, Some, map, string_bytes, MatchOption, IsTrue, All};
-ghost use Rattle.routed_words.specs.Asking.{IsModuleWord};
-ghost use Rattle.task_words.specs.Words.{IsPlainWord, AsksFor, AsksForNothing, AreEnough, BeginsWithModule, file_words, word_of};
+ghost use Rattle.std.specs.Prelude.{◌≡◌, ◌↔◌, ℕ, ◌≤◌, map, string_bytes, MatchOption, IsTrue, All};
+ghost use Rattle.task_words.specs.declared.Task.{Task as Asked};
+ghost use Rattle.task_words.specs.Words.{IsPlainWord, AsksFor, AsksForNothing, Names, NamesNothing, IsBare, HasNumber, IsWordOf, StatesNumber, AreEnough, BeginsWithModule, file_words, named_by};
 
 use routed_modules::Routed;
 use routed_words::{are_words_of, is_module_word, number_of, read_routed};
 
 /// What the words ask for. A file is named by the place of its word, from 0: word 1 is the system file, each further word a
 /// component file, where word 2 of a simulation is its scenario. Of a replay, and where it is dumped, word 1 is the Verilog text and
-/// word 2 the waves.
+/// word 2 the waves. Word 1 of a campaign is its number, so its files begin with word 2.
 #[derive(Clone, Copy, Debug, PartialEq, Eq)]
 pub enum Task {
     /// Write the Verilog text of the system's interconnect.
@@ -25,6 +25,8 @@ pub enum Task {
     Dump,
     /// Write the rows of a value change dump.
     Undump,
+    /// Write what is counted in eight lanes of the system, each on the scenario that is drawn for it and this number.
+    Campaign { number: u32 },
     /// Write what is counted of the workload of this number.
     Workload { number: u32 },
     /// Write the Verilog text of a module that leads beats by their channels.
@@ -35,16 +37,7 @@ pub enum Task {
 pub fn read_words(words: &[String]) -> Option<Task>
     ensures { MatchOption result (AsksForNothing (map string_bytes words.now)) (AsksFor (map string_bytes words.now)) }
 {
-    let [first, ..] = words else {
-        return None;
-    };
-    if first.as_str() == "workload" {
-        return read_workload(words);
-    }
-    if is_module_word(first.as_str()) {
-        return read_module(words);
-    }
-    let Some(task) = task_of(first.as_str()) else {
+    let Some(task) = task_of(words) else {
         return None;
     };
     if are_enough(task, words.len()) && are_plain(words) {
@@ -54,44 +47,40 @@ pub fn read_words(words: &[String]) -> Option<Task>
     }
 }
 
-/// Reads the words of a workload.
-fn read_workload(words: &[String]) -> Option<Task>
-    requires { slice_get (map string_bytes words.now) 0 ≡ Some (codes "workload") }
-    ensures { MatchOption result (AsksForNothing (map string_bytes words.now)) (AsksFor (map string_bytes words.now)) }
+/// The task whose word stands first, with its numbers.
+fn task_of(words: &[String]) -> Option<Task>
+    ensures { MatchOption result (NamesNothing (map string_bytes words.now)) (Names (map string_bytes words.now)) }
 {
-    let [_, number] = words else {
+    let [first, ..] = words else {
         return None;
     };
-    let Some(number) = number_of(number.as_str()) else {
-        return None;
-    };
-    if are_plain(words) {
-        Some(Task::Workload { number })
-    } else {
-        None
+    let word = first.as_str();
+    if is_module_word(word) {
+        return module_of(words);
     }
+    if let Some(task) = bare_task(word) {
+        return Some(task);
+    }
+    let Some(number) = number_behind(words) else {
+        return None;
+    };
+    numbered_task(word, number)
 }
 
-/// Reads the words of a module.
-fn read_module(words: &[String]) -> Option<Task>
+/// The module that words ask for.
+fn module_of(words: &[String]) -> Option<Task>
     requires { BeginsWithModule (map string_bytes words.now) }
-    ensures { MatchOption result (AsksForNothing (map string_bytes words.now)) (AsksFor (map string_bytes words.now)) }
+    ensures { MatchOption result (NamesNothing (map string_bytes words.now)) (Names (map string_bytes words.now)) }
 {
     let Some(wanted) = read_routed(words) else {
         return None;
     };
-    if are_plain(words) {
-        Some(Task::Module { wanted })
-    } else {
-        None
-    }
+    Some(Task::Module { wanted })
 }
 
-/// The task of a command's word, where no numbers stand behind it.
-fn task_of(word: &str) -> Option<Task>
-    requires other { word.now ≢ codes "workload" }
-    requires none { ¬ IsModuleWord word.now }
-    ensures { MatchOption result ((task : Task) → word_of task ≢ word.now) (λ task. word_of task ≡ word.now) }
+/// The task of a word, where no numbers stand behind it.
+fn bare_task(word: &str) -> Option<Task>
+    ensures { MatchOption result ((task : Asked) → ¬ IsWordOf IsBare word.now task) (IsWordOf IsBare word.now) }
 {
     if word == "generate" {
         Some(Task::Generate)
@@ -110,6 +99,29 @@ fn task_of(word: &str) -> Option<Task>
     }
 }
 
+/// The number behind the first word.
+fn number_behind(words: &[String]) -> Option<u32>
+    ensures { MatchOption result ((n : ℕ) → ¬ StatesNumber (map string_bytes words.now) n) (StatesNumber (map string_bytes words.now)) }
+{
+    let [_, number, ..] = words else {
+        return None;
+    };
+    number_of(number.as_str())
+}
+
+/// The task of a word with one number.
+fn numbered_task(word: &str, number: u32) -> Option<Task>
+    ensures { MatchOption result ((task : Asked) → ¬ IsWordOf (HasNumber number) word.now task) (IsWordOf (HasNumber number) word.now) }
+{
+    if word == "campaign" {
+        Some(Task::Campaign { number })
+    } else if word == "workload" {
+        Some(Task::Workload { number })
+    } else {
+        None
+    }
+}
+
 /// Whether a task has so many words.
 fn are_enough(task: Task, words: usize) -> bool
     ensures { IsTrue result ↔ AreEnough task words }
@@ -118,6 +130,7 @@ fn are_enough(task: Task, words: usize) -> bool
         Task::Generate | Task::Check => words >= 2,
         Task::Simulate => words >= 3,
         Task::Replay | Task::Dump => words == 3,
+        Task::Campaign { .. } => words >= 3,
         Task::Undump | Task::Workload { .. } => words == 2,
         Task::Module { wanted } => are_words_of(wanted, words),
     }
@@ -131,8 +144,20 @@ pub fn file_words(task: Task, words: usize) -> usize
     ensures few { result ≤ words }
 {
     match task {
+        Task::Campaign { .. } => words - 1,
         Task::Workload { .. } | Task::Module { .. } => 1,
         _ => words,
+    }
+}
+
+/// The word that names this file of a task, where files are counted from 1.
+pub fn named_by(task: Task, file: u32) -> u32
+    requires { file ≤ 65 }
+    ensures { result ≡ named_by task file }
+{
+    match task {
+        Task::Campaign { .. } => file + 1,
+        _ => file,
     }
 }
 
