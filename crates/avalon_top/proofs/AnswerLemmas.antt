@@ -15,12 +15,14 @@ use Rattle.answer_lines.specs.declared.exit.Exit.{Exit}
 use Rattle.answer_lines.specs.declared.exit.Exit.TheVariants as exit
 use Rattle.answer_lines.specs.Lines.{exit_of}
 use Rattle.task_words.specs.declared.Task.{Task}
-use Rattle.task_words.specs.declared.Task.TheVariants.{Generate, Check, Simulate, Replay, Dump, Undump, Workload, Module}
-use Rattle.task_words.specs.Words.{AsksFor, AreItsFiles, file_words}
+use Rattle.task_words.specs.declared.Task.TheVariants.{Generate, Check, Simulate, Replay, Dump, Undump, Campaign, Workload, Module}
+use Rattle.task_words.specs.Words.{AsksFor, AreItsFiles, file_words, named_by}
 use Rattle.task_words.specs.OneTask.{one_task}
 use Rattle.avalon_top.specs.Refused.{IsAnswerOf, DoneOrRefused}
 use Rattle.avalon_top.specs.Done.{CallsForDone}
-use Rattle.avalon_top.specs.Simulate.{system_files, scenario_in, answer_of_simulation, SimulateCallsFor}
+use Rattle.avalon_top.specs.Systems.{system_files, second_file, answer_of_system}
+use Rattle.avalon_top.specs.Simulate.{answer_of_simulation, SimulateCallsFor}
+use Rattle.avalon_top.specs.Campaign.{CampaignCallsFor}
 use Rattle.scenario_runs.specs.declared.faults.SimulateFault.{SimulateFault}
 use Rattle.scenario_runs.specs.declared.faults.SimulateFault.TheVariants as simulate
 use Rattle.scenario_runs.specs.Simulations.{CanSimulate, IsSimulateFault}
@@ -183,14 +185,14 @@ undump_done dump text judged is =
 
 -- ---- a system and a scenario
 
-by_words_refuses : (r : Refusal) → RefusesFiles (answer_of_simulation (simulate.SystemRefused r))
-by_words_refuses (refusal.Script place rule) = tt
-by_words_refuses (refusal.Link connection rule other) = tt
-by_words_refuses (refusal.Limit which count) = tt
-by_words_refuses refusal.NoMemory = tt
+pub by_words_refuses : (task : Task) (r : Refusal) → RefusesFiles (answer_of_system task r)
+by_words_refuses task (refusal.Script place rule) = tt
+by_words_refuses task (refusal.Link connection rule other) = tt
+by_words_refuses task (refusal.Limit which count) = tt
+by_words_refuses task refusal.NoMemory = tt
 
 simulate_refuses : (f : SimulateFault) → RefusesFiles (answer_of_simulation f)
-simulate_refuses (simulate.SystemRefused refused) = by_words_refuses refused
+simulate_refuses (simulate.SystemRefused refused) = by_words_refuses Simulate refused
 simulate_refuses (simulate.ScenarioRefused line rule) = tt
 simulate_refuses (simulate.TooManyValues count) = tt
 simulate_refuses simulate.NoMemory = tt
@@ -205,6 +207,21 @@ simulate_stops files scenario f judged is =
 pub simulate_done : (files : List (List ℕ)) (scenario : List ℕ) → AreJudged (CanSimulate files scenario) (IsSimulateFault files scenario) → CanSimulate files scenario
     → IsOnly (SimulateCallsFor files scenario) exit.Done
 simulate_done files scenario judged can = only_done (CanSimulate files scenario) (IsSimulateFault files scenario) answer_of_simulation simulate_refuses judged can
+
+-- ---- a campaign
+
+-- its system is refused, or memory was wanted
+pub campaign_stops : (number : ℕ) (files : List (List ℕ)) (r : Refusal) → AreJudged (IsAccepted files) (IsRefusedBy files) → IsCause files r
+    → IsStop (CampaignCallsFor number files) (answer_of_system (Campaign number) r)
+campaign_stops number files r judged cause =
+    stops_for (IsAccepted files) (IsRefusedBy files) (answer_of_system (Campaign number)) (by_words_refuses (Campaign number)) r judged
+    (⊎_elim (λ e. inl (ap (answer_of_system (Campaign number)) e)) (λ is. inr is) cause)
+
+-- its system states a plan
+pub campaign_done : (number : ℕ) (files : List (List ℕ)) (plan : PlanTable) → AreJudged (IsAccepted files) (IsRefusedBy files) → IsPlanned files plan
+    → IsOnly (CampaignCallsFor number files) exit.Done
+campaign_done number files plan judged is =
+    only_done (IsAccepted files) (IsRefusedBy files) (answer_of_system (Campaign number)) (by_words_refuses (Campaign number)) judged (accepted_files files plan is)
 
 -- ---- what is done whatever else
 
@@ -230,13 +247,13 @@ is_done = record { called = tt; only = only_to_do }
 -- what is known of all files
 pub record AreAllJudged (files : List (List ℕ)) : Type 0 where
   pub system : 1 ≤ length files → AreJudged (IsAccepted files) (IsRefusedBy files)
-  pub simulated : 1 ≤ length (system_files files) → AreJudged (CanSimulate (system_files files) (scenario_in files)) (IsSimulateFault (system_files files) (scenario_in files))
+  pub simulated : 1 ≤ length (system_files files) → AreJudged (CanSimulate (system_files files) (second_file files)) (IsSimulateFault (system_files files) (second_file files))
   pub replayed : AreJudged (CanReplayText (text_in files) (waves_in files)) (IsReplayTextFault (text_in files) (waves_in files))
   pub undumped : AreJudged (CanUndump (dump_in files)) (IsUndumpFault (dump_in files))
 
--- so many files of a simulation are a system's and a scenario
-some_system : (files : List (List ℕ)) → AreItsFiles Simulate (length files) → 1 ≤ length (system_files files)
-some_system files are = let two : 2 ≤ length files = omega (arith, are.enough, are.count) in omega (arith, system_file_count files two)
+-- of two files or more one or more are a system's
+some_system : (files : List (List ℕ)) → 2 ≤ length files → 1 ≤ length (system_files files)
+some_system files two = omega (arith, two, system_file_count files two)
 
 system_answer : (files : List (List ℕ)) → AreJudged (IsAccepted files) (IsRefusedBy files) → (e : Exit) × IsOnly (SystemCallsFor files) e
 system_answer files judged = answer_for (IsAccepted files) (IsRefusedBy files) exit_of system_refuses judged
@@ -248,10 +265,12 @@ pub one_answer : (task : Task) (files : List (List ℕ)) → AreAllJudged files 
 one_answer Generate files judged are = system_answer files (judged.system (omega (arith, are.enough, are.count)))
 one_answer Check files judged are = system_answer files (judged.system (omega (arith, are.enough, are.count)))
 one_answer Simulate files judged are =
-    answer_for (CanSimulate (system_files files) (scenario_in files)) (IsSimulateFault (system_files files) (scenario_in files)) answer_of_simulation simulate_refuses (judged.simulated (some_system files are))
+    answer_for (CanSimulate (system_files files) (second_file files)) (IsSimulateFault (system_files files) (second_file files)) answer_of_simulation simulate_refuses (judged.simulated (some_system files (omega (arith, are.enough, are.count))))
 one_answer Replay files judged are = replay_answer (text_in files) (waves_in files) judged.replayed
 one_answer Dump files judged are = replay_answer (text_in files) (waves_in files) judged.replayed
 one_answer Undump files judged are = answer_for (CanUndump (dump_in files)) (IsUndumpFault (dump_in files)) answer_of_dump undump_refuses judged.undumped
+one_answer (Campaign number) files judged are =
+    answer_for (IsAccepted files) (IsRefusedBy files) (answer_of_system (Campaign number)) (by_words_refuses (Campaign number)) (judged.system (omega (arith, are.enough, are.count)))
 one_answer (Workload number) files judged are = (exit.Done, is_done)
 one_answer (Module wanted) files judged are = (exit.Done, is_done)
 
@@ -260,10 +279,11 @@ of_files : (task : Task) (files : List (List ℕ)) (e : Exit) → CallsFor task 
 of_files Generate files e h = of_called (IsAccepted files) (IsRefusedBy files) exit_of system_refuses e h
 of_files Check files e h = of_called (IsAccepted files) (IsRefusedBy files) exit_of system_refuses e h
 of_files Simulate files e h =
-    of_called (CanSimulate (system_files files) (scenario_in files)) (IsSimulateFault (system_files files) (scenario_in files)) answer_of_simulation simulate_refuses e h
+    of_called (CanSimulate (system_files files) (second_file files)) (IsSimulateFault (system_files files) (second_file files)) answer_of_simulation simulate_refuses e h
 of_files Replay files e h = of_called (CanReplayText (text_in files) (waves_in files)) (IsReplayTextFault (text_in files) (waves_in files)) answer_of replay_refuses e h
 of_files Dump files e h = of_called (CanReplayText (text_in files) (waves_in files)) (IsReplayTextFault (text_in files) (waves_in files)) answer_of replay_refuses e h
 of_files Undump files e h = of_called (CanUndump (dump_in files)) (IsUndumpFault (dump_in files)) answer_of_dump undump_refuses e h
+of_files (Campaign number) files e h = of_called (IsAccepted files) (IsRefusedBy files) (answer_of_system (Campaign number)) (by_words_refuses (Campaign number)) e h
 of_files (Workload number) files e h = inl (only_to_do e h)
 of_files (Module wanted) files e h = inl (only_to_do e h)
 
@@ -295,8 +315,8 @@ stops_at task words file earlier here reads (exit.ReadFault f) loaded count insi
   few = few;
   earlier = earlier;
   loaded = loaded;
-  number = s.0 ∙ sym count;
-  inside = omega (arith, s.0);
+  inside = omega (arith, count, inside);
+  number = s.0 ∙ ap (named_by task) (sym count);
   rose = omega (arith, s.1);
   is_failed = sym failed ∙ s.2 ∙ sym s.0;
 }
@@ -307,8 +327,8 @@ stops_at task words file earlier here reads (exit.Limit which number) loaded cou
   loaded = loaded;
   inside = omega arith;
   count_is = subst (λ (n : ℕ). number ≡ most_bytes task n + 1) (sym count) s.1;
-  long = subst (λ (n : ℕ). WhereTold (reads.told n) (λ bytes. most_bytes task n < length bytes)) (sym count)
-      (subst (λ (o : Option (List ℕ)). WhereTold o (λ bytes. most_bytes task file < length bytes)) (told file) s.2);
+  long = subst (λ (n : ℕ). WhereTold (reads.told (named_by task n)) (λ bytes. most_bytes task n < length bytes)) (sym count)
+      (subst (λ (o : Option (List ℕ)). WhereTold o (λ bytes. most_bytes task file < length bytes)) (told (named_by task file)) s.2);
 }
 stops_at task words file earlier here reads exit.NoMemory loaded count inside few told less after failed s = tt
 stops_at task words file earlier here reads exit.Done loaded count inside few told less after failed s = absurd s
@@ -364,19 +384,11 @@ called_for : (words : List (List ℕ)) (reads : Reads) (writes : Writes) (e : Ex
 called_for words reads writes e asked task files asks is well = same_answer words reads writes e asked task files is.files asks is.are_files well is.only
 
 -- where nothing fails, there are neither more files than are read nor longer ones
-few_file_words : (task : Task) (words : ℕ) → words ≤ 65 → file_words task words ≤ 65
-few_file_words Generate words few = few
-few_file_words Check words few = few
-few_file_words Simulate words few = few
-few_file_words Replay words few = few
-few_file_words Dump words few = few
-few_file_words Undump words few = few
-few_file_words (Workload number) words few = omega arith
-few_file_words (Module wanted) words few = omega arith
-
-not_many : (words : List (List ℕ)) (reads : Reads) (writes : Writes) (asked task : Task) (files : List (List ℕ)) (which count : ℕ)
+not_many : (words : List (List ℕ)) (reads : Reads) (writes : Writes) (asked task : Task) (files : List (List ℕ)) (which count : ℕ) → AsksFor words asked
     → IsFilesLimit which count (file_words asked (length words)) → NothingFails task files words reads writes → ⊥
-not_many words reads writes asked task files which count many well = omega (arith, few_file_words asked (length words) well.few, many.passed, many.count_is)
+not_many words reads writes asked task files which count asks many well =
+    let here = same_well words reads writes asked task files asks well in
+    omega (arith, here.few, here.count, many.passed, many.count_is)
 
 none_long : (words : List (List ℕ)) (reads : Reads) (writes : Writes) (asked task : Task) (files : List (List ℕ)) (which count : ℕ) → AsksFor words asked
     → IsBytesLimit asked which count (file_words asked (length words)) reads.told → NothingFails task files words reads writes → ⊥
@@ -399,7 +411,7 @@ completes words reads writes (exit.ScenarioRefused file line rule) s task files 
 completes words reads writes (exit.DumpRefused byte rule) s task files well = inr (called_for words reads writes (exit.DumpRefused byte rule) s.0 task files s.1 s.2 well)
 completes words reads writes (exit.Limit which count) s task files well =
     ⊎_elim
-    (λ many. absurd (not_many words reads writes s.0 task files which count many well))
+    (λ many. absurd (not_many words reads writes s.0 task files which count s.1 many well))
     (λ rest. ⊎_elim
     (λ long. absurd (none_long words reads writes s.0 task files which count s.1 long well))
     (λ is. inr (called_for words reads writes (exit.Limit which count) s.0 task files s.1 is well))

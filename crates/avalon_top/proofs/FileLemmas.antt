@@ -4,8 +4,9 @@ use Rattle.std.specs.Prelude.{All}
 use Rattle.std.proofs.lemmas.Option.{slice_get-get_or}
 use Rattle.av_files.specs.Outside.{WhereTold}
 use Rattle.task_words.specs.declared.Task.{Task}
-use Rattle.task_words.specs.declared.Task.TheVariants.{Generate, Check, Simulate, Replay, Dump, Undump, Workload, Module}
-use Rattle.avalon_top.specs.Simulate.{system_files, scenario_in}
+use Rattle.task_words.specs.declared.Task.TheVariants.{Generate, Check, Simulate, Replay, Dump, Undump, Campaign, Workload, Module}
+use Rattle.task_words.specs.Words.{named_by}
+use Rattle.avalon_top.specs.Systems.{system_files, second_file}
 use Rattle.avalon_top.specs.Run.{most_bytes, text_in, waves_in, dump_in, AreShort, AreLoaded, AreFiles}
 
 newly : {X : Type 0} (xs : List X) (y z : X) (n : ℕ) → slice_get (xs ++ y ∷ []) n ≡ Some z → (slice_get xs n ≡ Some z) ⊎ ((n ≡ length xs) × (y ≡ z))
@@ -27,12 +28,12 @@ none_loaded task told = record { each = λ k bytes e. (cc); short = λ k bytes e
 
 -- one file more
 pub more_loaded : (task : Task) (told : ℕ → Option (List ℕ)) (files : List (List ℕ)) (bytes : List ℕ) → AreLoaded task told files
-    → WhereTold (told (length files + 1)) (λ is. bytes ≡ is) → length bytes ≤ most_bytes task (length files + 1) → AreLoaded task told (files ++ bytes ∷ [])
+    → WhereTold (told (named_by task (length files + 1))) (λ is. bytes ≡ is) → length bytes ≤ most_bytes task (length files + 1) → AreLoaded task told (files ++ bytes ∷ [])
 more_loaded task told files bytes are is short =
     record {
       each = λ k other e. ⊎_elim
           (λ old. are.each k other old)
-          (λ o. subst (λ (b : List ℕ). WhereTold (told (k + 1)) (λ is. b ≡ is)) o.1 (subst (λ (n : ℕ). WhereTold (told (n + 1)) (λ is. bytes ≡ is)) (sym o.0) is))
+          (λ o. subst (λ (b : List ℕ). WhereTold (told (named_by task (k + 1))) (λ is. b ≡ is)) o.1 (subst (λ (n : ℕ). WhereTold (told (named_by task (n + 1))) (λ is. bytes ≡ is)) (sym o.0) is))
           (newly files bytes other k e);
       short = λ k other e. ⊎_elim
           (λ old. are.short k other old)
@@ -42,7 +43,7 @@ more_loaded task told files bytes are is short =
 
 -- where all files are told, they are what was loaded
 pub told_files : (task : Task) (told : ℕ → Option (List ℕ)) (words : ℕ) (loaded files : List (List ℕ)) → AreFiles task told words loaded → length files + 1 ≡ words
-    → ((k : ℕ) (bytes : List ℕ) → slice_get files k ≡ Some bytes → told (k + 1) ≡ Some bytes) → loaded ≡ files
+    → ((k : ℕ) (bytes : List ℕ) → slice_get files k ≡ Some bytes → told (named_by task (k + 1)) ≡ Some bytes) → loaded ≡ files
 told_files task told words loaded files are count tells =
     let same : length loaded ≡ length files = omega (arith, are.count) in
     same_items loaded files same (λ k x y p q. subst (λ (o : Option (List ℕ)). WhereTold o (λ is. x ≡ is)) (tells k y q) (are.loaded.each k x p))
@@ -54,8 +55,8 @@ some_at (x ∷ xs) (suc n) h = some_at xs n (omega arith)
 
 -- no told file is longer than is read, where all are short
 pub not_long : (task : Task) (words : ℕ) (told : ℕ → Option (List ℕ)) (files earlier : List (List ℕ)) → length earlier + 1 < words
-    → WhereTold (told (length earlier + 1)) (λ bytes. most_bytes task (length earlier + 1) < length bytes) → length files + 1 ≡ words
-    → ((k : ℕ) (bytes : List ℕ) → slice_get files k ≡ Some bytes → told (k + 1) ≡ Some bytes) → AreShort task files → ⊥
+    → WhereTold (told (named_by task (length earlier + 1))) (λ bytes. most_bytes task (length earlier + 1) < length bytes) → length files + 1 ≡ words
+    → ((k : ℕ) (bytes : List ℕ) → slice_get files k ≡ Some bytes → told (named_by task (k + 1)) ≡ Some bytes) → AreShort task files → ⊥
 not_long task words told files earlier inside long count tells short =
     let at = some_at files (length earlier) (omega arith) in
     let most = most_bytes task (length earlier + 1) in
@@ -75,6 +76,7 @@ few_bytes Simulate file = omega arith
 few_bytes Replay file = few_of_either (file == 1)
 few_bytes Dump file = few_of_either (file == 1)
 few_bytes Undump file = omega arith
+few_bytes (Campaign number) file = omega arith
 few_bytes (Workload number) file = omega arith
 few_bytes (Module wanted) file = omega arith
 
@@ -100,12 +102,12 @@ one_of_one [] other one = absurd (omega arith)
 one_of_one (dump ∷ rest) other one = refl
 
 -- the files of a simulation are two or more
-pub scenario_is : (files : List (List ℕ)) (other : List ℕ) → 2 ≤ length files → get_or files 1 other ≡ scenario_in files
-scenario_is [] other two = absurd (omega arith)
-scenario_is (system ∷ []) other two = absurd (omega arith)
-scenario_is (system ∷ scenario ∷ components) other two = refl
+pub second_is : (files : List (List ℕ)) (other : List ℕ) → 2 ≤ length files → get_or files 1 other ≡ second_file files
+second_is [] other two = absurd (omega arith)
+second_is (system ∷ []) other two = absurd (omega arith)
+second_is (system ∷ scenario ∷ components) other two = refl
 
--- what holds of all of them holds of the others than the scenario, and of the scenario
+-- what holds of all of them holds of those of the system, and of the second
 of_system : (P : List ℕ → Type 0) (system scenario : List ℕ) (components : List (List ℕ)) → All P (system ∷ scenario ∷ components) → All P (system ∷ components)
 of_system P system scenario components h zero d p = h 0 d (omega arith)
 of_system P system scenario components h (suc k) d p = h (suc (suc k)) d (omega arith)
@@ -115,10 +117,10 @@ of_system_files P [] two h = absurd (omega arith)
 of_system_files P (system ∷ []) two h = absurd (omega arith)
 of_system_files P (system ∷ scenario ∷ components) two h = of_system P system scenario components h
 
-pub of_scenario : (P : List ℕ → Type 0) (files : List (List ℕ)) → 2 ≤ length files → All P files → P (scenario_in files)
-of_scenario P [] two h = absurd (omega arith)
-of_scenario P (system ∷ []) two h = absurd (omega arith)
-of_scenario P (system ∷ scenario ∷ components) two h = h 1 [] (omega arith)
+pub of_second : (P : List ℕ → Type 0) (files : List (List ℕ)) → 2 ≤ length files → All P files → P (second_file files)
+of_second P [] two h = absurd (omega arith)
+of_second P (system ∷ []) two h = absurd (omega arith)
+of_second P (system ∷ scenario ∷ components) two h = h 1 [] (omega arith)
 
 pub system_file_count : (files : List (List ℕ)) → 2 ≤ length files → length (system_files files) + 1 ≡ length files
 system_file_count [] two = absurd (omega arith)

@@ -1,4 +1,6 @@
+pub mod Systems
 pub mod Simulate
+pub mod Campaign
 pub mod Done
 pub mod Refused
 pub mod Run

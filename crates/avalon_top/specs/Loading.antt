@@ -4,14 +4,14 @@ use Rattle.av_files.specs.Outside.{Rose, WhereTold}
 use Rattle.answer_lines.specs.declared.exit.Exit.{Exit}
 use Rattle.answer_lines.specs.declared.exit.Exit.TheVariants as exit
 use Rattle.task_words.specs.declared.Task.{Task}
-use Rattle.task_words.specs.Words.{AsksFor, AsksForNothing, file_words}
+use Rattle.task_words.specs.Words.{AsksFor, AsksForNothing, file_words, named_by}
 use Rattle.avalon_top.specs.Run.{Reads, most_bytes, IsReadFault, IsBytesLimit, CallsFor, IsOnly, StopsTask}
 
 -- one file was not loaded
 abbrev pub StopsAtFile : Task → ℕ → Reads → Exit → Type 0
-StopsAtFile task file reads (exit.ReadFault f) = (f ≡ file) × Rose reads.before reads.after × (reads.failed ≡ file)
+StopsAtFile task file reads (exit.ReadFault f) = (f ≡ named_by task file) × Rose reads.before reads.after × (reads.failed ≡ named_by task file)
 StopsAtFile task file reads (exit.Limit which count) =
-    (which ≡ 5) × (count ≡ most_bytes task file + 1) × WhereTold (reads.told file) (λ bytes. most_bytes task file < length bytes)
+    (which ≡ 5) × (count ≡ most_bytes task file + 1) × WhereTold (reads.told (named_by task file)) (λ bytes. most_bytes task file < length bytes)
 StopsAtFile task file reads exit.NoMemory = Unit {0}
 StopsAtFile task file reads _ = ⊥
 

@@ -7,27 +7,37 @@ use Rattle.scenario_tables.specs.Scenarios.{IsScenario}
 use Rattle.simulations.specs.Traces.{IsTrace}
 use Rattle.scenario_runs.specs.declared.prepared.Prepared.{Prepared}
 use Rattle.scenario_runs.specs.Prepared.{IsPrepared}
+use Rattle.scenario_runs.specs.declared.campaign.Campaign.{Campaign as Lanes}
+use Rattle.scenario_runs.specs.Campaigns.{CanRun, IsCampaign, IsTextOfModule}
 use Rattle.answer_lines.specs.declared.exit.Exit.{Exit}
 use Rattle.answer_lines.specs.declared.exit.Exit.TheVariants as exit
 use Rattle.answer_lines.specs.Lines.{line_of}
 use Rattle.task_words.specs.declared.Task.{Task}
-use Rattle.task_words.specs.declared.Task.TheVariants.{Simulate}
-use Rattle.avalon_top.specs.declared.outcome.Outcome.{Outcome}
-use Rattle.avalon_top.specs.declared.outcome.Outcome.TheVariants.{Text, Trace}
+use Rattle.task_words.specs.declared.Task.TheVariants.{Simulate, Campaign}
 use Rattle.task_words.specs.Words.{AsksFor, file_words}
-use Rattle.avalon_top.specs.Simulate.{system_files, scenario_in}
+use Rattle.avalon_top.specs.declared.outcome.Outcome.{Outcome}
+use Rattle.avalon_top.specs.declared.outcome.Outcome.TheVariants.{Text, Trace, Counted}
+use Rattle.avalon_top.specs.Systems.{system_files, second_file}
 use Rattle.avalon_top.specs.Run.{Reads, Writes, AreFiles, IsResult, IsOnlyAnswer, WritesLine}
 
 -- the files call for a simulation that is ready to run
 pub record IsSimulation (task : Task) (files : List (List ℕ)) (prepared : Prepared) : Type 0 where
   pub task_is : task ≡ Simulate
-  pub ready : IsPrepared (system_files files) (scenario_in files) prepared
+  pub ready : IsPrepared (system_files files) (second_file files) prepared
+  pub only : IsOnlyAnswer task files exit.Done
+
+-- they call for a campaign that is ready to run
+pub record IsReadyCampaign (task : Task) (files : List (List ℕ)) (campaign : Lanes) : Type 0 where
+  pub number : ℕ
+  pub task_is : task ≡ Campaign number
+  pub ready : IsCampaign files number campaign
   pub only : IsOnlyAnswer task files exit.Done
 
 -- what a task is to write of files
 abbrev pub IsOutcome : Task → List (List ℕ) → Outcome → Type 0
 IsOutcome task files (Text bytes) = IsResult task files bytes
 IsOutcome task files (Trace prepared) = IsSimulation task files prepared
+IsOutcome task files (Counted campaign) = IsReadyCampaign task files campaign
 
 -- what a run of these words is to write
 pub record IsOutcomeOf (words : List (List ℕ)) (reads : Reads) (outcome : Outcome) : Type 0 where
@@ -46,30 +56,32 @@ pub record IsReady (prepared : Prepared) : Type 0 where
 abbrev pub CanBeWritten : Outcome → Type 0
 CanBeWritten (Text bytes) = Unit {0}
 CanBeWritten (Trace prepared) = IsReady prepared
+CanBeWritten (Counted campaign) = CanRun campaign
 
--- the text that is written of it
-abbrev pub IsItsText : Outcome → List ℕ → Type 0
-IsItsText (Text bytes) text = text ≡ bytes
-IsItsText (Trace prepared) text = IsTrace prepared.plan prepared.scenario prepared.module text
-
--- it was written whole
-pub record IsWhole (outcome : Outcome) (writes : Writes) : Type 0 where
+-- a text of which this holds was written whole
+pub record IsWhole (IsText : List ℕ → Type 0) (writes : Writes) : Type 0 where
   pub text : List ℕ
-  pub is_text : IsItsText outcome text
+  pub is_text : IsText text
   pub whole : writes.holds ≡ with_more writes.held text
 
 -- it was written in part, and the sink counts a fault
-pub record IsPart (outcome : Outcome) (writes : Writes) : Type 0 where
+pub record IsPart (IsText : List ℕ → Type 0) (writes : Writes) : Type 0 where
   pub text : List ℕ
-  pub is_text : IsItsText outcome text
+  pub is_text : IsText text
   pub count : ℕ
   pub part : count < length text
   pub written : writes.holds ≡ with_more writes.held (take count text)
   pub rose : Rose writes.before writes.after
 
--- when each answer comes, once it was to be written
+-- when each answer comes, once such a text was to be written
+abbrev pub EndsText : (List ℕ → Type 0) → Writes → Exit → Type 0
+EndsText IsText writes exit.Done = IsWhole IsText writes
+EndsText IsText writes exit.WriteFault = IsPart IsText writes
+EndsText IsText writes exit.NoMemory = WritesLine (line_of exit.NoMemory) writes
+EndsText IsText writes _ = ⊥
+
+-- and once an outcome was to be written
 abbrev pub Ends : Outcome → Writes → Exit → Type 0
-Ends outcome writes exit.Done = IsWhole outcome writes
-Ends outcome writes exit.WriteFault = IsPart outcome writes
-Ends outcome writes exit.NoMemory = WritesLine (line_of exit.NoMemory) writes
-Ends outcome writes _ = ⊥
+Ends (Text bytes) writes e = EndsText (λ text. text ≡ bytes) writes e
+Ends (Trace prepared) writes e = EndsText (IsTrace prepared.plan prepared.scenario prepared.module) writes e
+Ends (Counted campaign) writes e = EndsText (IsTextOfModule campaign.plan campaign.number campaign.lanes.netlist) writes e

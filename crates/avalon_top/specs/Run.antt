@@ -20,14 +20,17 @@ use Rattle.routed_modules.specs.declared.routed.Routed.{Routed}
 use Rattle.routed_modules.specs.Routed.{IsRoutedModule}
 use Rattle.scenario_runs.specs.Prepared.{IsTraceOf}
 use Rattle.scenario_runs.specs.Workloads.{IsWorkloadText}
+use Rattle.scenario_runs.specs.Campaigns.{IsCampaignText}
 use Rattle.answer_lines.specs.declared.exit.StepRule.TheVariants.{Waves}
 use Rattle.answer_lines.specs.declared.exit.Exit.{Exit}
 use Rattle.answer_lines.specs.declared.exit.Exit.TheVariants as exit
 use Rattle.answer_lines.specs.Lines.{exit_of}
 use Rattle.task_words.specs.declared.Task.{Task}
-use Rattle.task_words.specs.declared.Task.TheVariants.{Generate, Check, Simulate, Replay, Dump, Undump, Workload, Module}
-use Rattle.task_words.specs.Words.{AsksFor, AsksForNothing, file_words}
-use Rattle.avalon_top.specs.Simulate.{system_files, scenario_in, SimulateCallsFor}
+use Rattle.task_words.specs.declared.Task.TheVariants.{Generate, Check, Simulate, Replay, Dump, Undump, Campaign, Workload, Module}
+use Rattle.task_words.specs.Words.{AsksFor, AsksForNothing, file_words, named_by}
+use Rattle.avalon_top.specs.Systems.{system_files, second_file}
+use Rattle.avalon_top.specs.Simulate.{SimulateCallsFor}
+use Rattle.avalon_top.specs.Campaign.{CampaignCallsFor}
 use Rattle.avalon_top.specs.Done.{CallsForDone}
 use Rattle.avalon_top.specs.Refused.{DoneOrRefused}
 
@@ -74,10 +77,11 @@ UndumpCallsFor dump = DoneOrRefused (CanUndump dump) (IsUndumpFault dump) answer
 abbrev pub CallsFor : Task → List (List ℕ) → Exit → Type 0
 CallsFor Generate files = SystemCallsFor files
 CallsFor Check files = SystemCallsFor files
-CallsFor Simulate files = SimulateCallsFor (system_files files) (scenario_in files)
+CallsFor Simulate files = SimulateCallsFor (system_files files) (second_file files)
 CallsFor Replay files = ReplayCallsFor (text_in files) (waves_in files)
 CallsFor Dump files = ReplayCallsFor (text_in files) (waves_in files)
 CallsFor Undump files = UndumpCallsFor (dump_in files)
+CallsFor (Campaign number) files = CampaignCallsFor number files
 CallsFor (Workload number) files = CallsForDone
 CallsFor (Module wanted) files = CallsForDone
 
@@ -118,10 +122,11 @@ pub record StatePlan (files : List (List ℕ)) (P : PlanTable → Type 0) : Type
 abbrev pub IsTextOf : Task → List (List ℕ) → List ℕ → Type 0
 IsTextOf Generate files text = StatePlan files (λ plan. IsInterconnectText plan text)
 IsTextOf Check files text = StatePlan files (λ plan. IsMapText plan text)
-IsTextOf Simulate files text = IsTraceOf (system_files files) (scenario_in files) text
+IsTextOf Simulate files text = IsTraceOf (system_files files) (second_file files) text
 IsTextOf Replay files text = IsReplayOfText (text_in files) (waves_in files) text
 IsTextOf Dump files text = IsDumpOfText (text_in files) (waves_in files) text
 IsTextOf Undump files text = IsUndumpOf (dump_in files) text
+IsTextOf (Campaign number) files text = IsCampaignText files number text
 IsTextOf (Workload number) files text = IsWorkloadText number text
 IsTextOf (Module wanted) files text = IsModuleText wanted text
 
@@ -161,6 +166,7 @@ most_bytes Simulate file = 1048576
 most_bytes Replay file = if file == 1 then 268435456 else 1048576
 most_bytes Dump file = if file == 1 then 268435456 else 1048576
 most_bytes Undump file = 16777216
+most_bytes (Campaign number) file = 1048576
 most_bytes (Workload number) file = 1048576
 most_bytes (Module wanted) file = 1048576
 
@@ -170,7 +176,7 @@ AreShort task files = (k : ℕ) (bytes : List ℕ) → slice_get files k ≡ Som
 
 -- files that were loaded, numbered from 1: each is what the shelf tells of it, where it tells it, and no longer than is read
 pub record AreLoaded (task : Task) (told : ℕ → Option (List ℕ)) (files : List (List ℕ)) : Type 0 where
-  pub each : (k : ℕ) (bytes : List ℕ) → slice_get files k ≡ Some bytes → WhereTold (told (k + 1)) (λ is. bytes ≡ is)
+  pub each : (k : ℕ) (bytes : List ℕ) → slice_get files k ≡ Some bytes → WhereTold (told (named_by task (k + 1))) (λ is. bytes ≡ is)
   pub short : AreShort task files
 
 -- all files of the words were loaded, each named by a word but the first
@@ -195,15 +201,15 @@ pub record IsBytesLimit (task : Task) (which count words : ℕ) (told : ℕ → 
   pub loaded : AreLoaded task told earlier
   pub inside : length earlier + 1 < words
   pub count_is : count ≡ most_bytes task (length earlier + 1) + 1
-  pub long : WhereTold (told (length earlier + 1)) (λ bytes. most_bytes task (length earlier + 1) < length bytes)
+  pub long : WhereTold (told (named_by task (length earlier + 1))) (λ bytes. most_bytes task (length earlier + 1) < length bytes)
 
 -- a read that failed, of a file of the words; those before it were loaded
 pub record IsReadFault (task : Task) (file words : ℕ) (reads : Reads) : Type 0 where
   pub few : words ≤ 65
   pub earlier : List (List ℕ)
   pub loaded : AreLoaded task reads.told earlier
-  pub number : file ≡ length earlier + 1
-  pub inside : file < words
+  pub inside : length earlier + 1 < words
+  pub number : file ≡ named_by task (length earlier + 1)
   pub rose : Rose reads.before reads.after
   pub is_failed : reads.failed ≡ file
 
@@ -269,9 +275,9 @@ WritesLine line writes =
 -- the words ask for the task, the shelf tells all their files, which are few and short, and no fault is counted
 pub record NothingFails (task : Task) (files words : List (List ℕ)) (reads : Reads) (writes : Writes) : Type 0 where
   pub asks : AsksFor words task
-  pub few : length words ≤ 65
+  pub few : length files ≤ 64
   pub count : length files + 1 ≡ file_words task (length words)
-  pub told : (k : ℕ) (bytes : List ℕ) → slice_get files k ≡ Some bytes → reads.told (k + 1) ≡ Some bytes
+  pub told : (k : ℕ) (bytes : List ℕ) → slice_get files k ≡ Some bytes → reads.told (named_by task (k + 1)) ≡ Some bytes
   pub short : AreShort task files
   pub reads_well : ¬ Rose reads.before reads.after
   pub writes_well : ¬ Rose writes.before writes.after

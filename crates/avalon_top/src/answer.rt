@@ -1,11 +1,12 @@
 ghost use Rattle.std.specs.Prelude.{◌≡◌, ℕ, ◌^◌, ◌<◌, ◌≤◌, [], ◌∷◌, ◌++◌, length, map, string_bytes, All, OnOk, IfOk, IfErr};
 ghost use Rattle.av_files.specs.Outside.{WhereTold};
 ghost use Rattle.answer_lines.specs.Lines.{line_of};
-ghost use Rattle.task_words.specs.Words.{AreItsFiles};
+ghost use Rattle.task_words.specs.Words.{AreItsFiles, named_by};
 ghost use Rattle.avalon_top.specs.Run.{reads_by, writes_by, Reads, Writes, most_bytes, AreFiles, Answers, IsComplete, IsRefusal, WritesLine, IsResult, answer_of};
 ghost use Rattle.avalon_top.specs.Loading.{StopsAtFile, StopsFiles, StopsLoading, Stops};
 ghost use Rattle.avalon_top.specs.Outcome.{IsOutcome, IsOutcomeOf};
 
+use crate::campaign::campaign;
 use crate::dumped::{dump_files, undump_file};
 use crate::made::{interconnect_text, module_text};
 use crate::outcome::{Outcome, refuse, write_outcome};
@@ -18,7 +19,7 @@ use replays::{ReplayFault, replay, texts_are_replayed_or_refused};
 use scenario_runs::workload_text;
 use std::alloc::Global;
 use system_plan::{accepted_or_refused, plan_of};
-use task_words::{Task, file_words, read_words};
+use task_words::{Task, file_words, named_by, read_words};
 
 /// The most bytes of a Verilog text.
 const TEXT_LIMIT: u64 = 268_435_456;
@@ -47,18 +48,21 @@ fn most_bytes(task: Task, file: u32) -> u64
     }
 }
 
+/// Loads this file of a task, counted from 1.
 fn load<S: Shelf>(alloc: Global, shelf: &mut S, task: Task, file: u32) -> Result<Bytes, Exit>
+    requires { file ≤ 65 }
     ensures stops { IfErr result (StopsAtFile task file (reads_by S.told S.faults S.failed shelf.old shelf.new)) }
-    ensures loaded { IfOk result (λ bytes. WhereTold (S.told shelf.old file) (λ told. bytes ≡ told)) }
+    ensures loaded { IfOk result (λ bytes. WhereTold (S.told shelf.old (named_by task file)) (λ told. bytes ≡ told)) }
     ensures short { IfOk result (λ bytes. length bytes ≤ most_bytes task file) }
     ensures grows { S.faults shelf.old ≤ S.faults shelf.new }
     ensures below { S.faults shelf.new < 2 ^ 64 }
     ensures told { (k : ℕ) → S.told shelf.new k ≡ S.told shelf.old k }
 {
     let limit = most_bytes(task, file);
-    match load_all(alloc, shelf, file, limit) {
+    let word = named_by(task, file);
+    match load_all(alloc, shelf, word, limit) {
         Ok(bytes) => Ok(bytes),
-        Err(LoadFault::ReadFault) => Err(Exit::ReadFault { file }),
+        Err(LoadFault::ReadFault) => Err(Exit::ReadFault { file: word }),
         Err(LoadFault::TooLong) => Err(Exit::Limit {
             which: 5,
             count: limit + 1,
@@ -174,6 +178,9 @@ fn outcome_of(alloc: Global, task: Task, files: Vec<Bytes>) -> Result<Outcome, E
 {
     let text = match task {
         Task::Simulate => return Ok(Outcome::Trace(simulation(alloc, files)?)),
+        Task::Campaign { number } => {
+            return Ok(Outcome::Counted(campaign(alloc, files.as_slice(), number)?));
+        }
         Task::Generate => generate(alloc, files.as_slice())?,
         Task::Check => check(alloc, files.as_slice())?,
         Task::Replay => replay_files(alloc, files.as_slice())?,
@@ -216,8 +223,9 @@ pub fn run<S: Shelf, K: Sink>(alloc: Global, words: &[String], shelf: &mut S, si
     // the plan, and its hosts and agents, in every run. At `Done` of `replay` what is written stands at the outputs of the module of
     // the text, in each cycle of the waves, and at `Done` of `dump` it is the dump of what stands at all of its ports. At `Done` of
     // `undump` it is the rows of the one dump whose text the file is. At `Done` of `simulate` it is the trace of a run of such a
-    // module with what the scenario states; at `Done` of `workload` it tells what is counted in such a run of the workload system of
-    // the number. At `Done` of `mux`, `demux` and `gather` the text of a module is written that does so in every run.
+    // module with what the scenario states; at `Done` of `campaign` it tells what is counted in eight such runs, each with what is drawn
+    // for its lane; at `Done` of `workload` what is counted in one of the workload system of the number. At `Done` of `mux`, `demux` and
+    // `gather` the text of a module is written that does so in every run.
     ensures answers { Answers (map string_bytes words.now)
         (record { told = S.told shelf.old; before = S.faults shelf.old; after = S.faults shelf.new; failed = S.failed shelf.new })
         (record { held = K.held sink.old; holds = K.held sink.new; before = K.faults sink.old; after = K.faults sink.new }) result }

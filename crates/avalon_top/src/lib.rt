@@ -2,12 +2,14 @@
 #![tactic(auto)]
 
 mod answer;
+mod campaign;
 mod dumped;
 mod laws;
 mod made;
 mod outcome;
 mod process;
 mod simulate;
+mod systems;
 
 pub use answer::run;
 pub use answer_lines::{Exit, StepRule};
@@ -15,5 +17,6 @@ pub use byte_lines::Line;
 pub use laws::files_call_for_one_answer;
 pub use link_rules::LinkRule;
 pub use process::status_of_process;
+pub use scenario_runs::campaign_module;
 pub use script_words::ScriptRule;
 pub use task_words::{Task, read_words};

@@ -1,15 +1,17 @@
 //! What a run writes.
 
 ghost use Rattle.std.specs.Prelude.{◌≡◌, ◌^◌, ◌<◌, ◌≤◌};
+ghost use Rattle.answer_lines.specs.declared.exit.Exit.TheVariants.{NoMemory as WantOfMemory};
 ghost use Rattle.answer_lines.specs.Lines.{line_of};
 ghost use Rattle.avalon_top.specs.Run.{writes_by, WritesLine};
+ghost use Rattle.scenario_runs.specs.Campaigns.{CanRun};
 ghost use Rattle.avalon_top.specs.Outcome.{IsReady, CanBeWritten, Ends};
-ghost use Rattle.avalon_top.specs.declared.outcome.Outcome.TheVariants.{Text, Trace};
+ghost use Rattle.avalon_top.specs.declared.outcome.Outcome.TheVariants.{Text, Trace, Counted};
 
 use answer_lines::Exit;
 use av_base::Bytes;
 use av_files::{Sink, put_all};
-use scenario_runs::Prepared;
+use scenario_runs::{Campaign, Prepared, campaign_module};
 use simulations::simulate_module;
 use std::alloc::Global;
 
@@ -20,6 +22,8 @@ pub(crate) enum Outcome {
     Text(Bytes),
     /// The trace of a simulation, line by line.
     Trace(Prepared),
+    /// What is counted of a campaign.
+    Counted(Campaign),
 }
 
 /// Writes the line of a refusal.
@@ -30,6 +34,17 @@ pub(crate) fn refuse<K: Sink>(sink: &mut K, exit: &Exit)
 {
     let line = exit.line();
     let _ = put_all(sink, line.as_slice());
+}
+
+/// Writes the line of want of memory.
+fn want_memory<K: Sink>(sink: &mut K) -> Exit
+    ensures answer { result ≡ WantOfMemory }
+    ensures line { WritesLine (line_of WantOfMemory) (writes_by K.held K.faults sink.old sink.new) }
+    ensures grows { K.faults sink.old ≤ K.faults sink.new }
+    ensures below { K.faults sink.old < 2 ^ 64 → K.faults sink.new < 2 ^ 64 }
+{
+    refuse(sink, &Exit::NoMemory);
+    Exit::NoMemory
 }
 
 /// Writes bytes, and answers whether they were written whole.
@@ -61,10 +76,26 @@ fn write_trace<K: Sink>(alloc: Global, prepared: Prepared, sink: &mut K) -> Exit
     match simulate_module(alloc, module, &plan, &ports, &scenario, sink) {
         Ok(true) => Exit::Done,
         Ok(false) => Exit::WriteFault,
-        Err(_) => {
-            refuse(sink, &Exit::NoMemory);
-            Exit::NoMemory
-        }
+        Err(_) => want_memory(sink),
+    }
+}
+
+/// Runs a campaign and writes its lines. Memory is wanted before its first cycle alone.
+fn write_campaign<K: Sink>(alloc: Global, campaign: Campaign, sink: &mut K) -> Exit
+    requires { CanRun campaign }
+    ensures ends { Ends (Counted campaign) (writes_by K.held K.faults sink.old sink.new) result }
+    ensures grows { K.faults sink.old ≤ K.faults sink.new }
+    ensures below { K.faults sink.old < 2 ^ 64 → K.faults sink.new < 2 ^ 64 }
+{
+    let Campaign {
+        plan,
+        ports,
+        mut lanes,
+        number,
+    } = campaign;
+    match campaign_module(alloc, &mut lanes, &plan, &ports, number, sink) {
+        Exit::NoMemory => want_memory(sink),
+        exit => exit,
     }
 }
 
@@ -78,5 +109,6 @@ pub(crate) fn write_outcome<K: Sink>(alloc: Global, outcome: Outcome, sink: &mut
     match outcome {
         Outcome::Text(text) => write_text(&text, sink),
         Outcome::Trace(prepared) => write_trace(alloc, prepared, sink),
+        Outcome::Counted(campaign) => write_campaign(alloc, campaign, sink),
     }
 }

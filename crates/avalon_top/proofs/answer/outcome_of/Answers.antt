@@ -1,7 +1,7 @@
 use Rattle.std.proofs.Common.{length, sym, subst}
 use Rattle.std.proofs.lemmas.Result.{err_from_is_err_and}
 use Rattle.task_words.specs.declared.Task.{Task}
-use Rattle.task_words.specs.declared.Task.TheVariants.{Generate, Check, Replay, Dump, Undump, Workload, Module}
+use Rattle.task_words.specs.declared.Task.TheVariants.{Generate, Check, Replay, Dump, Undump, Campaign, Workload, Module}
 use Rattle.task_words.specs.Words.{AreItsFiles}
 use Rattle.avalon_top.specs.Loading.{StopsFiles}
 use Rattle.avalon_top.proofs.OutcomeLemmas.{same_result, stops_same}
@@ -15,10 +15,17 @@ returns-in_err-simulation-in-Simulate-clause-stops c =
     rw (handed.1, handed.2)
     (subst (λ (t : Task). StopsFiles t c.args.files.items c.in_err-simulation-in-Simulate.field-0.0) (sym c.in-Simulate.is) c.in_err-simulation-in-Simulate.ensures.stops)
 
+pub returns-in_err-campaign-in-Campaign-clause-stops : goal.returns-in_err-campaign-in-Campaign-clause-stops
+returns-in_err-campaign-in-Campaign-clause-stops c =
+    let handed = err_from_is_err_and c.from_residual-in_err-campaign-in-Campaign.result c.from_residual-in_err-campaign-in-Campaign.ensures.1 in
+    rw (handed.1, handed.2)
+    (stops_same c.args.task (Campaign c.in-Campaign.number) c.args.files.items c.as_slice.result.now c.in_err-campaign-in-Campaign.field-0.0 c.in-Campaign.is c.as_slice.ensures.value
+    c.in_err-campaign-in-Campaign.ensures.stops)
+
 pub returns-in_err-text-in-Generate-clause-stops : goal.returns-in_err-text-in-Generate-clause-stops
 returns-in_err-text-in-Generate-clause-stops c =
     let handed = err_from_is_err_and c.from_residual-in_err-text-in-Generate.result c.from_residual-in_err-text-in-Generate.ensures.1 in
-    rw (handed.1, handed.2) (stops_same c.args.task Generate c.args.files.items c.as_slice.result.now c.in_err-text-in-Generate.field-0.0 c.in-Generate.is c.as_slice.ensures.value c.in_err-text-in-Generate.ensures.stops)
+    rw (handed.1, handed.2) (stops_same c.args.task Generate c.args.files.items c.as_slice-in-Generate.result.now c.in_err-text-in-Generate.field-0.0 c.in-Generate.is c.as_slice-in-Generate.ensures.value c.in_err-text-in-Generate.ensures.stops)
 
 pub returns-in_err-text-in-Check-clause-stops : goal.returns-in_err-text-in-Check-clause-stops
 returns-in_err-text-in-Check-clause-stops c =
@@ -50,7 +57,7 @@ returns-clause-outcome c =
     let text = c.match-task.text in
     elim c.match-task.branch [
       | in-Generate+in_ok-text-in-Generate w ↦
-          same_result task Generate files text w.in_ok-text-in-Generate.text w.in-Generate.is w.text-is (rw w.as_slice.ensures.value at w.in_ok-text-in-Generate.ensures.result)
+          same_result task Generate files text w.in_ok-text-in-Generate.text w.in-Generate.is w.text-is (rw w.as_slice-in-Generate.ensures.value at w.in_ok-text-in-Generate.ensures.result)
       | in-Check+in_ok-text-in-Check w ↦
           same_result task Check files text w.in_ok-text-in-Check.text w.in-Check.is w.text-is (rw w.as_slice-in-Check.ensures.value at w.in_ok-text-in-Check.ensures.result)
       | in-Replay+in_ok-text-in-Replay w ↦

@@ -6,7 +6,7 @@ pub returns-in-Ok-clause-answers : goal.returns-in-Ok-clause-answers
 returns-in-Ok-clause-answers g c = ended _ _ _ c.in-Ok.outcome c.write_outcome.result c.in-Ok.ensures.outcome c.write_outcome.ensures.ends
 
 pub returns-in-Ok-clause-line : goal.returns-in-Ok-clause-line
-returns-in-Ok-clause-line g c = ended_line _ c.in-Ok.outcome c.write_outcome.result c.write_outcome.ensures.ends
+returns-in-Ok-clause-line g c = ended_line _ _ _ c.in-Ok.outcome c.write_outcome.result c.in-Ok.ensures.outcome c.write_outcome.ensures.ends
 
 pub returns-in-Ok-clause-complete : goal.returns-in-Ok-clause-complete
 returns-in-Ok-clause-complete g c = ended_well _ _ _ c.in-Ok.outcome c.write_outcome.result c.in-Ok.ensures.outcome c.write_outcome.ensures.ends

@@ -1,4 +1,4 @@
-use Rattle.avalon_top.specs.Simulate.{system_files, scenario_in}
+use Rattle.avalon_top.specs.Systems.{system_files, second_file}
 use Rattle.avalon_top.specs.Run.{text_in, waves_in, dump_in}
 use Rattle.avalon_top.proofs.AnswerLemmas.{one_answer}
 use Rattle.avalon_top.proofs.laws.files_call_for_one_answer.Goals as goal
@@ -13,9 +13,9 @@ returns c =
     (record {
       system = λ some. record { either = system.either files some; never_both = λ r accepted. system.never_both files accepted r; one_fault = system.one_refusal files };
       simulated = λ some. record {
-        either = simulated.either (system_files files) (scenario_in files) some;
-        never_both = simulated.never_both (system_files files) (scenario_in files);
-        one_fault = simulated.one_fault (system_files files) (scenario_in files);
+        either = simulated.either (system_files files) (second_file files) some;
+        never_both = simulated.never_both (system_files files) (second_file files);
+        one_fault = simulated.one_fault (system_files files) (second_file files);
       };
       replayed = record {
         either = replay.either (text_in files) (waves_in files);
