@@ -19,6 +19,7 @@ fn command_of(text: &str) -> (&'static str, &str) {
         (":dump\n", "dump"),
         (":undump\n", "undump"),
         (":workload\n", "workload"),
+        (":campaign\n", "campaign"),
         (":mux\n", "mux"),
         (":demux\n", "demux"),
         (":gather\n", "gather"),
@@ -240,13 +241,15 @@ pub fn files_of(
     Ok((files, mark))
 }
 
-/// The command, and a word for each file. A workload and a module have the numbers that are their texts in place of files.
+/// The command, and a word for each file. A workload and a module have the numbers that are their texts in place of files, and so has a
+/// campaign in place of the first one.
 pub fn words_of(alloc: Global, row: &Row) -> Result<Vec<String>, AllocError> {
     let mut words = Vec::new(alloc);
     words.push(String::from_str(alloc, row.command)?)?;
-    for text in row.files.split(":file") {
+    for (k, text) in row.files.split(":file").enumerate() {
         let word = match row.command {
             "workload" | "mux" | "demux" | "gather" => text.trim(),
+            "campaign" if k == 0 => text.trim(),
             _ => "file",
         };
         words.push(String::from_str(alloc, word)?)?;
