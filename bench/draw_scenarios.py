@@ -43,8 +43,9 @@ def pattern(g):
     return "".join("1" if g.draw(4) == 0 else "0" for _ in range(16))
 
 
-def drawn(n, lane, cycles):
-    g, system, out = Generator(n, lane), System(n), [f"drawn {n} lane {lane}", f"cycles {cycles}"]
+def drawn(n, lane, cycles, of=None):
+    """What number n draws for a lane of the workload system `of`, its own if none is said."""
+    g, system, out = Generator(n, lane), System(n if of is None else of), [f"drawn {n} lane {lane}", f"cycles {cycles}"]
     for number in range(len(system.hosts)):
         tell_host(g, system, number, out)
     for number in range(len(system.agents)):
