@@ -10,7 +10,7 @@ use Rattle.lane_sim.specs.LaneSims.{LanesValue, lane_of}
 use Rattle.scenario_tables.specs.declared.scenario.Scenario.{Scenario}
 use Rattle.scenario_tables.specs.Scenarios.{IsScenario}
 use Rattle.trace_lines.specs.declared.counts.Counts.{Counts}
-use Rattle.bench_parts.specs.Counting.{HaveRoom}
+use Rattle.benches.specs.Counting.{HaveRoom}
 use Rattle.simulations.specs.Benches.{BenchValue, IsSetUp, IsUnderWay}
 use Rattle.simulations.specs.Runs.{CountsSoFar, IsCountedRun, no_counts}
 use Rattle.campaigns.specs.declared.lane_bench.LaneBench.{LaneBench}

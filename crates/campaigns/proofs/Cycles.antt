@@ -9,7 +9,7 @@ use Rattle.lane_sim.specs.LaneSims.{IsEdge, IsStepWith, LanesValue, lane_of}
 use Rattle.scenario_tables.specs.declared.scenario.Scenario.{Scenario}
 use Rattle.trace_lines.specs.declared.counts.Counts.{Counts}
 use Rattle.trace_lines.specs.Sums.{with_counts}
-use Rattle.bench_parts.specs.Counting.{HaveRoom}
+use Rattle.benches.specs.Counting.{HaveRoom}
 use Rattle.simulations.specs.Benches.{BenchValue, IsSetUp, IsUnderWay}
 use Rattle.simulations.specs.Cycles.{HasCycleLeft, IsAsked, IsTold, IsEvaluated, counts_of, first_words, run_with}
 use Rattle.simulations.specs.Runs.{CountsSoFar}

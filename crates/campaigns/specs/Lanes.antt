@@ -7,7 +7,7 @@ use Rattle.cycle_sim.specs.Sims.{SimValue}
 use Rattle.cycle_sim.specs.Standing.{StandsFor}
 use Rattle.lane_sim.specs.LaneSims.{LanesValue, lane_of}
 use Rattle.scenario_tables.specs.declared.scenario.Scenario.{Scenario}
-use Rattle.bench_parts.specs.Counting.{HaveRoom}
+use Rattle.benches.specs.Counting.{HaveRoom}
 use Rattle.simulations.specs.Benches.{BenchValue, IsSetUp, IsUnderWay}
 use Rattle.simulations.specs.Runs.{CountsSoFar, no_counts}
 use Rattle.simulations.specs.Value.{value_with}

@@ -6,7 +6,7 @@ use Rattle.cycle_sim.specs.Sims.{SimValue}
 use Rattle.lane_sim.specs.LaneSims.{IsEdge}
 use Rattle.scenario_tables.specs.declared.scenario.Scenario.{Scenario}
 use Rattle.trace_lines.specs.Sums.{with_counts}
-use Rattle.bench_parts.specs.Counting.{HaveRoom}
+use Rattle.benches.specs.Counting.{HaveRoom}
 use Rattle.simulations.specs.Benches.{BenchValue, IsSetUp, IsUnderWay}
 use Rattle.simulations.specs.Cycles.{IsShown, IsEvaluated, answered, counts_of, first_words, run_with, shown_first}
 use Rattle.simulations.specs.Value.{value_with}

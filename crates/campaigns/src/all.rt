@@ -3,15 +3,15 @@
 ghost use Rattle.std.specs.Prelude.{◌≡◌, ◌<◌, ℕ, length, slice_get, Some, IsFalse};
 ghost use Rattle.cycle_sim.specs.Sims.{SimValue};
 ghost use Rattle.lane_sim.specs.LaneSims.{lane_of};
-ghost use Rattle.bench_agents.specs.Agents.{BenchAgentValue, gives_at_once};
-ghost use Rattle.bench_parts.specs.Counting.{HaveRoom};
+ghost use Rattle.benches.specs.Agents.{BenchAgentValue, gives_at_once};
+ghost use Rattle.benches.specs.Counting.{HaveRoom};
 ghost use Rattle.simulations.specs.Cycles.{HasCycleLeft, IsAsked, IsTold};
 ghost use Rattle.simulations.specs.Value.{value_with};
 ghost use Rattle.campaigns.specs.Lanes.{EachBecomes, EachLane, value_in};
 ghost use Rattle.campaigns.specs.Phases.{HasShown, HasAnswered, HasEnded};
 
 use crate::lane_bench::LaneBench;
-use bench_parts::Simulator;
+use benches::parts::Simulator;
 use lane_sim::Lanes;
 
 /// In each lane the components show what they can before any command is known.

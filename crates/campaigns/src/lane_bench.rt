@@ -1,13 +1,13 @@
 ghost use Rattle.std.specs.Prelude.{◌≡◌, ◌<◌, ◌≤◌, ℕ, length, slice_index_or};
 ghost use Rattle.av_base.specs.Word.{word};
 ghost use Rattle.cycle_sim.specs.Sims.{SimValue};
-ghost use Rattle.bench_parts.specs.Counting.{HaveRoom};
+ghost use Rattle.benches.specs.Counting.{HaveRoom};
 ghost use Rattle.simulations.specs.Cycles.{HasCycleLeft, IsAsked, IsTold};
 ghost use Rattle.simulations.specs.Value.{value_with};
 ghost use Rattle.campaigns.specs.Phases.{HasShown, HasAnswered, HasEnded};
 
 use av_base::Val;
-use bench_parts::Simulator;
+use benches::parts::Simulator;
 use simulations::Bench;
 use trace_lines::Counts;
 

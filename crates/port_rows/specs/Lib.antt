@@ -1,2 +1,12 @@
 pub mod Levels
 pub mod Rows
+pub mod Given
+pub mod Blocks
+pub mod Inputs
+pub mod Hosts
+pub mod WorkedHosts
+pub mod Agents
+pub mod WorkedAgents
+pub mod Sources
+pub mod Sinks
+pub mod WorkedStreams

@@ -1,10 +1,14 @@
 //! What stands at the ports of a plan's module, as rows of values: one for each input, in header order.
 #![tactic(auto)]
 
+pub mod agent_ends;
 mod driven;
+pub mod host_ends;
+pub mod input_places;
 mod laws;
 mod places;
 mod row;
+pub mod stream_ends;
 
 pub use driven::Driven;
 pub use laws::{

@@ -17,9 +17,9 @@ use Rattle.scenario_tables.specs.declared.scenario.Scenario.{Scenario}
 use Rattle.agent_stand_ins.specs.Whole.{AgentStandInValue, IsFirst, StandsFor as AgentStandsFor}
 use Rattle.simulated_runs.specs.Ends.{stream_view}
 use Rattle.simulated_runs.specs.Simulated.{IsSimulated}
-use Rattle.bench_hosts.specs.Hosts.{AreFirstHosts}
-use Rattle.bench_agents.specs.Agents.{AreFirstAgents}
-use Rattle.bench_streams.specs.Streams.{AreFirstStreams}
+use Rattle.benches.specs.Hosts.{AreFirstHosts}
+use Rattle.benches.specs.Agents.{AreFirstAgents}
+use Rattle.benches.specs.Streams.{AreFirstStreams}
 use Rattle.simulations.specs.Benches.{BenchValue, ComponentsStand, IsUnderWay}
 
 none_before : {A : Type 0} (c : ℕ) → c < 0 → A

@@ -17,12 +17,12 @@ use Rattle.port_tables.specs.declared.roles.PortRole.TheVariants as role
 use Rattle.port_tables.specs.Ports.{bits_if, port_of}
 use Rattle.port_rows.specs.Levels.{Level, level_if}
 use Rattle.stream_stand_ins.specs.Sources.{no_beat}
-use Rattle.host_ends.specs.Inputs.{place_at}
-use Rattle.host_ends.specs.Hosts.{host_places, host_levels}
-use Rattle.agent_ends.specs.declared.places.AgentLevels.{AgentLevels}
-use Rattle.agent_ends.specs.Agents.{agent_places, agent_levels}
-use Rattle.stream_ends.specs.Sources.{source_places, source_levels}
-use Rattle.input_places.specs.Blocks.{RoleLevel, EndLevels, AreEndInputs, AllAreEndInputs, end_levels}
+use Rattle.port_rows.specs.Inputs.{place_at}
+use Rattle.port_rows.specs.Hosts.{host_places, host_levels}
+use Rattle.port_rows.specs.declared.agent_ends.places.AgentLevels.{AgentLevels}
+use Rattle.port_rows.specs.Agents.{agent_places, agent_levels}
+use Rattle.port_rows.specs.Sources.{source_places, source_levels}
+use Rattle.port_rows.specs.Blocks.{RoleLevel, EndLevels, AreEndInputs, AllAreEndInputs, end_levels}
 
 -- levels are given at an end, and at some ends one after another
 pub record IsGivenAt (system : SystemTable) (end : EndId) (levels : List Level) : Type 0 where

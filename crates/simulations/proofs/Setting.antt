@@ -17,15 +17,15 @@ use Rattle.port_tables.specs.Ports.{connection_ends, ends_of}
 use Rattle.port_tables.specs.PortMaps.{HasKnownPorts}
 use Rattle.scenario_tables.specs.declared.statements.Pattern.{Pattern}
 use Rattle.port_rows.specs.Levels.{Level, AllFit, AllStand, AreApart, level_if}
-use Rattle.agent_ends.specs.Agents.{agent_levels, agent_places}
-use Rattle.host_ends.specs.Hosts.{host_levels, host_places}
-use Rattle.stream_ends.specs.Sources.{source_levels}
-use Rattle.input_places.specs.Blocks.{EndLevels, AllAreEndInputs, end_levels}
-use Rattle.bench_hosts.specs.Hosts.{BenchHostValue, IsHostOf}
-use Rattle.bench_hosts.specs.Hosts as of_hosts
-use Rattle.bench_agents.specs.Agents.{BenchAgentValue, IsAgentOf, levels_with}
-use Rattle.bench_streams.specs.Streams.{BenchStreamValue, IsStreamOf, shown_by, is_ready}
-use Rattle.bench_streams.specs.Streams as of_streams
+use Rattle.port_rows.specs.Agents.{agent_levels, agent_places}
+use Rattle.port_rows.specs.Hosts.{host_levels, host_places}
+use Rattle.port_rows.specs.Sources.{source_levels}
+use Rattle.port_rows.specs.Blocks.{EndLevels, AllAreEndInputs, end_levels}
+use Rattle.benches.specs.Hosts.{BenchHostValue, IsHostOf}
+use Rattle.benches.specs.Hosts as of_hosts
+use Rattle.benches.specs.Agents.{BenchAgentValue, IsAgentOf, levels_with}
+use Rattle.benches.specs.Streams.{BenchStreamValue, IsStreamOf, shown_by, is_ready}
+use Rattle.benches.specs.Streams as of_streams
 use Rattle.simulations.specs.Benches.{BenchValue, all_levels, sets_with}
 use Rattle.simulations.proofs.Given.{AreGivenAt, IsGivenAt, host_is_given, agent_is_given, source_is_given, sink_is_given, one_given, both_given, many_given, each_alone}
 

@@ -14,12 +14,12 @@ use Rattle.host_stand_ins.specs.Steps.{all_steps, shown}
 use Rattle.host_stand_ins.specs.StandIns.{left_before}
 use Rattle.stream_stand_ins.specs.Sources.{Shows, beat_shown}
 use Rattle.stream_stand_ins.specs.Sinks.{ready_in}
-use Rattle.agent_ends.specs.Agents.{AreShownBy}
+use Rattle.port_rows.specs.Agents.{AreShownBy}
 use Rattle.simulated_runs.specs.Simulated.{AgentShows}
-use Rattle.bench_parts.specs.Outputs.{level_now}
+use Rattle.benches.specs.Outputs.{level_now}
 use Rattle.cycle_sim.specs.Sims.{SimValue}
-use Rattle.bench_agents.specs.Agents.{BenchAgentValue, commanded, levels_with}
-use Rattle.bench_agents.specs.Agents as of_agents
+use Rattle.benches.specs.Agents.{BenchAgentValue, commanded, levels_with}
+use Rattle.benches.specs.Agents as of_agents
 
 pub some_same : {X : Type 0} (x y : X) → Some x ≡ Some y → x ≡ y
 some_same x y e = cc

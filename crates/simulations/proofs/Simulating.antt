@@ -9,7 +9,7 @@ use Rattle.netlist.specs.Netlists.{Netlist}
 use Rattle.netlist.specs.Runs.{Run, Cycle}
 use Rattle.cycle_sim.specs.Sims.{present}
 use Rattle.cycle_sim.specs.Standing.{StandsFor, with_cycle}
-use Rattle.bench_parts.specs.Writing.{text_of, HoldsPart}
+use Rattle.benches.specs.Writing.{text_of, HoldsPart}
 use Rattle.trace_lines.specs.declared.counts.Counts.{Counts}
 use Rattle.trace_lines.specs.Counted.{counts_before}
 use Rattle.trace_lines.specs.Sums.{counts_in, with_counts}
@@ -186,7 +186,7 @@ counts_on none next counted earlier plan scenario netlist c bench evaluated afte
           ∙ ap (λ (n : Netlist). counts_before (run_ends plan n (run_with run c evaluated)) (suc c)) (sym on.same_after);
     })
 
-simulated_whole : (plan : PlanTable) (scenario : Scenario) (netlist own : Netlist) (run : Run) (c : ℕ) → own ≡ netlist → c ≡ scenario.cycles → IsSimulated plan scenario own run c → IsSimulated plan scenario netlist run scenario.cycles
+pub simulated_whole : (plan : PlanTable) (scenario : Scenario) (netlist own : Netlist) (run : Run) (c : ℕ) → own ≡ netlist → c ≡ scenario.cycles → IsSimulated plan scenario own run c → IsSimulated plan scenario netlist run scenario.cycles
 simulated_whole plan scenario netlist own run c same last is =
     subst (λ (n : Netlist). IsSimulated plan scenario n run scenario.cycles) same (subst (IsSimulated plan scenario own run) last is)
 

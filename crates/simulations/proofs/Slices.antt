@@ -7,10 +7,10 @@ use Rattle.netlist.specs.Runs.{Run}
 use Rattle.cycle_sim.specs.Sims.{SimValue}
 use Rattle.scenario_tables.specs.declared.scenario.Scenario.{Scenario}
 use Rattle.trace_lines.specs.declared.counts.Counts.{Counts}
-use Rattle.bench_parts.specs.Counting.{HaveRoom}
-use Rattle.bench_hosts.specs.Hosts.{BenchHostValue}
-use Rattle.bench_agents.specs.Agents.{BenchAgentValue}
-use Rattle.bench_streams.specs.Streams.{BenchStreamValue}
+use Rattle.benches.specs.Counting.{HaveRoom}
+use Rattle.benches.specs.Hosts.{BenchHostValue}
+use Rattle.benches.specs.Agents.{BenchAgentValue}
+use Rattle.benches.specs.Streams.{BenchStreamValue}
 use Rattle.simulations.specs.Benches.{IsUnderWay}
 
 -- a vector whose items were all written

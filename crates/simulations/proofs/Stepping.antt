@@ -10,7 +10,7 @@ use Rattle.port_tables.specs.Ports.{ports_of}
 use Rattle.port_rows.specs.Levels.{Level, AllFit, AllStand, set_levels}
 use Rattle.scenario_tables.specs.declared.scenario.Scenario.{Scenario}
 use Rattle.simulated_runs.specs.Simulated.{IsSimulated}
-use Rattle.bench_agents.specs.Agents.{BenchAgentValue}
+use Rattle.benches.specs.Agents.{BenchAgentValue}
 use Rattle.simulations.specs.Benches.{BenchValue, ComponentsStand, IsUnderWay, all_levels}
 use Rattle.simulations.specs.Cycles.{IsShown}
 use Rattle.simulations.specs.Sound.{AllFitPorts}

@@ -21,9 +21,9 @@ use Rattle.interconnect.specs.Streams.{dropped_signal}
 use Rattle.scenario_tables.specs.declared.statements.Pattern.{Pattern}
 use Rattle.simulated_runs.specs.Ends.{stream_view}
 use Rattle.trace_lines.specs.Told.{HostEnd, AgentEnd, StreamEnd, StreamEnds}
-use Rattle.bench_hosts.specs.Hosts.{BenchHostValue, IsHostOf}
-use Rattle.bench_agents.specs.Agents.{BenchAgentValue, IsAgentOf}
-use Rattle.bench_streams.specs.Streams.{BenchStreamValue, IsStreamOf, ends_of_bench}
+use Rattle.benches.specs.Hosts.{BenchHostValue, IsHostOf}
+use Rattle.benches.specs.Agents.{BenchAgentValue, IsAgentOf}
+use Rattle.benches.specs.Streams.{BenchStreamValue, IsStreamOf, ends_of_bench}
 use Rattle.simulations.specs.Traces.{agent_end, host_end, name_in, stream_ends}
 use Rattle.simulations.proofs.Ends.{host_side_is, agent_side_is}
 

@@ -5,7 +5,7 @@ use Rattle.std.proofs.lemmas.List.Concat.{flat_map-append}
 use Rattle.std.proofs.Math.Seq.{take-append-add}
 use Rattle.std.specs.Bool.{OnTrue, OnFalse}
 use Rattle.av_files.specs.Outside.{Rose, with_more}
-use Rattle.bench_parts.specs.Writing.{text_of, HoldsPart}
+use Rattle.benches.specs.Writing.{text_of, HoldsPart}
 
 pub with_nothing : (held : Option (List ℕ)) → held ≡ with_more held []
 with_nothing None = refl

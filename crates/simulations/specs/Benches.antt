@@ -23,14 +23,14 @@ use Rattle.host_stand_ins.specs.Steps.{all_steps}
 use Rattle.host_stand_ins.specs.StandIns.{left_before}
 use Rattle.agent_stand_ins.specs.Whole.{StandsFor as AgentStandsFor}
 use Rattle.stream_stand_ins.specs.Sources.{keeping_at}
-use Rattle.agent_ends.specs.Agents.{AllHoldBytes, agent_levels}
+use Rattle.port_rows.specs.Agents.{AllHoldBytes, agent_levels}
 use Rattle.simulated_runs.specs.Ends.{stream_view}
 use Rattle.simulated_runs.specs.Simulated.{IsSimulated}
-use Rattle.bench_hosts.specs.Hosts.{BenchHostValue, IsHostOf}
-use Rattle.bench_hosts.specs.Hosts as of_hosts
-use Rattle.bench_agents.specs.Agents.{BenchAgentValue, IsAgentOf, levels_with}
-use Rattle.bench_streams.specs.Streams.{BenchStreamValue, IsStreamOf}
-use Rattle.bench_streams.specs.Streams as of_streams
+use Rattle.benches.specs.Hosts.{BenchHostValue, IsHostOf}
+use Rattle.benches.specs.Hosts as of_hosts
+use Rattle.benches.specs.Agents.{BenchAgentValue, IsAgentOf, levels_with}
+use Rattle.benches.specs.Streams.{BenchStreamValue, IsStreamOf}
+use Rattle.benches.specs.Streams as of_streams
 
 -- a bench as contracts see it: the simulator, the row of its inputs, and the components
 pub record BenchValue : Type 0 where

@@ -11,14 +11,14 @@ use Rattle.scenario_tables.specs.declared.scenario.Scenario.{Scenario}
 use Rattle.simulated_runs.specs.Simulated.{AreShown}
 use Rattle.trace_lines.specs.declared.counts.Counts.{Counts}
 use Rattle.trace_lines.specs.Sums.{with_counts}
-use Rattle.bench_parts.specs.Counting.{counted_together}
-use Rattle.bench_hosts.specs.Hosts.{BenchHostValue}
-use Rattle.bench_hosts.specs.Hosts as of_hosts
+use Rattle.benches.specs.Counting.{counted_together}
+use Rattle.benches.specs.Hosts.{BenchHostValue}
+use Rattle.benches.specs.Hosts as of_hosts
 use Rattle.agent_stand_ins.specs.Whole.{word_shown}
-use Rattle.bench_agents.specs.Agents.{BenchAgentValue}
-use Rattle.bench_agents.specs.Agents as of_agents
-use Rattle.bench_streams.specs.Streams.{BenchStreamValue}
-use Rattle.bench_streams.specs.Streams as of_streams
+use Rattle.benches.specs.Agents.{BenchAgentValue}
+use Rattle.benches.specs.Agents as of_agents
+use Rattle.benches.specs.Streams.{BenchStreamValue}
+use Rattle.benches.specs.Streams as of_streams
 use Rattle.simulations.specs.Benches.{BenchValue, IsSetUp, IsUnderWay, all_levels}
 use Rattle.simulations.specs.Sound.{AllFitPorts, StreamsAreShown}
 

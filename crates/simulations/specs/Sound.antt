@@ -17,17 +17,17 @@ use Rattle.scenario_tables.specs.declared.statements.Pattern.{Pattern}
 use Rattle.scenario_tables.specs.declared.scenario.Scenario.{Scenario}
 use Rattle.scenario_tables.specs.Statements.{IsHostScript, IsAgentScript, IsSourceScript, IsSinkScript}
 use Rattle.stream_stand_ins.specs.Sources.{no_beat}
-use Rattle.host_ends.specs.Hosts.{FitsPorts as FitsHostPorts}
-use Rattle.agent_ends.specs.Agents.{FitsPorts as FitsAgentPorts, AreShownBy}
-use Rattle.stream_ends.specs.Sources.{FitsSource}
-use Rattle.stream_ends.specs.Sinks.{FitsReady}
+use Rattle.port_rows.specs.Hosts.{FitsPorts as FitsHostPorts}
+use Rattle.port_rows.specs.Agents.{FitsPorts as FitsAgentPorts, AreShownBy}
+use Rattle.port_rows.specs.Sources.{FitsSource}
+use Rattle.port_rows.specs.Sinks.{FitsReady}
 use Rattle.simulated_runs.specs.Ends.{stream_view}
-use Rattle.bench_parts.specs.Outputs.{level_now}
-use Rattle.bench_hosts.specs.Hosts.{BenchHostValue}
-use Rattle.bench_hosts.specs.Hosts as of_hosts
-use Rattle.bench_agents.specs.Agents.{BenchAgentValue, commanded, levels_with}
-use Rattle.bench_streams.specs.Streams.{BenchStreamValue, IsStreamOf, is_ready}
-use Rattle.bench_streams.specs.Streams as of_streams
+use Rattle.benches.specs.Outputs.{level_now}
+use Rattle.benches.specs.Hosts.{BenchHostValue}
+use Rattle.benches.specs.Hosts as of_hosts
+use Rattle.benches.specs.Agents.{BenchAgentValue, commanded, levels_with}
+use Rattle.benches.specs.Streams.{BenchStreamValue, IsStreamOf, is_ready}
+use Rattle.benches.specs.Streams as of_streams
 use Rattle.simulations.specs.Benches.{BenchValue, HostStands, AgentStands, StreamStands}
 
 -- ---- as a cycle begins

@@ -1,5 +1,5 @@
 use Rattle.std.proofs.Common.{◌≡◌, ℕ, get_or, slice_get, Some, IsFalse, refl, sym, subst, arith}
-use Rattle.bench_agents.specs.Agents.{BenchAgentValue, gives_at_once}
+use Rattle.benches.specs.Agents.{BenchAgentValue, gives_at_once}
 use Rattle.campaigns.specs.declared.lane_bench.LaneBench.{LaneBench}
 use Rattle.campaigns.proofs.Many.{each_up_to, within}
 use Rattle.campaigns.proofs.all.any_gives_at_once.Goals as goal

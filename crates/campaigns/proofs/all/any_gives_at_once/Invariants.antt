@@ -1,5 +1,5 @@
 use Rattle.std.proofs.Common.{◌≡◌, ◌<◌, ℕ, slice_get, Some, IsFalse}
-use Rattle.bench_agents.specs.Agents.{BenchAgentValue, gives_at_once}
+use Rattle.benches.specs.Agents.{BenchAgentValue, gives_at_once}
 use Rattle.campaigns.specs.declared.lane_bench.LaneBench.{LaneBench}
 use Rattle.campaigns.proofs.all.any_gives_at_once.Given as goal
 

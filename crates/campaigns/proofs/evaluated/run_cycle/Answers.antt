@@ -1,6 +1,6 @@
 use Rattle.std.proofs.Common.{◌≡◌, ◌<◌, ◌-◌, ◌*◌, ℕ, List, length, refl, sym, ap, subst, ◌∙◌, arith}
 use Rattle.trace_lines.specs.declared.counts.Counts.{Counts}
-use Rattle.bench_parts.specs.Counting.{HaveRoom}
+use Rattle.benches.specs.Counting.{HaveRoom}
 use Rattle.campaigns.specs.Lanes.{value_in}
 use Rattle.campaigns.proofs.Cycles.{cycle_left, lane_goes_on, room_for_cycle, told}
 use Rattle.campaigns.proofs.Many.{some_at, within}

@@ -1,5 +1,5 @@
 use Rattle.std.proofs.Common.{ℕ, List, ◌∷◌, [], ◌++◌, sym, ap, ◌∙◌}
-use Rattle.bench_parts.specs.Writing.{text_of}
+use Rattle.benches.specs.Writing.{text_of}
 use Rattle.trace_lines.specs.Lines.{end_line}
 use Rattle.simulations.specs.Benches.{IsSetUp}
 use Rattle.simulations.specs.Traces.{run_ends}

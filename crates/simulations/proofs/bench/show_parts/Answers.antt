@@ -1,8 +1,8 @@
 use Rattle.std.specs.Prelude.{flat_map}
-use Rattle.bench_hosts.specs.Hosts as of_hosts
-use Rattle.bench_agents.specs.Agents.{BenchAgentValue}
-use Rattle.bench_agents.specs.Agents as of_agents
-use Rattle.bench_streams.specs.Streams as of_streams
+use Rattle.benches.specs.Hosts as of_hosts
+use Rattle.benches.specs.Agents.{BenchAgentValue}
+use Rattle.benches.specs.Agents as of_agents
+use Rattle.benches.specs.Streams as of_streams
 use Rattle.simulations.proofs.Stepping.{first_part_fits, second_part_fits, third_part_fits, set_in_three}
 use Rattle.simulations.proofs.bench.show_parts.Goals as goal
 

@@ -15,10 +15,10 @@ use Rattle.scenario_tables.specs.declared.statements.SourceStatement.{SourceStat
 use Rattle.scenario_tables.specs.declared.statements.Pattern.{Pattern}
 use Rattle.simulated_runs.specs.Ends.{stream_view}
 use Rattle.simulated_runs.specs.Simulated.{IsSimulated}
-use Rattle.bench_hosts.specs.Hosts.{BenchHostValue}
-use Rattle.bench_hosts.specs.Hosts as of_hosts
-use Rattle.bench_streams.specs.Streams.{BenchStreamValue}
-use Rattle.bench_streams.specs.Streams as of_streams
+use Rattle.benches.specs.Hosts.{BenchHostValue}
+use Rattle.benches.specs.Hosts as of_hosts
+use Rattle.benches.specs.Streams.{BenchStreamValue}
+use Rattle.benches.specs.Streams as of_streams
 use Rattle.simulations.specs.Benches.{AgentStands, ComponentsStand, HostStands, StreamStands}
 use Rattle.simulations.specs.Cycles.{run_with}
 use Rattle.simulations.proofs.Beside.{has, inside}

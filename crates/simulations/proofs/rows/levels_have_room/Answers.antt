@@ -1,6 +1,6 @@
 use Rattle.std.proofs.Common.{◌++◌, flat_map, ◌∙◌}
-use Rattle.bench_hosts.specs.Hosts as of_hosts
-use Rattle.bench_streams.specs.Streams as of_streams
+use Rattle.benches.specs.Hosts as of_hosts
+use Rattle.benches.specs.Streams as of_streams
 use Rattle.simulations.specs.Benches.{sets_with}
 use Rattle.simulations.proofs.Setting.{AreOf, all_apart, all_fit_both, all_fit_many, stream_count_is}
 use Rattle.simulations.proofs.rows.levels_have_room.Goals as goal

@@ -1,11 +1,11 @@
 use Rattle.std.proofs.Common.{ℕ, sym, ap, subst, ◌∙◌}
 use Rattle.mm_runs.specs.Views.{HostView, AgentView, levels_at}
 use Rattle.port_rows.specs.Rows.{IsGivenRow}
-use Rattle.agent_ends.specs.Agents.{AreShownBy}
-use Rattle.bench_parts.specs.Present.{IsPresent}
-use Rattle.bench_hosts.specs.Hosts as of_hosts
-use Rattle.bench_agents.specs.Agents.{levels_with}
-use Rattle.bench_streams.specs.Streams as of_streams
+use Rattle.port_rows.specs.Agents.{AreShownBy}
+use Rattle.benches.specs.Present.{IsPresent}
+use Rattle.benches.specs.Hosts as of_hosts
+use Rattle.benches.specs.Agents.{levels_with}
+use Rattle.benches.specs.Streams as of_streams
 use Rattle.simulations.specs.Benches.{sets_with}
 use Rattle.simulations.proofs.Ends.{host_in_is, agent_in_is}
 use Rattle.simulations.proofs.Setting.{one_of_many_stands, hosts_stand, agents_stand, streams_stand}

@@ -1,5 +1,5 @@
 use Rattle.std.proofs.Common.{◌≡◌, ◌+◌, ◌-◌, ◌*◌, ℕ, sym, subst, arith}
-use Rattle.bench_parts.specs.Counting.{HaveRoom}
+use Rattle.benches.specs.Counting.{HaveRoom}
 use Rattle.simulations.specs.Benches.{IsSetUp}
 use Rattle.simulations.specs.Traces.{run_ends}
 use Rattle.simulations.specs.Value.{value_of}

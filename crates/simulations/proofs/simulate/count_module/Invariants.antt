@@ -1,5 +1,5 @@
 use Rattle.std.proofs.Common.{◌-◌, ◌*◌}
-use Rattle.bench_parts.specs.Counting.{HaveRoom}
+use Rattle.benches.specs.Counting.{HaveRoom}
 use Rattle.simulations.specs.Value.{value_of}
 use Rattle.simulations.specs.Runs.{CountsSoFar}
 use Rattle.simulations.proofs.simulate.count_module.Given as goal

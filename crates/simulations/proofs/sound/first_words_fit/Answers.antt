@@ -1,6 +1,6 @@
 use Rattle.std.proofs.Common.{◌≡◌, ℕ, List, sym, subst}
 use Rattle.host_stand_ins.specs.Steps.{Step, shown}
-use Rattle.host_ends.specs.Hosts.{FitsPorts}
+use Rattle.port_rows.specs.Hosts.{FitsPorts}
 use Rattle.interconnect.specs.Memory.{host_in, agent_in}
 use Rattle.simulated_runs.specs.Ends.{stream_view}
 use Rattle.stream_stand_ins.specs.Sources.{keeping_at}

@@ -6,9 +6,9 @@ use Rattle.cycle_sim.specs.Sims.{given_to, input_widths, present}
 use Rattle.mm_path.specs.Shown.{standing_still}
 use Rattle.port_rows.specs.Levels.{AllStand, set_levels}
 use Rattle.agent_stand_ins.specs.Whole.{word_now, word_shown}
-use Rattle.bench_hosts.specs.Hosts as of_hosts
-use Rattle.bench_agents.specs.Agents.{BenchAgentValue, commanded, gives_at_once, word_answered}
-use Rattle.bench_streams.specs.Streams as of_streams
+use Rattle.benches.specs.Hosts as of_hosts
+use Rattle.benches.specs.Agents.{BenchAgentValue, commanded, gives_at_once, word_answered}
+use Rattle.benches.specs.Streams as of_streams
 use Rattle.simulations.specs.Benches.{IsSetUp, all_levels, sets_with}
 use Rattle.simulations.specs.Cycles.{answered, first_words}
 use Rattle.simulations.proofs.Answered.{set_in_the_middle}

@@ -13,12 +13,12 @@ use Rattle.interconnect.specs.Streams.{dropped_signal}
 use Rattle.simulated_runs.specs.Ends.{stream_view}
 use Rattle.trace_lines.specs.Told.{HostEnd, StreamEnds, told_of_host, told_of_agent, told_of_stream}
 use Rattle.trace_lines.specs.Sums.{beats_taken_in, symbols_delivered_in}
-use Rattle.bench_hosts.specs.Hosts.{BenchHostValue}
-use Rattle.bench_hosts.specs.Hosts as of_hosts
-use Rattle.bench_agents.specs.Agents.{BenchAgentValue}
-use Rattle.bench_agents.specs.Agents as of_agents
-use Rattle.bench_streams.specs.Streams.{BenchStreamValue}
-use Rattle.bench_streams.specs.Streams as of_streams
+use Rattle.benches.specs.Hosts.{BenchHostValue}
+use Rattle.benches.specs.Hosts as of_hosts
+use Rattle.benches.specs.Agents.{BenchAgentValue}
+use Rattle.benches.specs.Agents as of_agents
+use Rattle.benches.specs.Streams.{BenchStreamValue}
+use Rattle.benches.specs.Streams as of_streams
 use Rattle.simulations.specs.Cycles.{run_with}
 use Rattle.simulations.specs.Traces.{agent_end, host_end, stream_ends}
 use Rattle.simulations.proofs.TellLemmas.{host_end_is, agent_end_is, stream_ends_are, told_end}

@@ -1,9 +1,9 @@
 use Rattle.std.proofs.Common.{◌≡◌, ℕ, List, ◌++◌, Some, flat_map, slice_get, refl, ap, subst}
 use Rattle.av_base.specs.Word.{Word}
 use Rattle.port_rows.specs.Levels.{set_levels}
-use Rattle.bench_hosts.specs.Hosts as of_hosts
-use Rattle.bench_agents.specs.Agents.{BenchAgentValue, word_answered}
-use Rattle.bench_streams.specs.Streams as of_streams
+use Rattle.benches.specs.Hosts as of_hosts
+use Rattle.benches.specs.Agents.{BenchAgentValue, word_answered}
+use Rattle.benches.specs.Streams as of_streams
 use Rattle.simulations.specs.Benches.{BenchValue, sets_with}
 use Rattle.simulations.specs.Cycles.{first_words}
 use Rattle.simulations.specs.Value.{value_with}

@@ -1,7 +1,7 @@
 use Rattle.std.proofs.Common.{◌≡◌, List, Some, slice_get, length, refl, ap, subst, arith}
-use Rattle.bench_hosts.specs.Hosts.{BenchHostValue}
-use Rattle.bench_agents.specs.Agents.{BenchAgentValue}
-use Rattle.bench_streams.specs.Streams.{BenchStreamValue}
+use Rattle.benches.specs.Hosts.{BenchHostValue}
+use Rattle.benches.specs.Agents.{BenchAgentValue}
+use Rattle.benches.specs.Streams.{BenchStreamValue}
 use Rattle.simulations.specs.Value.{value_with}
 use Rattle.simulations.proofs.Slices.{room_behind_all, room_behind_one, room_behind_two}
 use Rattle.simulations.proofs.bench.Bench.count.Goals as goal

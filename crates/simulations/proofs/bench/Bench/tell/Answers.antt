@@ -1,13 +1,13 @@
 use Rattle.std.proofs.Common.{◌≡◌, ℕ, List, Some, slice_get, ◌++◌, flat_map, refl, ap, subst, ◌∙◌}
 use Rattle.std.specs.Bool.{OnTrue, OnFalse}
 use Rattle.av_files.specs.Outside.{with_more}
-use Rattle.bench_parts.specs.Writing.{text_of, HoldsPart}
-use Rattle.bench_hosts.specs.Hosts.{BenchHostValue}
-use Rattle.bench_hosts.specs.Hosts as of_hosts
-use Rattle.bench_agents.specs.Agents.{BenchAgentValue}
-use Rattle.bench_agents.specs.Agents as of_agents
-use Rattle.bench_streams.specs.Streams.{BenchStreamValue}
-use Rattle.bench_streams.specs.Streams as of_streams
+use Rattle.benches.specs.Writing.{text_of, HoldsPart}
+use Rattle.benches.specs.Hosts.{BenchHostValue}
+use Rattle.benches.specs.Hosts as of_hosts
+use Rattle.benches.specs.Agents.{BenchAgentValue}
+use Rattle.benches.specs.Agents as of_agents
+use Rattle.benches.specs.Streams.{BenchStreamValue}
+use Rattle.benches.specs.Streams as of_streams
 use Rattle.cycle_sim.specs.Sims.{SimValue}
 use Rattle.simulations.specs.Value.{value_with}
 use Rattle.simulations.proofs.Written.{all_if, back_held, both_held, front_held, part_if, rose_since}

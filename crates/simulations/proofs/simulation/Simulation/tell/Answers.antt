@@ -2,7 +2,7 @@ use Rattle.std.proofs.Common.{◌≡◌, sym, subst}
 use Rattle.std.specs.Bool.{OnTrue, OnFalse}
 use Rattle.av_files.specs.Outside.{with_more}
 use Rattle.cycle_sim.specs.Sims.{SimValue}
-use Rattle.bench_parts.specs.Writing.{text_of, HoldsPart}
+use Rattle.benches.specs.Writing.{text_of, HoldsPart}
 use Rattle.simulations.specs.Cycles.{IsTold, lines_of}
 use Rattle.simulations.specs.Value.{value_with}
 use Rattle.simulations.proofs.simulation.Simulation.tell.Goals as goal

@@ -1,5 +1,0 @@
-use Rattle.agent_ends.proofs.Commanded.{never_read}
-use Rattle.agent_ends.proofs.laws.agents_are_commanded.Goals as goal
-
-pub returns-clause-unread : goal.returns-clause-unread
-returns-clause-unread c system netlist run cycle bytes = never_read c.outputs_are_those_of_nets.ensures system netlist run cycle

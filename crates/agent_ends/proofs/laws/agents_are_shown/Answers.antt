@@ -1,8 +1,0 @@
-use Rattle.agent_ends.proofs.Shown.{agent_shown, agent_fits}
-use Rattle.agent_ends.proofs.laws.agents_are_shown.Goals as goal
-
-pub returns-clause-shown : goal.returns-clause-shown
-returns-clause-shown c system netlist run cycle row = agent_shown system netlist run cycle row c.inputs_are_driven.ensures.shown c.inputs_are_driven.ensures.each
-
-pub returns-clause-room : goal.returns-clause-room
-returns-clause-room c system row = agent_fits system row c.inputs_are_driven.ensures.room c.inputs_are_driven.ensures.all

@@ -1,8 +1,0 @@
-use Rattle.agent_ends.proofs.Fitting.{rest_fits, stand_in_fits}
-use Rattle.agent_ends.proofs.laws.shown_agents_fit.Goals as goal
-
-pub returns-clause-shown : goal.returns-clause-shown
-returns-clause-shown c port script view cycle bounded kept bytes = stand_in_fits port script view cycle bytes bounded kept
-
-pub returns-clause-wordless : goal.returns-clause-wordless
-returns-clause-wordless c = rest_fits

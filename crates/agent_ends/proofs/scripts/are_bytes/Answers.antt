@@ -1,4 +1,0 @@
-use Rattle.agent_ends.proofs.scripts.are_bytes.Goals as goal
-
-pub returns : goal.returns
-returns c = λ k. (c.type_inv.bytes k).fits

@@ -1,5 +1,0 @@
-use Rattle.bench_hosts.proofs.Gathering.{AreBegun}
-use Rattle.bench_hosts.proofs.host.hosts_of_plan.Given as goal
-
-abbrev pub invariant-hosts : goal.invariant-hosts
-invariant-hosts l = AreBegun l.plan.system l.scripts l.number l.hosts.items

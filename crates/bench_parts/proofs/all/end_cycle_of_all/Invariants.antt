@@ -1,5 +1,0 @@
-use Rattle.bench_parts.proofs.Many.{AreBehind}
-use Rattle.bench_parts.proofs.all.end_cycle_of_all.Given as goal
-
-abbrev pub invariant-components : goal.invariant-components
-invariant-components g l = AreBehind (λ (old new : g.row.C.Denot). g.C.Component.follows old l.sim new) l.initial.components l.components l.component-index

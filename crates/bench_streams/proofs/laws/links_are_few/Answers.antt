@@ -1,5 +1,0 @@
-use Rattle.bench_streams.proofs.Links.{few_links}
-use Rattle.bench_streams.proofs.laws.links_are_few.Goals as goal
-
-pub returns : goal.returns
-returns c = λ plan is. few_links plan is (c.streams_are_numbered.ensures.numbers plan.system is.system)

@@ -1,0 +1,9 @@
+pub mod Outputs
+pub mod Writing
+pub mod Counting
+pub mod Present
+pub mod Simulators
+pub mod Hosts
+pub mod Agents
+pub mod Streams
+pub mod Sound

@@ -1,5 +1,0 @@
-use Rattle.input_places.proofs.ApartLemmas.{given_apart}
-use Rattle.input_places.proofs.laws.inputs_given_once_are_apart.Goals as goal
-
-pub returns : goal.returns
-returns c system given known once = given_apart system c.inputs_have_places.ensures.apart known given once

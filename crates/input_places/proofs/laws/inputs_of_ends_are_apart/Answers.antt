@@ -1,5 +1,0 @@
-use Rattle.input_places.proofs.BlockLemmas.{ends_apart}
-use Rattle.input_places.proofs.laws.inputs_of_ends_are_apart.Goals as goal
-
-pub returns : goal.returns
-returns c = λ system ends ports are all. ends_apart system ports c.inputs_have_places.ensures.apart ends are all

@@ -1,9 +1,0 @@
-use Rattle.std.proofs.Common.{None}
-use Rattle.stream_stand_ins.specs.Steps.{left_before, steps_of}
-use Rattle.stream_stand_ins.specs.Sources.{port_pace}
-use Rattle.stream_ends.proofs.Fitting.{script_fits, left_before_fits, next_fits}
-use Rattle.stream_ends.proofs.laws.shown_beats_fit.Goals as goal
-
-pub returns : goal.returns
-returns c port script view cycle may kept =
-    next_fits port may (left_before (port_pace port) (steps_of script) view cycle) (left_before_fits port (port_pace port) (steps_of script) view cycle (script_fits port None script kept.follow))
