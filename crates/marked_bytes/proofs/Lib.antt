@@ -5,3 +5,4 @@ pub mod Writing
 pub mod Readings
 pub mod Packets
 pub mod Running
+pub mod Going

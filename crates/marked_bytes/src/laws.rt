@@ -1,6 +1,6 @@
 //! What holds of all marked bytes, and small streams that show it. The functions do nothing; their contracts are the laws.
 
-ghost use Rattle.std.specs.Prelude.{◌≡◌, ℕ, ◌<◌, Bool, true, false, List, [], ◌∷◌, ◌++◌, length, Option};
+ghost use Rattle.std.specs.Prelude.{◌≡◌, ◌⊎◌, ℕ, ◌<◌, Bool, true, false, List, [], ◌∷◌, ◌++◌, length, Option};
 ghost use Rattle.std.specs.List.{list_all};
 ghost use Rattle.marked_bytes.specs.declared.unpacker.Awaits.{Awaits as Due};
 ghost use Rattle.marked_bytes.specs.declared.unpacker.Unpacker.{Unpacker};
@@ -28,6 +28,13 @@ pub fn one_fault()
 /// Whole packets are read without a fault.
 pub fn whole_packets_are_read()
     ensures { (fed : List ℕ) (items : List Item) → are_items items ≡ true → IsWhole fed items → (unpacker : Unpacker) × IsFed fed items unpacker }
+{}
+
+/// Behind bytes without a fault the next byte goes on or is at fault, and their packets are whole or one stands open.
+pub fn streams_go_on()
+    ensures next { (fed : List ℕ) (items : List Item) (unpacker : Unpacker) (byte : ℕ) → IsFed fed items unpacker
+        → ((others : List Item) × (after : Unpacker) × IsFed (fed ++ byte ∷ []) others after) ⊎ ((rule : ℕ) × IsFaulty fed items byte rule) }
+    ensures end { (fed : List ℕ) (items : List Item) (unpacker : Unpacker) → IsFed fed items unpacker → IsWhole fed items ⊎ (¬ IsWhole fed items) }
 {}
 
 /// Bytes are unpacked as one list of packets at most.

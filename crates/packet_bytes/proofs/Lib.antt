@@ -8,3 +8,4 @@ pub mod OneAnswer
 pub mod Leading
 pub mod Touched
 pub mod Unpacked
+pub mod Answered

@@ -99,7 +99,11 @@ one_fault laws word_bytes range bytes place later rule other (inr h) (inl g) = a
 one_fault laws word_bytes range bytes place later rule other (inr h) (inr g) =
     some_same (Refused place rule) (Refused later other) (sym h.first ∙ ap (first_fault word_bytes range 0) (same_packets laws bytes h.packets g.packets h.read g.read) ∙ g.first)
 
+pub packets_or_fault : (laws : Laws) (word_bytes range : ℕ) (bytes : List ℕ) (packets : List Packet) (place rule : ℕ) → AreRead bytes packets → first_fault word_bytes range 0 packets ≡ None
+    → IsFaultOf word_bytes range bytes (Refused place rule) → ⊥
+packets_or_fault laws word_bytes range bytes packets place rule read faultless (inl h) = never_both laws bytes packets place rule read h
+packets_or_fault laws word_bytes range bytes packets place rule read faultless (inr h) =
+    none_or_some (Refused place rule) (sym faultless ∙ ap (first_fault word_bytes range 0) (same_packets laws bytes packets h.packets read h.read) ∙ h.first)
+
 pub transfers_or_fault : (laws : Laws) (word_bytes range : ℕ) (bytes : List ℕ) (transfers : Transfers) (place rule : ℕ) → AreTransfers word_bytes range bytes transfers → IsFaultOf word_bytes range bytes (Refused place rule) → ⊥
-transfers_or_fault laws word_bytes range bytes transfers place rule t (inl h) = never_both laws bytes transfers.packets.items place rule t.read h
-transfers_or_fault laws word_bytes range bytes transfers place rule t (inr h) =
-    none_or_some (Refused place rule) (sym t.faultless ∙ ap (first_fault word_bytes range 0) (same_packets laws bytes transfers.packets.items h.packets t.read h.read) ∙ h.first)
+transfers_or_fault laws word_bytes range bytes transfers place rule t f = packets_or_fault laws word_bytes range bytes transfers.packets.items place rule t.read t.faultless f

@@ -5,7 +5,7 @@ ghost use Rattle.packet_bytes.specs.Codes.{code_of, is_fixed, is_write};
 
 /// The first byte of a packet.
 #[derive(Clone, Copy)]
-pub(crate) enum Code {
+pub enum Code {
     WriteFixed,
     WriteIncrementing,
     ReadFixed,

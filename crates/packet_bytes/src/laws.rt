@@ -1,13 +1,13 @@
 //! That a stream has one answer, and small streams with their packets, faults, statements and replies. The functions do nothing; their contracts are
 //! laws and worked rows.
 
-ghost use Rattle.std.specs.Prelude.{◌≡◌, ◌↔◌, ℕ, ◌+◌, ◌<◌, ◌≤◌, length, map, take, List, [], ◌∷◌, ◌++◌, Some, None, codes};
+ghost use Rattle.std.specs.Prelude.{◌≡◌, ◌↔◌, ◌⊎◌, ℕ, ◌+◌, ◌<◌, ◌≤◌, length, map, take, List, [], ◌∷◌, ◌++◌, Some, None, codes};
 ghost use Rattle.packet_bytes.specs.declared.faults.PacketFault.TheVariants.{Refused};
 ghost use Rattle.packet_bytes.specs.Counts.{command_count};
 ghost use Rattle.packet_bytes.specs.declared.gathering.Packet.{Packet as Gathered};
 ghost use Rattle.packet_bytes.specs.declared.transfers.Transfers.{Transfers as Asked};
 ghost use Rattle.packet_bytes.specs.Streams.{AreRead};
-ghost use Rattle.packet_bytes.specs.Rules.{packet_fault, AreTransfers, IsFaultOf};
+ghost use Rattle.packet_bytes.specs.Rules.{packet_fault, first_fault, AreTransfers, IsFaultOf};
 ghost use Rattle.packet_bytes.specs.Commands.{packet_text};
 ghost use Rattle.packet_bytes.specs.Worked.{packet, escaped_items, header};
 ghost use Rattle.packet_bytes.specs.Gathering.{gathered};
@@ -17,7 +17,7 @@ ghost use Rattle.packet_bytes.specs.Leading.{AreEnough};
 ghost use Rattle.packet_bytes.specs.Unplaced.{unplaced};
 ghost use Rattle.marked_bytes.specs.Items.{IsUnpacked};
 
-use marked_bytes::{one_fault, one_reading, whole_packets_are_read};
+use marked_bytes::{one_fault, one_reading, streams_go_on, whole_packets_are_read};
 
 /// The places of a packet are those at which the data of its first and of its last byte is spelled: of an escaped one that of the escape.
 pub fn packets_have_places()
@@ -89,6 +89,19 @@ pub fn reads_have_one_answer()
 {
     one_reading();
     one_fault();
+    whole_packets_are_read();
+}
+
+/// Each stream has packets that break no rule, or a first fault, and never both.
+pub fn reads_are_answered()
+    ensures either { (word_bytes range : ℕ) (bytes : List ℕ) → ((packets : List Gathered) × AreRead bytes packets × (first_fault word_bytes range 0 packets ≡ None))
+        ⊎ ((place : ℕ) × (rule : ℕ) × IsFaultOf word_bytes range bytes (Refused place rule)) }
+    ensures never_both { (word_bytes range : ℕ) (bytes : List ℕ) (packets : List Gathered) (place rule : ℕ) → AreRead bytes packets → first_fault word_bytes range 0 packets ≡ None
+        → ¬ IsFaultOf word_bytes range bytes (Refused place rule) }
+{
+    one_reading();
+    one_fault();
+    streams_go_on();
     whole_packets_are_read();
 }
 
