@@ -1,0 +1,9 @@
+pub mod Cutting
+pub mod Numbers
+pub mod Lanes
+pub mod Stating
+pub mod Packets
+pub mod Bytes
+pub mod Names
+pub mod Whole
+pub mod Ends
