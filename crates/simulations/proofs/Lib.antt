@@ -18,3 +18,4 @@ mod Inputs
 mod OneRun
 mod Answered
 mod Sims
+mod NotedHosts

@@ -6,3 +6,4 @@ pub mod Cycles
 pub mod Value
 pub mod Runs
 pub mod Agreeing
+pub mod Noted
