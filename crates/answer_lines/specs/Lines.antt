@@ -51,6 +51,9 @@ scenario_line file line rule = codes "scenario refused: file " ++ decimal file +
 abbrev pub dump_line : ℕ → ℕ → List ℕ
 dump_line byte rule = codes "dump refused: byte " ++ decimal byte ++ codes " rule G" ++ decimal rule ++ codes "\n"
 
+abbrev pub packet_line : ℕ → ℕ → List ℕ
+packet_line byte rule = codes "packet refused: byte " ++ decimal byte ++ codes " rule Y" ++ decimal rule ++ codes "\n"
+
 -- the line of an answer, and no byte for those that write none
 abbrev pub line_of : Exit → List ℕ
 line_of exit.Done = []
@@ -63,6 +66,7 @@ line_of (exit.Limit which count) = limit_line which count
 line_of (exit.VerilogRefused byte rule) = verilog_line byte rule
 line_of (exit.ScenarioRefused file line rule) = scenario_line file line rule
 line_of (exit.DumpRefused byte rule) = dump_line byte rule
+line_of (exit.PacketRefused byte rule) = packet_line byte rule
 line_of exit.NoMemory = codes "no memory\n"
 
 abbrev pub status_of : Exit → ℕ
@@ -77,6 +81,7 @@ status_of (exit.VerilogRefused byte rule) = 8
 status_of (exit.ScenarioRefused file line rule) = 9
 status_of exit.NoMemory = 10
 status_of (exit.DumpRefused byte rule) = 11
+status_of (exit.PacketRefused byte rule) = 12
 
 -- the answer to files that are refused
 abbrev pub exit_of : Refusal → Exit

@@ -1,5 +1,5 @@
 ghost use Rattle.std.specs.Prelude.{◌≡◌, codes, decimal, ◌++◌};
-ghost use Rattle.answer_lines.specs.Lines.{status_of, line_of, script_line, link_line, limit_line, verilog_line, scenario_line, dump_line};
+ghost use Rattle.answer_lines.specs.Lines.{status_of, line_of, script_line, link_line, limit_line, verilog_line, scenario_line, dump_line, packet_line};
 
 use av_base::{NoMemory, Place};
 use byte_lines::Line;
@@ -63,6 +63,11 @@ pub enum Exit {
         byte: u64,
         rule: u8,
     },
+    /// Transactions break the rule of this number at this byte, from 0.
+    PacketRefused {
+        byte: u64,
+        rule: u8,
+    },
     /// Memory was wanted and not had.
     NoMemory,
 }
@@ -117,6 +122,7 @@ impl Exit {
             Exit::ScenarioRefused { .. } => 9,
             Exit::NoMemory => 10,
             Exit::DumpRefused { .. } => 11,
+            Exit::PacketRefused { .. } => 12,
         }
     }
 
@@ -140,6 +146,7 @@ impl Exit {
             Exit::VerilogRefused { byte, rule } => verilog_refused(byte, rule),
             Exit::ScenarioRefused { file, line, rule } => scenario_refused(file, line, rule),
             Exit::DumpRefused { byte, rule } => dump_refused(byte, rule),
+            Exit::PacketRefused { byte, rule } => packet_refused(byte, rule),
             Exit::NoMemory => Line::of(b"no memory\n"),
         }
     }
@@ -230,6 +237,16 @@ fn dump_refused(byte: u64, rule: u8) -> Line
     let mut line = Line::new();
     line.put_part(b"dump refused: byte ", byte);
     line.put_part(b" rule G", u64::from(rule));
+    line.put(b"\n");
+    line
+}
+
+fn packet_refused(byte: u64, rule: u8) -> Line
+    ensures { result ≡ packet_line byte rule }
+{
+    let mut line = Line::new();
+    line.put_part(b"packet refused: byte ", byte);
+    line.put_part(b" rule Y", u64::from(rule));
     line.put(b"\n");
     line
 }

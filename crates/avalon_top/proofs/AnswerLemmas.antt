@@ -15,7 +15,7 @@ use Rattle.answer_lines.specs.declared.exit.Exit.{Exit}
 use Rattle.answer_lines.specs.declared.exit.Exit.TheVariants as exit
 use Rattle.answer_lines.specs.Lines.{exit_of}
 use Rattle.task_words.specs.declared.Task.{Task}
-use Rattle.task_words.specs.declared.Task.TheVariants.{Generate, Check, Simulate, Replay, Dump, Undump, Campaign, Workload, Module}
+use Rattle.task_words.specs.declared.Task.TheVariants.{Generate, Check, Simulate, Replay, Dump, Undump, Campaign, Bridge, Workload, Module}
 use Rattle.task_words.specs.Words.{AsksFor, AreItsFiles, file_words, named_by}
 use Rattle.task_words.specs.OneTask.{one_task}
 use Rattle.avalon_top.specs.Refused.{IsAnswerOf, DoneOrRefused}
@@ -23,6 +23,10 @@ use Rattle.avalon_top.specs.Done.{CallsForDone}
 use Rattle.avalon_top.specs.Systems.{system_files, second_file, answer_of_system}
 use Rattle.avalon_top.specs.Simulate.{answer_of_simulation, SimulateCallsFor}
 use Rattle.avalon_top.specs.Campaign.{CampaignCallsFor}
+use Rattle.avalon_top.specs.Bridge.{answer_of_bridge, BridgeCallsFor}
+use Rattle.scenario_runs.specs.declared.bridges.faults.BridgeFault.{BridgeFault}
+use Rattle.scenario_runs.specs.declared.bridges.faults.BridgeFault.TheVariants as bridge
+use Rattle.scenario_runs.specs.Refused.{CanBridge, IsBridgeFault}
 use Rattle.scenario_runs.specs.declared.faults.SimulateFault.{SimulateFault}
 use Rattle.scenario_runs.specs.declared.faults.SimulateFault.TheVariants as simulate
 use Rattle.scenario_runs.specs.Simulations.{CanSimulate, IsSimulateFault}
@@ -59,6 +63,7 @@ stopped IsCalled (exit.Limit which count) refuses is = is
 stopped IsCalled (exit.VerilogRefused byte rule) refuses is = is
 stopped IsCalled (exit.ScenarioRefused file line rule) refuses is = is
 stopped IsCalled (exit.DumpRefused byte rule) refuses is = is
+stopped IsCalled (exit.PacketRefused byte rule) refuses is = is
 stopped IsCalled exit.NoMemory refuses is = is
 
 module _ {F : Type 0} (Can : Type 0) (IsFault : F → Type 0) (answer : F → Exit) (refuses : (f : F) → RefusesFiles (answer f)) where
@@ -74,6 +79,7 @@ module _ {F : Type 0} (Can : Type 0) (IsFault : F → Type 0) (answer : F → Ex
   cases (exit.VerilogRefused byte rule) h = inr h
   cases (exit.ScenarioRefused file line rule) h = inr h
   cases (exit.DumpRefused byte rule) h = inr h
+  cases (exit.PacketRefused byte rule) h = inr h
   cases exit.NoMemory h = inr h
 
   refused : (e : Exit) → RefusesFiles e → IsAnswerOf IsFault answer e → DoneOrRefused Can IsFault answer e
@@ -87,6 +93,7 @@ module _ {F : Type 0} (Can : Type 0) (IsFault : F → Type 0) (answer : F → Ex
   refused (exit.VerilogRefused byte rule) names h = h
   refused (exit.ScenarioRefused file line rule) names h = h
   refused (exit.DumpRefused byte rule) names h = h
+  refused (exit.PacketRefused byte rule) names h = h
   refused exit.NoMemory names h = h
 
   only_done : AreJudged Can IsFault → Can → IsOnly (DoneOrRefused Can IsFault answer) exit.Done
@@ -223,6 +230,26 @@ pub campaign_done : (number : ℕ) (files : List (List ℕ)) (plan : PlanTable) 
 campaign_done number files plan judged is =
     only_done (IsAccepted files) (IsRefusedBy files) (answer_of_system (Campaign number)) (by_words_refuses (Campaign number)) judged (accepted_files files plan is)
 
+-- ---- a bridge
+
+bridge_refuses : (cycles : ℕ) (f : BridgeFault) → RefusesFiles (answer_of_bridge cycles f)
+bridge_refuses cycles (bridge.SystemRefused refused) = by_words_refuses (Bridge cycles) refused
+bridge_refuses cycles (bridge.PacketRefused byte rule) = tt
+bridge_refuses cycles (bridge.TooManyValues count) = tt
+bridge_refuses cycles bridge.NoMemory = tt
+
+-- it is refused, or memory was wanted
+pub bridge_stops : (cycles : ℕ) (files : List (List ℕ)) (bytes : List ℕ) (f : BridgeFault) → AreJudged (CanBridge files bytes cycles) (IsBridgeFault files bytes cycles)
+    → (f ≡ bridge.NoMemory) ⊎ IsBridgeFault files bytes cycles f → IsStop (BridgeCallsFor cycles files bytes) (answer_of_bridge cycles f)
+bridge_stops cycles files bytes f judged is =
+    stops_for (CanBridge files bytes cycles) (IsBridgeFault files bytes cycles) (answer_of_bridge cycles) (bridge_refuses cycles) f judged
+    (⊎_elim (λ e. inl (ap (answer_of_bridge cycles) e)) (λ r. inr r) is)
+
+-- it calls for its replies
+pub bridge_done : (cycles : ℕ) (files : List (List ℕ)) (bytes : List ℕ) → AreJudged (CanBridge files bytes cycles) (IsBridgeFault files bytes cycles) → CanBridge files bytes cycles
+    → IsOnly (BridgeCallsFor cycles files bytes) exit.Done
+bridge_done cycles files bytes judged can = only_done (CanBridge files bytes cycles) (IsBridgeFault files bytes cycles) (answer_of_bridge cycles) (bridge_refuses cycles) judged can
+
 -- ---- what is done whatever else
 
 only_to_do : (e : Exit) → CallsForDone e → e ≡ exit.Done
@@ -236,6 +263,7 @@ only_to_do (exit.Limit which count) h = absurd h
 only_to_do (exit.VerilogRefused byte rule) h = absurd h
 only_to_do (exit.ScenarioRefused file line rule) h = absurd h
 only_to_do (exit.DumpRefused byte rule) h = absurd h
+only_to_do (exit.PacketRefused byte rule) h = absurd h
 only_to_do exit.NoMemory h = absurd h
 
 -- no other answer is called for
@@ -248,6 +276,7 @@ is_done = record { called = tt; only = only_to_do }
 pub record AreAllJudged (files : List (List ℕ)) : Type 0 where
   pub system : 1 ≤ length files → AreJudged (IsAccepted files) (IsRefusedBy files)
   pub simulated : 1 ≤ length (system_files files) → AreJudged (CanSimulate (system_files files) (second_file files)) (IsSimulateFault (system_files files) (second_file files))
+  pub bridged : (cycles : ℕ) → 1 ≤ length (system_files files) → AreJudged (CanBridge (system_files files) (second_file files) cycles) (IsBridgeFault (system_files files) (second_file files) cycles)
   pub replayed : AreJudged (CanReplayText (text_in files) (waves_in files)) (IsReplayTextFault (text_in files) (waves_in files))
   pub undumped : AreJudged (CanUndump (dump_in files)) (IsUndumpFault (dump_in files))
 
@@ -271,6 +300,9 @@ one_answer Dump files judged are = replay_answer (text_in files) (waves_in files
 one_answer Undump files judged are = answer_for (CanUndump (dump_in files)) (IsUndumpFault (dump_in files)) answer_of_dump undump_refuses judged.undumped
 one_answer (Campaign number) files judged are =
     answer_for (IsAccepted files) (IsRefusedBy files) (answer_of_system (Campaign number)) (by_words_refuses (Campaign number)) (judged.system (omega (arith, are.enough, are.count)))
+one_answer (Bridge cycles) files judged are =
+    answer_for (CanBridge (system_files files) (second_file files) cycles) (IsBridgeFault (system_files files) (second_file files) cycles) (answer_of_bridge cycles) (bridge_refuses cycles)
+    (judged.bridged cycles (some_system files (omega (arith, are.enough, are.count))))
 one_answer (Workload number) files judged are = (exit.Done, is_done)
 one_answer (Module wanted) files judged are = (exit.Done, is_done)
 
@@ -284,6 +316,8 @@ of_files Replay files e h = of_called (CanReplayText (text_in files) (waves_in f
 of_files Dump files e h = of_called (CanReplayText (text_in files) (waves_in files)) (IsReplayTextFault (text_in files) (waves_in files)) answer_of replay_refuses e h
 of_files Undump files e h = of_called (CanUndump (dump_in files)) (IsUndumpFault (dump_in files)) answer_of_dump undump_refuses e h
 of_files (Campaign number) files e h = of_called (IsAccepted files) (IsRefusedBy files) (answer_of_system (Campaign number)) (by_words_refuses (Campaign number)) e h
+of_files (Bridge cycles) files e h =
+    of_called (CanBridge (system_files files) (second_file files) cycles) (IsBridgeFault (system_files files) (second_file files) cycles) (answer_of_bridge cycles) (bridge_refuses cycles) e h
 of_files (Workload number) files e h = inl (only_to_do e h)
 of_files (Module wanted) files e h = inl (only_to_do e h)
 
@@ -307,6 +341,7 @@ files_stop words reads task files exit.WriteFault asks are s = ⊎_elim (λ e. (
 files_stop words reads task files (exit.VerilogRefused byte rule) asks are s = ⊎_elim (λ e. (cc)) (λ is. (task, asks, record { files = files; are_files = are; only = is })) s
 files_stop words reads task files (exit.ScenarioRefused file line rule) asks are s = ⊎_elim (λ e. (cc)) (λ is. (task, asks, record { files = files; are_files = are; only = is })) s
 files_stop words reads task files (exit.DumpRefused byte rule) asks are s = ⊎_elim (λ e. (cc)) (λ is. (task, asks, record { files = files; are_files = are; only = is })) s
+files_stop words reads task files (exit.PacketRefused byte rule) asks are s = ⊎_elim (λ e. (cc)) (λ is. (task, asks, record { files = files; are_files = are; only = is })) s
 
 -- what stops a file, behind others that were loaded, stops the loading of all
 pub stops_at : (task : Task) (words file : ℕ) (earlier : List (List ℕ)) (here reads : Reads) (e : Exit) → AreLoaded task reads.told earlier → length earlier + 1 ≡ file → file < words → words ≤ 65
@@ -339,6 +374,7 @@ stops_at task words file earlier here reads (exit.LinkRefused connection rule ot
 stops_at task words file earlier here reads (exit.VerilogRefused byte rule) loaded count inside few told less after failed s = absurd s
 stops_at task words file earlier here reads (exit.ScenarioRefused at line rule) loaded count inside few told less after failed s = absurd s
 stops_at task words file earlier here reads (exit.DumpRefused byte rule) loaded count inside few told less after failed s = absurd s
+stops_at task words file earlier here reads (exit.PacketRefused byte rule) loaded count inside few told less after failed s = absurd s
 
 -- what stops the loading of the files stops the run of the words that name them
 stops_here : (words : List (List ℕ)) (reads : Reads) (task : Task) (e : Exit) → AsksFor words task → file_words task (length words) ≤ 65
@@ -354,6 +390,7 @@ stops_here words reads task (exit.LinkRefused connection rule other) asks few s 
 stops_here words reads task (exit.VerilogRefused byte rule) asks few s = absurd s
 stops_here words reads task (exit.ScenarioRefused file line rule) asks few s = absurd s
 stops_here words reads task (exit.DumpRefused byte rule) asks few s = absurd s
+stops_here words reads task (exit.PacketRefused byte rule) asks few s = absurd s
 
 pub loading_stops : {X : Type 0} (f : X → List ℕ) (words : List X) (reads : Reads) (task : Task) (named : ℕ) (e : Exit) → AsksFor (map f words) task → named ≡ file_words task (length words)
     → named ≤ 65 → StopsLoading task named reads e → Stops (map f words) reads e
@@ -409,6 +446,7 @@ completes words reads writes (exit.LinkRefused connection rule other) s task fil
 completes words reads writes (exit.VerilogRefused byte rule) s task files well = inr (called_for words reads writes (exit.VerilogRefused byte rule) s.0 task files s.1 s.2 well)
 completes words reads writes (exit.ScenarioRefused file line rule) s task files well = inr (called_for words reads writes (exit.ScenarioRefused file line rule) s.0 task files s.1 s.2 well)
 completes words reads writes (exit.DumpRefused byte rule) s task files well = inr (called_for words reads writes (exit.DumpRefused byte rule) s.0 task files s.1 s.2 well)
+completes words reads writes (exit.PacketRefused byte rule) s task files well = inr (called_for words reads writes (exit.PacketRefused byte rule) s.0 task files s.1 s.2 well)
 completes words reads writes (exit.Limit which count) s task files well =
     ⊎_elim
     (λ many. absurd (not_many words reads writes s.0 task files which count s.1 many well))

@@ -4,8 +4,9 @@ use Rattle.std.specs.Prelude.{All}
 use Rattle.std.proofs.lemmas.Option.{slice_get-get_or}
 use Rattle.av_files.specs.Outside.{WhereTold}
 use Rattle.task_words.specs.declared.Task.{Task}
-use Rattle.task_words.specs.declared.Task.TheVariants.{Generate, Check, Simulate, Replay, Dump, Undump, Campaign, Workload, Module}
-use Rattle.task_words.specs.Words.{named_by}
+use Rattle.task_words.specs.declared.Task.TheVariants.{Generate, Check, Simulate, Replay, Dump, Undump, Campaign, Bridge, Workload, Module}
+use Rattle.task_words.specs.Words.{StatesNumbers, named_by}
+use Rattle.avalon_top.specs.Bridge.{HasBridgeCycles}
 use Rattle.avalon_top.specs.Systems.{system_files, second_file}
 use Rattle.avalon_top.specs.Run.{most_bytes, text_in, waves_in, dump_in, AreShort, AreLoaded, AreFiles}
 
@@ -77,6 +78,7 @@ few_bytes Replay file = few_of_either (file == 1)
 few_bytes Dump file = few_of_either (file == 1)
 few_bytes Undump file = omega arith
 few_bytes (Campaign number) file = omega arith
+few_bytes (Bridge cycles) file = omega arith
 few_bytes (Workload number) file = omega arith
 few_bytes (Module wanted) file = omega arith
 
@@ -101,7 +103,7 @@ pub one_of_one : (files : List (List ℕ)) (other : List ℕ) → length files �
 one_of_one [] other one = absurd (omega arith)
 one_of_one (dump ∷ rest) other one = refl
 
--- the files of a simulation are two or more
+-- the files of a simulation or a bridge are two or more
 pub second_is : (files : List (List ℕ)) (other : List ℕ) → 2 ≤ length files → get_or files 1 other ≡ second_file files
 second_is [] other two = absurd (omega arith)
 second_is (system ∷ []) other two = absurd (omega arith)
@@ -126,3 +128,16 @@ pub system_file_count : (files : List (List ℕ)) → 2 ≤ length files → len
 system_file_count [] two = absurd (omega arith)
 system_file_count (system ∷ []) two = absurd (omega arith)
 system_file_count (system ∷ scenario ∷ components) two = omega arith
+
+-- the cycles of a bridge are those of its words
+pub has_cycles : (task : Task) (words : List (List ℕ)) → StatesNumbers task words → HasBridgeCycles task
+has_cycles Generate words states = tt
+has_cycles Check words states = tt
+has_cycles Simulate words states = tt
+has_cycles Replay words states = tt
+has_cycles Dump words states = tt
+has_cycles Undump words states = tt
+has_cycles (Campaign number) words states = tt
+has_cycles (Bridge cycles) words states = states.1
+has_cycles (Workload number) words states = tt
+has_cycles (Module wanted) words states = tt

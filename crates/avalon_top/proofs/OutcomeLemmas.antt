@@ -12,8 +12,9 @@ use Rattle.scenario_runs.specs.Campaigns.{IsCampaign, IsCampaignText, IsTextOfMo
 use Rattle.link_rules.specs.Plans.{PlanTable}
 use Rattle.netlist.specs.Netlists.{Netlist}
 use Rattle.lane_sim.specs.LaneSims.{LanesValue}
+use Rattle.packet_bytes.specs.Noted.{sent}
 use Rattle.avalon_top.specs.declared.outcome.Outcome.{Outcome}
-use Rattle.avalon_top.specs.declared.outcome.Outcome.TheVariants.{Text, Trace, Counted}
+use Rattle.avalon_top.specs.declared.outcome.Outcome.TheVariants.{Text, Trace, Counted, Replies}
 use Rattle.avalon_top.specs.Run.{Reads, Writes, IsTextOf, IsResult, IsOnlyAnswer, Answers, IsRefusal, WritesLine, IsComplete}
 use Rattle.avalon_top.specs.Loading.{StopsFiles}
 use Rattle.avalon_top.specs.Outcome.{IsSimulation, IsOutcome, IsOutcomeOf, CanBeWritten, Ends, EndsText}
@@ -67,6 +68,7 @@ ends_as IsOne IsOther writes (exit.Limit which count) other ends = absurd ends
 ends_as IsOne IsOther writes (exit.VerilogRefused byte rule) other ends = absurd ends
 ends_as IsOne IsOther writes (exit.ScenarioRefused file line rule) other ends = absurd ends
 ends_as IsOne IsOther writes (exit.DumpRefused byte rule) other ends = absurd ends
+ends_as IsOne IsOther writes (exit.PacketRefused byte rule) other ends = absurd ends
 
 -- the text of what a task is to write is its result
 ends_result : (task : Task) (files : List (List ℕ)) (writes : Writes) (outcome : Outcome) (e : Exit) → IsOutcome task files outcome → Ends outcome writes e → EndsText (IsResult task files) writes e
@@ -80,11 +82,20 @@ ends_result task files writes (Counted campaign) e is ends =
     ends_as (IsTextOfModule campaign.plan campaign.number campaign.lanes.netlist) (IsResult task files) writes e
     (λ text told. record { is_text = subst (λ (t : Task). IsTextOf t files text) (sym is.task_is) (counted files is.number campaign text is.ready told); only = is.only })
     ends
+ends_result task files writes (Replies replies) e is ends =
+    ends_as (λ text. text ≡ sent replies.transfers is.noted.beats is.noted.words) (IsResult task files) writes e
+    (λ text same. record {
+      is_text = subst (λ (t : Task). IsTextOf t files text) (sym is.task_is)
+          (record { transfers = replies.transfers; beats = is.noted.beats; words = is.noted.words; is_run = is.noted.is_run; is_text = same });
+      only = is.only;
+    })
+    (ends is.noted.beats is.noted.words is.noted.noted)
 
 only_done : (task : Task) (files : List (List ℕ)) (outcome : Outcome) → IsOutcome task files outcome → IsOnlyAnswer task files exit.Done
 only_done task files (Text bytes) is = is.only
 only_done task files (Trace prepared) is = is.only
 only_done task files (Counted campaign) is = is.only
+only_done task files (Replies replies) is = is.only
 
 -- ---- lanes that were run
 
@@ -121,6 +132,7 @@ campaign_ends campaign lanes writes (exit.Limit which count) same other ends = a
 campaign_ends campaign lanes writes (exit.VerilogRefused byte rule) same other ends = absurd ends
 campaign_ends campaign lanes writes (exit.ScenarioRefused file line rule) same other ends = absurd ends
 campaign_ends campaign lanes writes (exit.DumpRefused byte rule) same other ends = absurd ends
+campaign_ends campaign lanes writes (exit.PacketRefused byte rule) same other ends = absurd ends
 
 -- a result of the same task, with the same text
 pub same_result : (task other : Task) (files : List (List ℕ)) (text result : List ℕ) → task ≡ other → text ≡ result → IsResult other files result → IsResult task files text
@@ -136,6 +148,7 @@ pub can_be_written : (words : List (List ℕ)) (reads : Reads) (outcome : Outcom
 can_be_written words reads (Text bytes) is = tt
 can_be_written words reads (Trace prepared) is = record { interconnect = is.is.ready.interconnect; ports = is.is.ready.ports; scenario = is.is.ready.fits }
 can_be_written words reads (Counted campaign) is = is.is.ready.can_run
+can_be_written words reads (Replies replies) is = record { beats = is.is.noted.beats; words = is.is.noted.words; noted = is.is.noted.noted }
 
 -- once a result was to be written, the answer comes as it is to
 ended_result : (words : List (List ℕ)) (reads : Reads) (writes : Writes) (outcome : Outcome) (is : IsOutcomeOf words reads outcome) (e : Exit) → EndsText (IsResult is.task is.files) writes e
@@ -165,6 +178,7 @@ ended_result words reads writes outcome is (exit.Limit which count) h = absurd h
 ended_result words reads writes outcome is (exit.VerilogRefused byte rule) h = absurd h
 ended_result words reads writes outcome is (exit.ScenarioRefused file line rule) h = absurd h
 ended_result words reads writes outcome is (exit.DumpRefused byte rule) h = absurd h
+ended_result words reads writes outcome is (exit.PacketRefused byte rule) h = absurd h
 
 pub ended : (words : List (List ℕ)) (reads : Reads) (writes : Writes) (outcome : Outcome) (e : Exit) → IsOutcomeOf words reads outcome → Ends outcome writes e → Answers words reads writes e
 ended words reads writes outcome e is ends = ended_result words reads writes outcome is e (ends_result is.task is.files writes outcome e is.is ends)
@@ -182,6 +196,7 @@ line_of_result IsText writes (exit.Limit which count) ends refused = absurd ends
 line_of_result IsText writes (exit.VerilogRefused byte rule) ends refused = absurd ends
 line_of_result IsText writes (exit.ScenarioRefused file line rule) ends refused = absurd ends
 line_of_result IsText writes (exit.DumpRefused byte rule) ends refused = absurd ends
+line_of_result IsText writes (exit.PacketRefused byte rule) ends refused = absurd ends
 
 pub ended_line : (words : List (List ℕ)) (reads : Reads) (writes : Writes) (outcome : Outcome) (e : Exit) → IsOutcomeOf words reads outcome → Ends outcome writes e → IsRefusal e → WritesLine (line_of e) writes
 ended_line words reads writes outcome e is ends refused = line_of_result (IsResult is.task is.files) writes e (ends_result is.task is.files writes outcome e is.is ends) refused
@@ -201,6 +216,7 @@ well_result words reads writes outcome is (exit.Limit which count) h task files 
 well_result words reads writes outcome is (exit.VerilogRefused byte rule) h task files well = absurd h
 well_result words reads writes outcome is (exit.ScenarioRefused file line rule) h task files well = absurd h
 well_result words reads writes outcome is (exit.DumpRefused byte rule) h task files well = absurd h
+well_result words reads writes outcome is (exit.PacketRefused byte rule) h task files well = absurd h
 
 pub ended_well : (words : List (List ℕ)) (reads : Reads) (writes : Writes) (outcome : Outcome) (e : Exit) → IsOutcomeOf words reads outcome → Ends outcome writes e → IsComplete words reads writes e
 ended_well words reads writes outcome e is ends = well_result words reads writes outcome is e (ends_result is.task is.files writes outcome e is.is ends)

@@ -1,6 +1,7 @@
 pub mod Systems
 pub mod Simulate
 pub mod Campaign
+pub mod Bridge
 pub mod Done
 pub mod Refused
 pub mod Run

@@ -21,16 +21,18 @@ use Rattle.routed_modules.specs.Routed.{IsRoutedModule}
 use Rattle.scenario_runs.specs.Prepared.{IsTraceOf}
 use Rattle.scenario_runs.specs.Workloads.{IsWorkloadText}
 use Rattle.scenario_runs.specs.Campaigns.{IsCampaignText}
+use Rattle.scenario_runs.specs.Bridged.{IsBridged}
 use Rattle.answer_lines.specs.declared.exit.StepRule.TheVariants.{Waves}
 use Rattle.answer_lines.specs.declared.exit.Exit.{Exit}
 use Rattle.answer_lines.specs.declared.exit.Exit.TheVariants as exit
 use Rattle.answer_lines.specs.Lines.{exit_of}
 use Rattle.task_words.specs.declared.Task.{Task}
-use Rattle.task_words.specs.declared.Task.TheVariants.{Generate, Check, Simulate, Replay, Dump, Undump, Campaign, Workload, Module}
+use Rattle.task_words.specs.declared.Task.TheVariants.{Generate, Check, Simulate, Replay, Dump, Undump, Campaign, Bridge, Workload, Module}
 use Rattle.task_words.specs.Words.{AsksFor, AsksForNothing, file_words, named_by}
 use Rattle.avalon_top.specs.Systems.{system_files, second_file}
 use Rattle.avalon_top.specs.Simulate.{SimulateCallsFor}
 use Rattle.avalon_top.specs.Campaign.{CampaignCallsFor}
+use Rattle.avalon_top.specs.Bridge.{BridgeCallsFor}
 use Rattle.avalon_top.specs.Done.{CallsForDone}
 use Rattle.avalon_top.specs.Refused.{DoneOrRefused}
 
@@ -82,6 +84,7 @@ CallsFor Replay files = ReplayCallsFor (text_in files) (waves_in files)
 CallsFor Dump files = ReplayCallsFor (text_in files) (waves_in files)
 CallsFor Undump files = UndumpCallsFor (dump_in files)
 CallsFor (Campaign number) files = CampaignCallsFor number files
+CallsFor (Bridge cycles) files = BridgeCallsFor cycles (system_files files) (second_file files)
 CallsFor (Workload number) files = CallsForDone
 CallsFor (Module wanted) files = CallsForDone
 
@@ -127,6 +130,7 @@ IsTextOf Replay files text = IsReplayOfText (text_in files) (waves_in files) tex
 IsTextOf Dump files text = IsDumpOfText (text_in files) (waves_in files) text
 IsTextOf Undump files text = IsUndumpOf (dump_in files) text
 IsTextOf (Campaign number) files text = IsCampaignText files number text
+IsTextOf (Bridge cycles) files text = IsBridged (system_files files) (second_file files) cycles text
 IsTextOf (Workload number) files text = IsWorkloadText number text
 IsTextOf (Module wanted) files text = IsModuleText wanted text
 
@@ -167,6 +171,7 @@ most_bytes Replay file = if file == 1 then 268435456 else 1048576
 most_bytes Dump file = if file == 1 then 268435456 else 1048576
 most_bytes Undump file = 16777216
 most_bytes (Campaign number) file = 1048576
+most_bytes (Bridge cycles) file = 1048576
 most_bytes (Workload number) file = 1048576
 most_bytes (Module wanted) file = 1048576
 

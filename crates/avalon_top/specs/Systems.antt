@@ -4,18 +4,19 @@ use Rattle.std.specs.List.{remove}
 use Rattle.system_plan.specs.declared.faults.Refusal.{Refusal}
 use Rattle.system_plan.specs.declared.faults.Refusal.TheVariants as refusal
 use Rattle.task_words.specs.declared.Task.{Task}
-use Rattle.task_words.specs.declared.Task.TheVariants.{Generate, Check, Simulate, Replay, Dump, Undump, Campaign, Workload, Module}
+use Rattle.task_words.specs.declared.Task.TheVariants.{Generate, Check, Simulate, Replay, Dump, Undump, Campaign, Bridge, Workload, Module}
 use Rattle.answer_lines.specs.declared.exit.Exit.{Exit}
 use Rattle.answer_lines.specs.Lines.{exit_of}
 
--- the files of a simulation: all but the second are those of a system, and the second is a scenario
+-- the files of a simulation or a bridge: all but the second are those of a system, and the second is a scenario or transactions
 abbrev pub system_files : List (List ℕ) → List (List ℕ)
 system_files files = remove files 1
 
 abbrev pub second_file : List (List ℕ) → List ℕ
 second_file files = slice_index_or files 1 []
 
--- so many words stand before the file of a system that aren't its words: a scenario before the component files, or a number before all
+-- so many words stand before the file of a system that aren't its words: a scenario or transactions before the component files, and a number
+-- before all
 abbrev pub words_before : Task → ℕ → ℕ
 words_before Generate file = 0
 words_before Check file = 0
@@ -24,6 +25,7 @@ words_before Replay file = 0
 words_before Dump file = 0
 words_before Undump file = 0
 words_before (Campaign number) file = 1
+words_before (Bridge cycles) file = if nat_lt file 2 then 1 else 2
 words_before (Workload number) file = 0
 words_before (Module wanted) file = 0
 

@@ -2,10 +2,12 @@ ghost use Rattle.std.specs.Prelude.{◌≡◌, ℕ, ◌^◌, ◌<◌, ◌≤◌,
 ghost use Rattle.av_files.specs.Outside.{WhereTold};
 ghost use Rattle.answer_lines.specs.Lines.{line_of};
 ghost use Rattle.task_words.specs.Words.{AreItsFiles, named_by};
+ghost use Rattle.avalon_top.specs.Bridge.{HasBridgeCycles};
 ghost use Rattle.avalon_top.specs.Run.{reads_by, writes_by, Reads, Writes, most_bytes, AreFiles, Answers, IsComplete, IsRefusal, WritesLine, IsResult, answer_of};
 ghost use Rattle.avalon_top.specs.Loading.{StopsAtFile, StopsFiles, StopsLoading, Stops};
 ghost use Rattle.avalon_top.specs.Outcome.{IsOutcome, IsOutcomeOf};
 
+use crate::bridge::replies_of;
 use crate::campaign::campaign;
 use crate::dumped::{dump_files, undump_file};
 use crate::made::{interconnect_text, module_text};
@@ -171,6 +173,7 @@ fn workload(alloc: Global, number: u32) -> Result<Bytes, Exit>
 /// What a task is to write of files, or the answer that they call for.
 fn outcome_of(alloc: Global, task: Task, files: Vec<Bytes>) -> Result<Outcome, Exit>
     requires enough { AreItsFiles task (length files.items) }
+    requires cycles { HasBridgeCycles task }
     requires few { length files.items ≤ 64 }
     requires short { All (λ bytes. length bytes < 2 ^ 31) files.items }
     ensures stops { IfErr result (StopsFiles task files.items) }
@@ -180,6 +183,9 @@ fn outcome_of(alloc: Global, task: Task, files: Vec<Bytes>) -> Result<Outcome, E
         Task::Simulate => return Ok(Outcome::Trace(simulation(alloc, files)?)),
         Task::Campaign { number } => {
             return Ok(Outcome::Counted(campaign(alloc, files.as_slice(), number)?));
+        }
+        Task::Bridge { cycles } => {
+            return Ok(Outcome::Replies(replies_of(alloc, files, cycles)?));
         }
         Task::Generate => generate(alloc, files.as_slice())?,
         Task::Check => check(alloc, files.as_slice())?,
@@ -224,8 +230,9 @@ pub fn run<S: Shelf, K: Sink>(alloc: Global, words: &[String], shelf: &mut S, si
     // the text, in each cycle of the waves, and at `Done` of `dump` it is the dump of what stands at all of its ports. At `Done` of
     // `undump` it is the rows of the one dump whose text the file is. At `Done` of `simulate` it is the trace of a run of such a
     // module with what the scenario states; at `Done` of `campaign` it tells what is counted in eight such runs, each with what is drawn
-    // for its lane; at `Done` of `workload` what is counted in one of the workload system of the number. At `Done` of `mux`, `demux` and
-    // `gather` the text of a module is written that does so in every run.
+    // for its lane; at `Done` of `workload` what is counted in one of the workload system of the number. At `Done` of `bridge` it is the
+    // replies to the transactions whose beats were accepted and words given in such a run, with these words. At `Done` of `mux`, `demux`
+    // and `gather` the text of a module is written that does so in every run.
     ensures answers { Answers (map string_bytes words.now)
         (record { told = S.told shelf.old; before = S.faults shelf.old; after = S.faults shelf.new; failed = S.failed shelf.new })
         (record { held = K.held sink.old; holds = K.held sink.new; before = K.faults sink.old; after = K.faults sink.new }) result }

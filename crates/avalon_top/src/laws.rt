@@ -7,6 +7,7 @@ ghost use Rattle.task_words.specs.Words.{AreItsFiles};
 ghost use Rattle.avalon_top.specs.Run.{IsOnlyAnswer};
 
 use replays::texts_are_replayed_or_refused;
+use scenario_runs::bridges::bridged_or_refused;
 use scenario_runs::simulated_or_refused;
 use system_plan::accepted_or_refused;
 use undumps::dumps_are_written_or_refused;
@@ -18,5 +19,6 @@ pub fn files_call_for_one_answer()
     accepted_or_refused();
     texts_are_replayed_or_refused();
     simulated_or_refused();
+    bridged_or_refused();
     dumps_are_written_or_refused();
 }

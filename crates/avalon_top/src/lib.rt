@@ -2,6 +2,7 @@
 #![tactic(auto)]
 
 mod answer;
+mod bridge;
 mod campaign;
 mod dumped;
 mod laws;

@@ -5,12 +5,13 @@ ghost use Rattle.answer_lines.specs.declared.exit.Exit.TheVariants.{NoMemory as 
 ghost use Rattle.answer_lines.specs.Lines.{line_of};
 ghost use Rattle.avalon_top.specs.Run.{writes_by, WritesLine};
 ghost use Rattle.scenario_runs.specs.Campaigns.{CanRun};
-ghost use Rattle.avalon_top.specs.Outcome.{IsReady, CanBeWritten, Ends};
-ghost use Rattle.avalon_top.specs.declared.outcome.Outcome.TheVariants.{Text, Trace, Counted};
+ghost use Rattle.avalon_top.specs.Outcome.{IsReady, HaveNotedSome, CanBeWritten, Ends};
+ghost use Rattle.avalon_top.specs.declared.outcome.Outcome.TheVariants.{Text, Trace, Counted, Replies as Replied};
 
 use answer_lines::Exit;
 use av_base::Bytes;
 use av_files::{Sink, put_all};
+use packet_bytes::Replies;
 use scenario_runs::{Campaign, Prepared, campaign_module};
 use simulations::simulate_module;
 use std::alloc::Global;
@@ -24,6 +25,8 @@ pub(crate) enum Outcome {
     Trace(Prepared),
     /// What is counted of a campaign.
     Counted(Campaign),
+    /// The replies to transactions.
+    Replies(Replies),
 }
 
 /// Writes the line of a refusal.
@@ -99,6 +102,20 @@ fn write_campaign<K: Sink>(alloc: Global, campaign: Campaign, sink: &mut K) -> E
     }
 }
 
+/// Writes replies, and answers whether they were written whole.
+fn write_replies<K: Sink>(replies: &Replies, sink: &mut K) -> Exit
+    requires { HaveNotedSome replies.now }
+    ensures ends { Ends (Replied replies.now) (writes_by K.held K.faults sink.old sink.new) result }
+    ensures grows { K.faults sink.old ≤ K.faults sink.new }
+    ensures below { K.faults sink.old < 2 ^ 64 → K.faults sink.new < 2 ^ 64 }
+{
+    if replies.write(sink) {
+        Exit::Done
+    } else {
+        Exit::WriteFault
+    }
+}
+
 /// Writes what a run is to write, and gives its answer.
 pub(crate) fn write_outcome<K: Sink>(alloc: Global, outcome: Outcome, sink: &mut K) -> Exit
     requires { CanBeWritten outcome }
@@ -110,5 +127,6 @@ pub(crate) fn write_outcome<K: Sink>(alloc: Global, outcome: Outcome, sink: &mut
         Outcome::Text(text) => write_text(&text, sink),
         Outcome::Trace(prepared) => write_trace(alloc, prepared, sink),
         Outcome::Counted(campaign) => write_campaign(alloc, campaign, sink),
+        Outcome::Replies(replies) => write_replies(&replies, sink),
     }
 }

@@ -19,6 +19,8 @@ fn words_before(task: Task, file: u32) -> u32
         Task::Simulate if file < 2 => 0,
         Task::Simulate => 1,
         Task::Campaign { .. } => 1,
+        Task::Bridge { .. } if file < 2 => 1,
+        Task::Bridge { .. } => 2,
         _ => 0,
     }
 }

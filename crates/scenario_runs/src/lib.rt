@@ -1,7 +1,8 @@
-//! What `simulate`, `workload` and `campaign` do between files and answers: a scenario that is read and a module that is built for it, what is
-//! counted of a workload, and what is counted of eight scenarios.
+//! What `simulate`, `workload`, `campaign` and `bridge` do between files and answers: a scenario that is read and a module that is built for it,
+//! what is counted of a workload, what is counted of eight scenarios, and the replies to transactions.
 #![tactic(auto)]
 
+pub mod bridges;
 mod campaign;
 mod faults;
 mod laws;

@@ -17,7 +17,7 @@ use std::alloc::Global;
 use system_plan::plan_of;
 
 /// The most values that nets may have in all cycles together, as far as the weight of a plan bounds the nets.
-const MOST_VALUES: u64 = 4_294_967_296;
+pub(crate) const MOST_VALUES: u64 = 4_294_967_296;
 
 /// A module, the plan that it is built for, where its ports stand, and the scenario that is to be run on it.
 #[derive(Drop)]

@@ -7,7 +7,7 @@ use Rattle.std.proofs.lemmas.List.{get_or-map, length-map}
 use Rattle.routed_modules.specs.declared.routed.Routed.{Routed}
 use Rattle.routed_words.specs.Asking.{IsModuleWord, AsksForModule}
 use Rattle.task_words.specs.declared.Task.{Task}
-use Rattle.task_words.specs.declared.Task.TheVariants.{Generate, Check, Simulate, Replay, Dump, Undump, Campaign, Workload, Module}
+use Rattle.task_words.specs.declared.Task.TheVariants.{Generate, Check, Simulate, Replay, Dump, Undump, Campaign, Bridge, Workload, Module}
 use Rattle.task_words.specs.Words.{IsPlainWord, AsksFor, AsksForNothing, AreEnough, StatesNumber, StatesNumbers, BeginsWithModule, Names, NamesNothing, IsBare, HasNumber, IsWordOf, word_of}
 use Rattle.task_words.specs.OneTask.{IsNoModule, kind_of, module_kind, no_module_kind, one_behind, one_kind, one_named}
 
@@ -44,6 +44,7 @@ no_task Replay words word none bare numbers named states = bare Replay (record {
 no_task Dump words word none bare numbers named states = bare Dump (record { kind = tt; named = named })
 no_task Undump words word none bare numbers named states = bare Undump (record { kind = tt; named = named })
 no_task (Campaign number) words word none bare numbers named states = numbers number (Campaign number) states (record { kind = refl; named = named })
+no_task (Bridge cycles) words word none bare numbers named states = numbers cycles (Bridge cycles) states.0 (record { kind = (refl, states.1); named = named })
 no_task (Workload number) words word none bare numbers named states = numbers number (Workload number) states (record { kind = refl; named = named })
 no_task (Module wanted) words word none bare numbers named states = none (wanted, named)
 
@@ -62,6 +63,7 @@ no_numbers Replay words bare = tt
 no_numbers Dump words bare = tt
 no_numbers Undump words bare = tt
 no_numbers (Campaign number) words bare = absurd bare
+no_numbers (Bridge cycles) words bare = absurd bare
 no_numbers (Workload number) words bare = absurd bare
 no_numbers (Module wanted) words bare = absurd bare
 
@@ -80,6 +82,7 @@ its_number Replay words n has states = absurd has
 its_number Dump words n has states = absurd has
 its_number Undump words n has states = absurd has
 its_number (Campaign number) words n has states = rw has states
+its_number (Bridge cycles) words n has states = (rw has.0 states, has.1)
 its_number (Workload number) words n has states = rw has states
 its_number (Module wanted) words n has states = absurd has
 
@@ -102,6 +105,7 @@ module_of_kind words Replay begun same states = absurd (module_kind begun (subst
 module_of_kind words Dump begun same states = absurd (module_kind begun (subst IsNoModule same (no_module_kind Dump tt)))
 module_of_kind words Undump begun same states = absurd (module_kind begun (subst IsNoModule same (no_module_kind Undump tt)))
 module_of_kind words (Campaign number) begun same states = absurd (module_kind begun (subst IsNoModule same (no_module_kind (Campaign number) tt)))
+module_of_kind words (Bridge cycles) begun same states = absurd (module_kind begun (subst IsNoModule same (no_module_kind (Bridge cycles) tt)))
 module_of_kind words (Workload number) begun same states = absurd (module_kind begun (subst IsNoModule same (no_module_kind (Workload number) tt)))
 
 pub no_module : (words : List (List ℕ)) → BeginsWithModule words → ((wanted : Routed) → ¬ AsksForModule wanted words) → NamesNothing words

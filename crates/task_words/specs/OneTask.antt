@@ -7,7 +7,7 @@ use Rattle.routed_modules.specs.declared.routed.Routed.{Routed}
 use Rattle.routed_modules.specs.declared.routed.Routed.TheVariants as routed
 use Rattle.routed_words.specs.OneModule.{one_module}
 use Rattle.task_words.specs.declared.Task.{Task}
-use Rattle.task_words.specs.declared.Task.TheVariants.{Generate, Check, Simulate, Replay, Dump, Undump, Campaign, Workload, Module}
+use Rattle.task_words.specs.declared.Task.TheVariants.{Generate, Check, Simulate, Replay, Dump, Undump, Campaign, Bridge, Workload, Module}
 use Rattle.task_words.specs.Words.{AsksFor, Names, StatesNumber, StatesNumbers, word_of}
 
 -- how long a word is, and its first byte
@@ -27,6 +27,7 @@ kind_of Replay = Replay
 kind_of Dump = Dump
 kind_of Undump = Undump
 kind_of (Campaign number) = Campaign 0
+kind_of (Bridge cycles) = Bridge 0
 kind_of (Workload number) = Workload 0
 kind_of (Module wanted) = Module some_module
 
@@ -40,6 +41,7 @@ kind_at at =
     else if at == 1124 then Dump
     else if at == 1653 then Undump
     else if at == 2147 then Campaign 0
+    else if at == 1634 then Bridge 0
     else if at == 2167 then Workload 0
     else Module some_module
 
@@ -52,6 +54,7 @@ kind_is Replay = refl
 kind_is Dump = refl
 kind_is Undump = refl
 kind_is (Campaign number) = refl
+kind_is (Bridge cycles) = refl
 kind_is (Workload number) = refl
 kind_is (Module (routed.Multiplexer inputs symbols bits)) = refl
 kind_is (Module (routed.Demultiplexer outputs symbols bits)) = refl
@@ -64,6 +67,7 @@ one_kind one other named = sym (kind_is one) ∙ ap (λ (w : List ℕ). kind_at 
 -- what stands behind the word of a task of this kind: this number, or nothing
 abbrev pub HasBehind : Task → List (List ℕ) → ℕ → Type 0
 HasBehind (Campaign any) words number = StatesNumber words number
+HasBehind (Bridge any) words number = StatesNumber words number
 HasBehind (Workload any) words number = StatesNumber words number
 HasBehind _ words number = number ≡ 0
 
@@ -75,12 +79,14 @@ one_behind Replay words n m is also = is ∙ sym also
 one_behind Dump words n m is also = is ∙ sym also
 one_behind Undump words n m is also = is ∙ sym also
 one_behind (Campaign any) words n m is also = decimal_injective n m (omega (arith, is.few)) (omega (arith, also.few)) (same_Some _ _ (sym is.is ∙ also.is))
+one_behind (Bridge any) words n m is also = decimal_injective n m (omega (arith, is.few)) (omega (arith, also.few)) (same_Some _ _ (sym is.is ∙ also.is))
 one_behind (Workload any) words n m is also = decimal_injective n m (omega (arith, is.few)) (omega (arith, also.few)) (same_Some _ _ (sym is.is ∙ also.is))
 one_behind (Module wanted) words n m is also = is ∙ sym also
 
 -- a kind with this number
 pub numbered : Task → ℕ → Task
 numbered (Campaign any) n = Campaign n
+numbered (Bridge any) n = Bridge n
 numbered (Workload any) n = Workload n
 numbered Generate n = Generate
 numbered Check n = Check
@@ -115,6 +121,7 @@ either words Replay states = inl (record { number = 0; behind = refl; is = refl;
 either words Dump states = inl (record { number = 0; behind = refl; is = refl; apart = tt })
 either words Undump states = inl (record { number = 0; behind = refl; is = refl; apart = tt })
 either words (Campaign number) states = inl (record { number = number; behind = states; is = refl; apart = tt })
+either words (Bridge cycles) states = inl (record { number = cycles; behind = states.0; is = refl; apart = tt })
 either words (Workload number) states = inl (record { number = number; behind = states; is = refl; apart = tt })
 either words (Module wanted) states = inr (wanted, refl)
 
@@ -127,6 +134,7 @@ no_module_kind Replay none = tt
 no_module_kind Dump none = tt
 no_module_kind Undump none = tt
 no_module_kind (Campaign number) none = tt
+no_module_kind (Bridge cycles) none = tt
 no_module_kind (Workload number) none = tt
 no_module_kind (Module wanted) none = absurd none
 

@@ -3,7 +3,7 @@ use Rattle.std.specs.Prelude.{◌≡◌, ◌≢◌, ℕ, ◌+◌, ◌-◌, ◌^�
 use Rattle.routed_modules.specs.declared.routed.Routed.{Routed}
 use Rattle.routed_words.specs.Asking.{module_word, AreWordsOf, AsksForModule}
 use Rattle.task_words.specs.declared.Task.{Task}
-use Rattle.task_words.specs.declared.Task.TheVariants.{Generate, Check, Simulate, Replay, Dump, Undump, Campaign, Workload, Module}
+use Rattle.task_words.specs.declared.Task.TheVariants.{Generate, Check, Simulate, Replay, Dump, Undump, Campaign, Bridge, Workload, Module}
 
 -- a word that isn't empty and doesn't begin with `-`
 pub record IsPlainWord (word : List ℕ) : Type 0 where
@@ -19,11 +19,12 @@ word_of Replay = codes "replay"
 word_of Dump = codes "dump"
 word_of Undump = codes "undump"
 word_of (Campaign number) = codes "campaign"
+word_of (Bridge cycles) = codes "bridge"
 word_of (Workload number) = codes "workload"
 word_of (Module wanted) = module_word wanted
 
 -- so many words are a task's: its word, its numbers, and its files: a system and any number of components, for a simulation with a scenario
--- between them; or a Verilog text and waves; or a dump; or none
+-- between them, for a bridge with transactions; or a Verilog text and waves; or a dump; or none
 abbrev pub AreEnough : Task → ℕ → Type 0
 AreEnough Generate words = 2 ≤ words
 AreEnough Check words = 2 ≤ words
@@ -32,6 +33,7 @@ AreEnough Replay words = words ≡ 3
 AreEnough Dump words = words ≡ 3
 AreEnough Undump words = words ≡ 2
 AreEnough (Campaign number) words = 3 ≤ words
+AreEnough (Bridge cycles) words = 4 ≤ words
 AreEnough (Workload number) words = words ≡ 2
 AreEnough (Module wanted) words = AreWordsOf wanted words
 
@@ -44,6 +46,7 @@ file_words Replay words = words
 file_words Dump words = words
 file_words Undump words = words
 file_words (Campaign number) words = words - 1
+file_words (Bridge cycles) words = words - 1
 file_words (Workload number) words = 1
 file_words (Module wanted) words = 1
 
@@ -56,6 +59,7 @@ named_by Replay file = file
 named_by Dump file = file
 named_by Undump file = file
 named_by (Campaign number) file = file + 1
+named_by (Bridge cycles) file = file + 1
 named_by (Workload number) file = file
 named_by (Module wanted) file = file
 
@@ -70,6 +74,11 @@ pub record StatesNumber (words : List (List ℕ)) (number : ℕ) : Type 0 where
   pub few : number < 2 ^ 32
   pub is : slice_get words 1 ≡ Some (decimal number)
 
+-- a bridge has from 1 to 65,536 cycles
+pub record AreBridgeCycles (cycles : ℕ) : Type 0 where
+  pub some : 1 ≤ cycles
+  pub few : cycles ≤ 65536
+
 -- the numbers of a task stand behind its word
 abbrev pub StatesNumbers : Task → List (List ℕ) → Type 0
 StatesNumbers Generate words = Unit {0}
@@ -79,6 +88,7 @@ StatesNumbers Replay words = Unit {0}
 StatesNumbers Dump words = Unit {0}
 StatesNumbers Undump words = Unit {0}
 StatesNumbers (Campaign number) words = StatesNumber words number
+StatesNumbers (Bridge cycles) words = StatesNumber words cycles × AreBridgeCycles cycles
 StatesNumbers (Workload number) words = StatesNumber words number
 StatesNumbers (Module wanted) words = AsksForModule wanted words
 
@@ -100,6 +110,7 @@ NamesNothing words = (task : Task) → ¬ Names words task
 -- a task without numbers
 abbrev pub IsBare : Task → Type 0
 IsBare (Campaign number) = ⊥
+IsBare (Bridge cycles) = ⊥
 IsBare (Workload number) = ⊥
 IsBare (Module wanted) = ⊥
 IsBare _ = Unit {0}
@@ -107,6 +118,7 @@ IsBare _ = Unit {0}
 -- a task with this one number
 abbrev pub HasNumber : ℕ → Task → Type 0
 HasNumber n (Campaign number) = number ≡ n
+HasNumber n (Bridge cycles) = (cycles ≡ n) × AreBridgeCycles cycles
 HasNumber n (Workload number) = number ≡ n
 HasNumber n _ = ⊥
 

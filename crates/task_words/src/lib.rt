@@ -3,14 +3,19 @@
 
 ghost use Rattle.std.specs.Prelude.{◌≡◌, ◌↔◌, ℕ, ◌≤◌, map, string_bytes, MatchOption, IsTrue, All};
 ghost use Rattle.task_words.specs.declared.Task.{Task as Asked};
-ghost use Rattle.task_words.specs.Words.{IsPlainWord, AsksFor, AsksForNothing, Names, NamesNothing, IsBare, HasNumber, IsWordOf, StatesNumber, AreEnough, BeginsWithModule, file_words, named_by};
+ghost use Rattle.task_words.specs.declared.Task.TheVariants.{Bridge};
+ghost use Rattle.task_words.specs.Words.{IsPlainWord, AsksFor, AsksForNothing, Names, NamesNothing, IsBare, HasNumber, IsWordOf, StatesNumber, AreBridgeCycles, AreEnough, BeginsWithModule, file_words, named_by};
 
 use routed_modules::Routed;
 use routed_words::{are_words_of, is_module_word, number_of, read_routed};
 
+/// The most cycles of a bridge.
+const MOST_CYCLES: u32 = 65_536;
+
 /// What the words ask for. A file is named by the place of its word, from 0: word 1 is the system file, each further word a
 /// component file, where word 2 of a simulation is its scenario. Of a replay, and where it is dumped, word 1 is the Verilog text and
-/// word 2 the waves. Word 1 of a campaign is its number, so its files begin with word 2.
+/// word 2 the waves. Word 1 of a campaign and of a bridge is its number, so its files begin with word 2, and word 3 of a bridge is its
+/// transactions.
 #[derive(Clone, Copy, Debug, PartialEq, Eq)]
 pub enum Task {
     /// Write the Verilog text of the system's interconnect.
@@ -27,6 +32,8 @@ pub enum Task {
     Undump,
     /// Write what is counted in eight lanes of the system, each on the scenario that is drawn for it and this number.
     Campaign { number: u32 },
+    /// Write the replies to the transactions of a file, which host 0 of the system makes in so many cycles.
+    Bridge { cycles: u32 },
     /// Write what is counted of the workload of this number.
     Workload { number: u32 },
     /// Write the Verilog text of a module that leads beats by their channels.
@@ -115,8 +122,21 @@ fn numbered_task(word: &str, number: u32) -> Option<Task>
 {
     if word == "campaign" {
         Some(Task::Campaign { number })
+    } else if word == "bridge" {
+        bridge_of(number)
     } else if word == "workload" {
         Some(Task::Workload { number })
+    } else {
+        None
+    }
+}
+
+/// The bridge of so many cycles.
+fn bridge_of(cycles: u32) -> Option<Task>
+    ensures { MatchOption result (¬ AreBridgeCycles cycles) (λ task. (task ≡ Bridge cycles) × AreBridgeCycles cycles) }
+{
+    if 1 <= cycles && cycles <= MOST_CYCLES {
+        Some(Task::Bridge { cycles })
     } else {
         None
     }
@@ -131,6 +151,7 @@ fn are_enough(task: Task, words: usize) -> bool
         Task::Simulate => words >= 3,
         Task::Replay | Task::Dump => words == 3,
         Task::Campaign { .. } => words >= 3,
+        Task::Bridge { .. } => words >= 4,
         Task::Undump | Task::Workload { .. } => words == 2,
         Task::Module { wanted } => are_words_of(wanted, words),
     }
@@ -144,7 +165,7 @@ pub fn file_words(task: Task, words: usize) -> usize
     ensures few { result ≤ words }
 {
     match task {
-        Task::Campaign { .. } => words - 1,
+        Task::Campaign { .. } | Task::Bridge { .. } => words - 1,
         Task::Workload { .. } | Task::Module { .. } => 1,
         _ => words,
     }
@@ -156,7 +177,7 @@ pub fn named_by(task: Task, file: u32) -> u32
     ensures { result ≡ named_by task file }
 {
     match task {
-        Task::Campaign { .. } => file + 1,
+        Task::Campaign { .. } | Task::Bridge { .. } => file + 1,
         _ => file,
     }
 }

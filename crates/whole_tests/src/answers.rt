@@ -101,7 +101,7 @@ const UNREAD: [&[&str]; 12] = [
     &["undump", "a", "b"],
     &["workload", "01"],
     &["campaign", "5"],
-    &["bridge", "1", "a", "b"],
+    &["bridge", "0", "a", "b"],
     &["mux", "17", "1", "8"],
 ];
 

@@ -6,7 +6,7 @@ use std::test::Fail;
 use task_words::{Task, read_words};
 
 /// Words, and what they ask for.
-const TRIED: [(&[&str], Option<Task>); 47] = [
+const TRIED: [(&[&str], Option<Task>); 56] = [
     (&[], None),
     (&["generate"], None),
     (&["generate", "a"], Some(Task::Generate)),
@@ -91,7 +91,19 @@ const TRIED: [(&[&str], Option<Task>); 47] = [
     (&["campaign", "05", "a"], None),
     (&["campaign", "a", "5"], None),
     (&["campaign", "5", "-a"], None),
-    (&["bridge", "1", "a", "b"], None),
+    (&["bridge", "1", "a", "b"], Some(Task::Bridge { cycles: 1 })),
+    (
+        &["bridge", "65536", "a", "b", "c", "d"],
+        Some(Task::Bridge { cycles: 65_536 }),
+    ),
+    (&["bridge", "0", "a", "b"], None),
+    (&["bridge", "65537", "a", "b"], None),
+    (&["bridge", "7", "a"], None),
+    (&["bridge", "07", "a", "b"], None),
+    (&["bridge", "7", "a", "-b"], None),
+    (&["bridge", "a", "b", "c"], None),
+    (&["bridges", "7", "a", "b"], None),
+    (&["bridge"], None),
 ];
 
 #[test]

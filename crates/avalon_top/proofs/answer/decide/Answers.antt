@@ -6,7 +6,7 @@ use Rattle.avalon_top.specs.Run.{AreFiles, IsFilesLimit}
 use Rattle.avalon_top.specs.Loading.{StopsFiles}
 use Rattle.avalon_top.specs.Outcome.{IsOutcome}
 use Rattle.task_words.specs.Words.{AreEnough, file_words}
-use Rattle.avalon_top.proofs.FileLemmas.{fewer_bytes}
+use Rattle.avalon_top.proofs.FileLemmas.{fewer_bytes, has_cycles}
 use Rattle.avalon_top.proofs.AnswerLemmas.{files_stop, loading_stops, files_limit}
 use Rattle.avalon_top.proofs.answer.decide.Goals as goal
 
@@ -75,6 +75,9 @@ outcome_of-requires-clause-enough g c = record {
   enough = subst (AreEnough c.in-Some.task) (length-map c.args.words.now string_bytes) c.in-Some.ensures.files;
   count = c.in_ok-files.ensures.loaded.count ∙ c.file_words-named.ensures.same;
 }
+
+pub outcome_of-requires-clause-cycles : goal.outcome_of-requires-clause-cycles
+outcome_of-requires-clause-cycles g c = has_cycles c.in-Some.task (map string_bytes c.args.words.now) c.in-Some.ensures.numbers
 
 pub outcome_of-requires-clause-few : goal.outcome_of-requires-clause-few
 outcome_of-requires-clause-few g c = omega (arith, c.in_ok-files.ensures.loaded.count, c.in_ok-files.ensures.loaded.few)

@@ -3,6 +3,7 @@ use Rattle.std.proofs.lemmas.Result.{err_from_is_err_and}
 use Rattle.task_words.specs.declared.Task.{Task}
 use Rattle.task_words.specs.declared.Task.TheVariants.{Generate, Check, Replay, Dump, Undump, Campaign, Workload, Module}
 use Rattle.task_words.specs.Words.{AreItsFiles}
+use Rattle.avalon_top.specs.Bridge.{HasBridgeCycles}
 use Rattle.avalon_top.specs.Loading.{StopsFiles}
 use Rattle.avalon_top.proofs.OutcomeLemmas.{same_result, stops_same}
 use Rattle.avalon_top.proofs.answer.outcome_of.Goals as goal
@@ -21,6 +22,18 @@ returns-in_err-campaign-in-Campaign-clause-stops c =
     rw (handed.1, handed.2)
     (stops_same c.args.task (Campaign c.in-Campaign.number) c.args.files.items c.as_slice.result.now c.in_err-campaign-in-Campaign.field-0.0 c.in-Campaign.is c.as_slice.ensures.value
     c.in_err-campaign-in-Campaign.ensures.stops)
+
+pub replies_of-requires-clause-some_cycles : goal.replies_of-requires-clause-some_cycles
+replies_of-requires-clause-some_cycles c = (subst HasBridgeCycles c.in-Bridge.is c.requires.cycles).some
+
+pub replies_of-requires-clause-few_cycles : goal.replies_of-requires-clause-few_cycles
+replies_of-requires-clause-few_cycles c = (subst HasBridgeCycles c.in-Bridge.is c.requires.cycles).few
+
+pub returns-in_err-replies_of-in-Bridge-clause-stops : goal.returns-in_err-replies_of-in-Bridge-clause-stops
+returns-in_err-replies_of-in-Bridge-clause-stops c =
+    let handed = err_from_is_err_and c.from_residual-in_err-replies_of-in-Bridge.result c.from_residual-in_err-replies_of-in-Bridge.ensures.1 in
+    rw (handed.1, handed.2)
+    (subst (λ (t : Task). StopsFiles t c.args.files.items c.in_err-replies_of-in-Bridge.field-0.0) (sym c.in-Bridge.is) c.in_err-replies_of-in-Bridge.ensures.stops)
 
 pub returns-in_err-text-in-Generate-clause-stops : goal.returns-in_err-text-in-Generate-clause-stops
 returns-in_err-text-in-Generate-clause-stops c =

@@ -7,6 +7,7 @@ pub returns : goal.returns
 returns c =
     let system = c.accepted_or_refused.ensures in
     let simulated = c.simulated_or_refused.ensures in
+    let bridged = c.bridged_or_refused.ensures in
     let replay = c.texts_are_replayed_or_refused.ensures in
     let undump = c.dumps_are_written_or_refused.ensures in
     λ task files are. one_answer task files
@@ -16,6 +17,11 @@ returns c =
         either = simulated.either (system_files files) (second_file files) some;
         never_both = simulated.never_both (system_files files) (second_file files);
         one_fault = simulated.one_fault (system_files files) (second_file files);
+      };
+      bridged = λ cycles some. record {
+        either = bridged.either (system_files files) (second_file files) cycles some;
+        never_both = bridged.never_both (system_files files) (second_file files) cycles;
+        one_fault = bridged.one_fault (system_files files) (second_file files) cycles;
       };
       replayed = record {
         either = replay.either (text_in files) (waves_in files);
