@@ -2,6 +2,8 @@
 #![tactic(auto)]
 
 #[cfg(test)]
+mod parsed;
+#[cfg(test)]
 mod table;
 
 #[cfg(test)]
