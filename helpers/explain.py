@@ -10,17 +10,18 @@ from scripts import BLANKS, Component, Fault, System, commands_of, components_of
 LONG = """\
 avalon COMMAND FILE.. | explain.py FILE..
 
-FILE.. are the files of the call in their order, as in
+FILE.. are the words of the call behind the command: its files in their order, and a number where one stands before them, as in
 
     ./avalon check board.tcl cpu.tcl ram.tcl | helpers/explain.py board.tcl cpu.tcl ram.tcl
     ./avalon simulate board.tcl board.scenario cpu.tcl ram.tcl | helpers/explain.py board.tcl board.scenario cpu.tcl ram.tcl
+    ./avalon bridge 400 board.tcl board.bytes cpu.tcl ram.tcl | helpers/explain.py 400 board.tcl board.bytes cpu.tcl ram.tcl
 
 Printed is what `avalon` wrote, and below a refusal the line of the file that is meant, with a mark below the byte; for a connection both of its
 ends; then the row of the rule in docs/RULES.md: what is wrong, and what to do. What is no refusal is passed on as it is.
 """
 RULES = Path(__file__).resolve().parent.parent / "docs" / "RULES.md"
 MOST = 100  # letters of a line that are shown
-FILES = {"verilog": 1, "dump": 1, "packet": 2}  # which file an answer is about that names none
+FILES = {"verilog": 1, "dump": 1, "packet": 3}  # which file an answer is about that names none
 
 
 def rules():

@@ -42,10 +42,10 @@ def explained(answer, files):
 
 def check_mark(title, answer, said, folder):
     """The mark stands below what is at the byte, as it is shown."""
-    place = re.match(r"(script|verilog|dump) refused: (?:file (\d+) line \d+ )?byte (\d+)", answer)
+    place = re.match(r"(script|verilog|dump|packet) refused: (?:file (\d+) line \d+ )?byte (\d+)", answer)
     if not place:
         return 0
-    data = (Path(folder) / f"{place[2] or 1}.tcl").read_bytes()
+    data = (Path(folder) / f"{place[2] or explain.FILES.get(place[1])}.tcl").read_bytes()
     lines = said.splitlines()
     at = next((k for k, line in enumerate(lines) if line.strip() == "^"), None)
     must(at is not None, f"{title}: no mark", said)
@@ -70,7 +70,7 @@ def main():
             answer = row.answer or ""
             names = written(row, folder)
             said = explained(answer + "\n", names)
-            rule = re.match(r"(?:script|link|scenario|verilog|dump) refused: .*rule ([A-Z]\d+)|limit: (L\d)", answer)
+            rule = re.match(r"(?:script|link|scenario|verilog|dump|packet) refused: .*rule ([A-Z]\d+)|limit: (L\d)", answer)
             if not rule:
                 must(said == "", f"{row.title}: more is said than the answer", said)
                 continue
