@@ -1,3 +1,4 @@
+use crate::each::{judge_any_cut, judge_any_read};
 use crate::row::{Change, Mark, Row, files_of, words_of};
 use crate::texts::is_text_of_simulation;
 use av_base::{Bytes, List, NoMemory};
@@ -13,7 +14,7 @@ pub struct Verdict {
 }
 
 /// The room for an answer.
-const ROOM: usize = 100_000;
+pub const ROOM: usize = 100_000;
 
 /// The writes that fail: the second one, where a row asks what part is written.
 fn failing_of(alloc: Global, title: &str) -> Result<List<u64>, NoMemory> {
@@ -24,9 +25,15 @@ fn failing_of(alloc: Global, title: &str) -> Result<List<u64>, NoMemory> {
     Ok(failing)
 }
 
-/// What is answered to these words over these files.
-fn answer(alloc: Global, words: &[String], files: List<Bytes>, sink: &mut MemSink) -> Exit {
-    let mut shelf = MemShelf::new(files, List::new(alloc));
+/// What is answered to these words over these files, where the calls of these numbers fail.
+pub fn answer(
+    alloc: Global,
+    words: &[String],
+    files: List<Bytes>,
+    failing: List<u64>,
+    sink: &mut MemSink,
+) -> Exit {
+    let mut shelf = MemShelf::new(files, failing);
     run(alloc, words, &mut shelf, sink)
 }
 
@@ -39,7 +46,8 @@ fn answer_row(
 ) -> Result<(Exit, Option<Mark>), NoMemory> {
     let words = words_of(alloc, row)?;
     let (files, mark) = files_of(alloc, row, change)?;
-    Ok((answer(alloc, words.as_slice(), files, sink), mark))
+    let exit = answer(alloc, words.as_slice(), files, List::new(alloc), sink);
+    Ok((exit, mark))
 }
 
 /// Whether the answer to the row with a byte changed is a result or one line that refuses.
@@ -98,7 +106,7 @@ fn judge_same(alloc: Global, row: &Row) -> Result<Verdict, NoMemory> {
 /// The status that a row calls for by the first word of its title.
 fn status_said(rule: &str) -> u8 {
     match rule {
-        "ok" | "text" => 0,
+        "ok" | "text" | "bytes" => 0,
         "usage" => 2,
         "part" => 4,
         "link" => 6,
@@ -106,6 +114,7 @@ fn status_said(rule: &str) -> u8 {
         "verilog" => 8,
         "scenario" => 9,
         "dump" => 11,
+        "packet" => 12,
         _ => 5,
     }
 }
@@ -143,9 +152,27 @@ fn last_line(text: &str) -> &str {
     text.rsplit_once('\n').map_or(text, |parts| parts.1)
 }
 
-/// What is told of an answer. Where the row asks for the text, or a part of it, all of it is given, from a line of its own on.
-fn told(alloc: Global, title: &str, text: &str, line: &str) -> Result<String, AllocError> {
-    if title.starts_with("text ") || title.starts_with("part ") {
+/// Bytes in hexadecimal, two digits each.
+fn hexadecimal(alloc: Global, bytes: &[u8]) -> Result<String, AllocError> {
+    let mut text = String::new(alloc);
+    for byte in bytes {
+        write!(text, "{byte:02x}")?;
+    }
+    Ok(text)
+}
+
+/// What is told of an answer. Where the row asks for the text, or a part of it, all of it is given, from a line of its own on; where it asks
+/// for the bytes, these.
+fn told(
+    alloc: Global,
+    title: &str,
+    written: &[u8],
+    text: &str,
+    line: &str,
+) -> Result<String, AllocError> {
+    if title.starts_with("bytes ") {
+        hexadecimal(alloc, written)
+    } else if title.starts_with("text ") || title.starts_with("part ") {
         format!(in alloc; "\n{text}")
     } else {
         String::from_str(alloc, line)
@@ -163,7 +190,7 @@ fn verdict_on(
     let line = last_line(text);
     let is_as_said = is_said(alloc, title, mark, exit.status(), line)?;
     Ok(Verdict {
-        written: told(alloc, title, text, line)?,
+        written: told(alloc, title, written, text, line)?,
         is_as_said,
     })
 }
@@ -172,6 +199,12 @@ fn verdict_on(
 pub fn judge(alloc: Global, row: &Row) -> Result<Verdict, NoMemory> {
     if row.title.starts_with("any byte ") {
         return judge_any_byte(alloc, row);
+    }
+    if row.title.starts_with("any read ") {
+        return judge_any_read(alloc, row);
+    }
+    if row.title.starts_with("any cut ") {
+        return judge_any_cut(alloc, row);
     }
     if row.title.starts_with("same text ") {
         return judge_same(alloc, row);

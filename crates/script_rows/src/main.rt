@@ -3,6 +3,7 @@
 //! `generate`.
 #![tactic(auto)]
 
+mod each;
 mod judge;
 mod row;
 mod texts;

@@ -20,6 +20,7 @@ fn command_of(text: &str) -> (&'static str, &str) {
         (":undump\n", "undump"),
         (":workload\n", "workload"),
         (":campaign\n", "campaign"),
+        (":bridge\n", "bridge"),
         (":mux\n", "mux"),
         (":demux\n", "demux"),
         (":gather\n", "gather"),
@@ -242,14 +243,14 @@ pub fn files_of(
 }
 
 /// The command, and a word for each file. A workload and a module have the numbers that are their texts in place of files, and so has a
-/// campaign in place of the first one.
+/// campaign or a bridge in place of the first one.
 pub fn words_of(alloc: Global, row: &Row) -> Result<Vec<String>, AllocError> {
     let mut words = Vec::new(alloc);
     words.push(String::from_str(alloc, row.command)?)?;
     for (k, text) in row.files.split(":file").enumerate() {
         let word = match row.command {
             "workload" | "mux" | "demux" | "gather" => text.trim(),
-            "campaign" if k == 0 => text.trim(),
+            "campaign" | "bridge" if k == 0 => text.trim(),
             _ => "file",
         };
         words.push(String::from_str(alloc, word)?)?;
