@@ -1,3 +1,4 @@
+#!/usr/bin/env python3
 """A test bench in Python over a generated text, without a simulator.
 
     from pybench import Module
