@@ -166,7 +166,7 @@ fn copied_port(alloc: Global, port: &PortLine) -> Result<PortLine, NoMemory>
 }
 
 /// The same ports.
-pub(crate) fn copied_ports(alloc: Global, ports: &[PortLine]) -> Result<List<PortLine>, NoMemory>
+pub fn copied_ports(alloc: Global, ports: &[PortLine]) -> Result<List<PortLine>, NoMemory>
     ensures { IfOk result (λ copies. copies ≡ ports.now) }
 {
     let mut copies = List::new(alloc);

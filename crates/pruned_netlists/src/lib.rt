@@ -6,4 +6,5 @@ mod marking;
 mod numbers;
 mod pruning;
 
+pub use copies::copied_ports;
 pub use pruning::prune;

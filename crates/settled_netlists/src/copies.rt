@@ -5,8 +5,8 @@ ghost use Rattle.netlist.specs.Netlists.{driver_of};
 ghost use Rattle.settled_netlists.specs.Values.{HaveWidths};
 ghost use Rattle.settled_netlists.specs.Lines.{AreSettledLines};
 
-use av_base::{List, NoMemory, Text, Val};
-use netlist::{Equation, Line, MemWrite, Memory, Module, PortLine};
+use av_base::{NoMemory, Val};
+use netlist::{Equation, Line, MemWrite, Memory, Module};
 use std::alloc::Global;
 
 /// The lines, a constant where a net has a value.
@@ -80,25 +80,4 @@ pub(crate) fn copied_memories(alloc: Global, module: &Module) -> Result<Vec<Memo
         memories.push(copied_memory(module, number))?;
     }
     Ok(memories)
-}
-
-fn copied_port(alloc: Global, port: &PortLine) -> Result<PortLine, NoMemory>
-    ensures { IfOk result (λ copy. copy ≡ port.now) }
-{
-    Ok(PortLine {
-        name: Text::copy(alloc, port.name.as_str())?,
-        width: port.width,
-        output: port.output,
-    })
-}
-
-/// The same ports.
-pub(crate) fn copied_ports(alloc: Global, ports: &[PortLine]) -> Result<List<PortLine>, NoMemory>
-    ensures { IfOk result (λ copies. copies ≡ ports.now) }
-{
-    let mut copies = List::new(alloc);
-    for port in ports {
-        copies.push(copied_port(alloc, port)?)?;
-    }
-    Ok(copies)
 }

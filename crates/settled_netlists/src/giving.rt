@@ -32,104 +32,6 @@ fn and_known(a: Option<Val>, b: Option<Val>) -> Option<Val>
     }
 }
 
-fn or_known(a: Option<Val>, b: Option<Val>) -> Option<Val>
-    requires { AreAlike a b }
-    ensures { result ≡ both or_of a b }
-{
-    match (a, b) {
-        (Some(a), Some(b)) => Some(a.or(b)),
-        _ => None,
-    }
-}
-
-fn xor_known(a: Option<Val>, b: Option<Val>) -> Option<Val>
-    requires { AreAlike a b }
-    ensures { result ≡ both xor_of a b }
-{
-    match (a, b) {
-        (Some(a), Some(b)) => Some(a.xor(b)),
-        _ => None,
-    }
-}
-
-fn add_known(a: Option<Val>, b: Option<Val>) -> Option<Val>
-    requires { AreAlike a b }
-    ensures { result ≡ both add_of a b }
-{
-    match (a, b) {
-        (Some(a), Some(b)) => Some(a.add(b)),
-        _ => None,
-    }
-}
-
-fn sub_known(a: Option<Val>, b: Option<Val>) -> Option<Val>
-    requires { AreAlike a b }
-    ensures { result ≡ both sub_of a b }
-{
-    match (a, b) {
-        (Some(a), Some(b)) => Some(a.sub(b)),
-        _ => None,
-    }
-}
-
-fn eq_known(a: Option<Val>, b: Option<Val>) -> Option<Val>
-    requires { AreAlike a b }
-    ensures { result ≡ both eq_of a b }
-{
-    match (a, b) {
-        (Some(a), Some(b)) => Some(a.eq(b)),
-        _ => None,
-    }
-}
-
-fn less_known(a: Option<Val>, b: Option<Val>) -> Option<Val>
-    requires { AreAlike a b }
-    ensures { result ≡ both less_of a b }
-{
-    match (a, b) {
-        (Some(a), Some(b)) => Some(a.less(b)),
-        _ => None,
-    }
-}
-
-fn concat_known(a: Option<Val>, b: Option<Val>) -> Option<Val>
-    requires { FitTogether a b }
-    ensures { result ≡ both concat_of a b }
-{
-    match (a, b) {
-        (Some(a), Some(b)) => Some(a.concat(b)),
-        _ => None,
-    }
-}
-
-fn not_known(a: Option<Val>) -> Option<Val>
-    ensures { result ≡ option_map not_of a }
-{
-    match a {
-        Some(a) => Some(a.not()),
-        None => None,
-    }
-}
-
-fn any_known(a: Option<Val>) -> Option<Val>
-    ensures { result ≡ option_map any_of a }
-{
-    match a {
-        Some(a) => Some(a.any()),
-        None => None,
-    }
-}
-
-fn slice_known(a: Option<Val>, high: u8, low: u8) -> Option<Val>
-    requires { HasBits a high low }
-    ensures { result ≡ option_map (λ word. slice_of word high low) a }
-{
-    match a {
-        Some(a) => Some(a.slice(high, low)),
-        None => None,
-    }
-}
-
 fn mux_known(s: Option<Val>, a: Option<Val>, b: Option<Val>) -> Option<Val>
     ensures { result ≡ mux_known s a b }
 {
@@ -162,21 +64,21 @@ fn given_by_equation(values: &[Option<Val>], equation: Equation) -> Option<Val>
         Equation::Input { .. } => None,
         Equation::Constant { value } => Some(value),
         Equation::And { a, b } => and_known(value_at(values, a), value_at(values, b)),
-        Equation::Or { a, b } => or_known(value_at(values, a), value_at(values, b)),
-        Equation::Xor { a, b } => xor_known(value_at(values, a), value_at(values, b)),
-        Equation::Add { a, b } => add_known(value_at(values, a), value_at(values, b)),
-        Equation::Sub { a, b } => sub_known(value_at(values, a), value_at(values, b)),
-        Equation::Eq { a, b } => eq_known(value_at(values, a), value_at(values, b)),
-        Equation::Less { a, b } => less_known(value_at(values, a), value_at(values, b)),
-        Equation::Concat { a, b } => concat_known(value_at(values, a), value_at(values, b)),
-        Equation::Not { a } => not_known(value_at(values, a)),
-        Equation::Any { a } => any_known(value_at(values, a)),
+        Equation::Or { a, b } => Some(value_at(values, a)?.or(value_at(values, b)?)),
+        Equation::Xor { a, b } => Some(value_at(values, a)?.xor(value_at(values, b)?)),
+        Equation::Add { a, b } => Some(value_at(values, a)?.add(value_at(values, b)?)),
+        Equation::Sub { a, b } => Some(value_at(values, a)?.sub(value_at(values, b)?)),
+        Equation::Eq { a, b } => Some(value_at(values, a)?.eq(value_at(values, b)?)),
+        Equation::Less { a, b } => Some(value_at(values, a)?.less(value_at(values, b)?)),
+        Equation::Concat { a, b } => Some(value_at(values, a)?.concat(value_at(values, b)?)),
+        Equation::Not { a } => Some(value_at(values, a)?.not()),
+        Equation::Any { a } => Some(value_at(values, a)?.any()),
         Equation::Mux { s, a, b } => mux_known(
             value_at(values, s),
             value_at(values, a),
             value_at(values, b),
         ),
-        Equation::Slice { a, high, low } => slice_known(value_at(values, a), high, low),
+        Equation::Slice { a, high, low } => Some(value_at(values, a)?.slice(high, low)),
         Equation::Reg { reset, next } => reg_known(reset, value_at(values, next)),
         Equation::Read { .. } => None,
     }

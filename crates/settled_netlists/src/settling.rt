@@ -1,10 +1,11 @@
 ghost use Rattle.std.specs.Prelude.{IfOk};
 ghost use Rattle.settled_netlists.specs.Settled.{IsSettled};
 
-use crate::copies::{copied_drivers, copied_memories, copied_ports, settled_lines};
+use crate::copies::{copied_drivers, copied_memories, settled_lines};
 use crate::values::settled_values;
 use av_base::{NoMemory, Text};
 use netlist::Module;
+use pruned_netlists::copied_ports;
 use std::alloc::Global;
 
 /// The module with a constant for each net that has one value in each cycle of every run, as far as values alone tell it: a register that keeps its
