@@ -8,7 +8,6 @@ pub mod Access
 pub mod Next
 pub mod Runs
 pub mod Blocks
-pub mod Reading
 pub mod Settling
 pub mod Steps
 pub mod Orders

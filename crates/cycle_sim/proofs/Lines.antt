@@ -10,7 +10,7 @@ use Rattle.netlist.specs.Netlists.{Netlist, IsModule, IsSound, IsValue, HasWidth
 use Rattle.netlist.specs.Runs.{value_of}
 use Rattle.cycle_sim.specs.Sims.{AreNets, bits_at, cycle_with}
 use Rattle.cycle_sim.specs.Given.{IsGiven}
-use Rattle.cycle_sim.specs.Readers.{is_state}
+use Rattle.cycle_sim.specs.Settled.{is_state}
 use Rattle.cycle_sim.proofs.Values.{slice_get-some, width_at-line, bits_at-is}
 
 -- the line of net n, which has this equation

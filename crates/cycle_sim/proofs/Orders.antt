@@ -9,51 +9,19 @@ use Rattle.netlist.specs.declared.line.Line.{Line}
 use Rattle.netlist.specs.declared.line.Equation.{Equation}
 use Rattle.netlist.specs.declared.line.Equation.TheVariants.{Reg}
 use Rattle.netlist.specs.Netlists.{Netlist, IsModule, IsValue, is_register, next_of, width_at}
-use Rattle.cycle_sim.specs.declared.order.Register.{Register}
+use Rattle.net_readers.specs.declared.registers.Register.{Register}
 use Rattle.cycle_sim.specs.declared.order.Change.{Change}
 use Rattle.cycle_sim.specs.Sims.{AreNets, bits_at}
-use Rattle.cycle_sim.specs.Orders.{IsRegisterOf, HasRegister, AreRegisters, IsChangeOf, IsChanged}
-use Rattle.cycle_sim.specs.Readers.{AreNetReaders, AreSettled, AreStale, StayStale, list_at}
+use Rattle.cycle_sim.specs.Orders.{IsChangeOf, IsChanged}
+use Rattle.net_readers.specs.Registers.{IsRegisterOf, HasRegister, AreRegisters}
+use Rattle.net_readers.specs.Readers.{AreNetReaders, AreStale, StayStale, list_at}
+use Rattle.cycle_sim.specs.Settled.{AreSettled}
 use Rattle.cycle_sim.proofs.Values.{split_more, slice_get-some, slice_get-set, slice_get-push, slice_get-front, slice_get-last, width_at-line, bits_at-is, bits_at-set_same, bits_at-set_other}
 use Rattle.cycle_sim.proofs.Runs.{register_of_next}
 use Rattle.cycle_sim.proofs.Evaluation.{set_net}
 use Rattle.cycle_sim.proofs.Blocks.{same_or_other, stay_further}
 use Rattle.cycle_sim.proofs.Settling.{settled_state}
 use Rattle.cycle_sim.proofs.Steps.{register_is_state}
-
-pub no_register : (e : Equation) → ((x : Word) (m : ℕ) → e ≡ Reg x m → ⊥) → is_register e ≡ false
-no_register (Reg reset next) h = absurd (h reset next refl)
-no_register _ h = refl
-
--- the registers below k
-pub record AreRegistersTo (lines : List Line) (registers : List Register) (k : ℕ) : Type 0 where
-  pub each : (j : ℕ) (register : Register) → slice_get registers j ≡ Some register → IsRegisterOf lines register
-  pub all : (n : ℕ) (line : Line) → n < k → slice_get lines n ≡ Some line → is_register line.equation ≡ true → HasRegister registers n
-
-pub registers_none : (lines : List Line) → AreRegistersTo lines [] 0
-registers_none lines = record { each = λ j register at. cc; all = λ n line lt at r. absurd (omega arith) }
-
-pub registers_more : (lines : List Line) (registers : List Register) (k : ℕ) (register : Register) → AreRegistersTo lines registers k → register.net ≡ k → IsRegisterOf lines register → AreRegistersTo lines (registers ++ register ∷ []) (k + 1)
-registers_more lines registers k register h net its = record {
-  each = λ j other at. elim (slice_get-push registers register other j at) [ inl o ↦ h.each j other o | inr o ↦ subst (IsRegisterOf lines) o.1 its ];
-  all = λ n line lt at r. elim (split_more n k lt) [
-    | inl below ↦ (let has = h.all n line below at r in
-        record { place = has.place; register = has.register; is = slice_get-front registers (register ∷ []) has.place has.register has.is; net = has.net })
-    | inr same ↦ record { place = length registers; register = register; is = slice_get-last registers register; net = net ∙ sym same }
-  ];
-}
-
-pub registers_kept : (lines : List Line) (registers : List Register) (k : ℕ) → AreRegistersTo lines registers k → ((line : Line) → slice_get lines k ≡ Some line → is_register line.equation ≡ false) → AreRegistersTo lines registers (k + 1)
-registers_kept lines registers k h none = record {
-  each = h.each;
-  all = λ n line lt at r. elim (split_more n k lt) [
-    | inl below ↦ h.all n line below at r
-    | inr same ↦ absurd (false≢true (sym (none line (subst (λ m. slice_get lines m ≡ Some line) same at)) ∙ r))
-  ];
-}
-
-pub registers_all : (lines : List Line) (registers : List Register) → AreRegistersTo lines registers (length lines) → AreRegisters lines registers
-registers_all lines registers h = record { each = h.each; all = λ n line at r. h.all n line (slice_get_within lines n line at) at r }
 
 -- the net that a register takes its value from
 pub register_next : (b : Netlist) → IsModule b → (register : Register) → (its : IsRegisterOf b.lines register) → width_at b.lines register.next ≡ Some its.line.width

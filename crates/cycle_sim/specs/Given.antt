@@ -5,7 +5,7 @@ use Rattle.netlist.specs.declared.line.Line.{Line}
 use Rattle.netlist.specs.Netlists.{Netlist, is_input}
 use Rattle.netlist.specs.Runs.{value_of}
 use Rattle.cycle_sim.specs.Sims.{cycle_with}
-use Rattle.cycle_sim.specs.Readers.{is_state}
+use Rattle.cycle_sim.specs.Settled.{is_state}
 
 -- The value of net n, whose line is this: an input's and a register's is the one that it has, and any other's the one that its equation gives among
 -- these values of nets and words.

@@ -1,5 +1,5 @@
 pub mod Sims
 pub mod Standing
-pub mod Readers
+pub mod Settled
 pub mod Given
 pub mod Orders

@@ -5,7 +5,7 @@ mod cells;
 mod laws;
 mod nets;
 mod order;
-mod readers;
+mod put;
 mod sim;
 
 pub use laws::{follow, one_run};

@@ -1,54 +1,21 @@
-//! Which nets take a value at the clock's edge, and what they take.
+//! What registers take at the clock's edge.
 
-ghost use Rattle.std.specs.Prelude.{◌≡◌, ◌<◌, ◌≤◌, ◌⊎◌, ℕ, length, slice_get, Some, IfOk, IfSome, IfNone, false};
-ghost use Rattle.netlist.specs.declared.line.Line.{Line};
-ghost use Rattle.netlist.specs.Netlists.{IsModule, is_register, next_of};
+ghost use Rattle.std.specs.Prelude.{◌≡◌, ◌<◌, ◌≤◌, ◌⊎◌, ℕ, length, slice_get, Some};
+ghost use Rattle.netlist.specs.Netlists.{IsModule};
 ghost use Rattle.cycle_sim.specs.Sims.{AreNets, bits_at};
-ghost use Rattle.cycle_sim.specs.Orders.{AreRegisters, IsChangeOf, IsChanged};
+ghost use Rattle.cycle_sim.specs.Orders.{IsChangeOf, IsChanged};
+ghost use Rattle.net_readers.specs.declared.registers.Register.{Register};
+ghost use Rattle.net_readers.specs.Registers.{AreRegisters};
 
-use av_base::{NoMemory, Val};
-use netlist::{Equation, Module};
-use std::alloc::Global;
-
-/// A register's net, and the net whose value it takes at the clock's edge.
-#[derive(Clone, Copy)]
-pub(crate) struct Register {
-    pub(crate) net: u32,
-    pub(crate) next: u32,
-}
+use av_base::Val;
+use net_readers::Register;
+use netlist::Module;
 
 /// What a register's net takes at the clock's edge.
 #[derive(Clone, Copy)]
 pub(crate) struct Change {
     pub(crate) net: u32,
     pub(crate) value: Val,
-}
-
-/// The register of this net, if it is one's.
-fn register_at(module: &Module, net: u32) -> Option<Register>
-    requires module { IsModule «module».now }
-    requires net_is { net < length «module».now.lines }
-    ensures net { IfSome result (λ register. register.net ≡ net) }
-    ensures next { (line : Line) → slice_get «module».now.lines net ≡ Some line → IfSome result (λ register. next_of line ≡ Some register.next) }
-    ensures none { (line : Line) → slice_get «module».now.lines net ≡ Some line → IfNone result (is_register line.equation ≡ false) }
-{
-    match module.equation(net) {
-        Equation::Reg { next, .. } => Some(Register { net, next }),
-        _ => None,
-    }
-}
-
-pub(crate) fn registers_of(alloc: Global, module: &Module) -> Result<Vec<Register>, NoMemory>
-    ensures { IfOk result (λ registers. AreRegisters «module».now.lines registers.items) }
-{
-    module.well_made();
-    let mut registers = Vec::new(alloc);
-    for net in 0..module.net_count() {
-        if let Some(register) = register_at(module, net) {
-            registers.push(register)?;
-        }
-    }
-    Ok(registers)
 }
 
 /// Gathers what the registers take whose next net has another value than they: how many they are. They stand at the head of the list.

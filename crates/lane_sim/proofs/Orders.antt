@@ -13,7 +13,7 @@ use Rattle.net_readers.specs.declared.registers.Register.{Register}
 use Rattle.cycle_sim.specs.Sims.{AreNets, bits_at}
 use Rattle.net_readers.specs.Registers.{IsRegisterOf, HasRegister, AreRegisters}
 use Rattle.lane_sim.specs.Changes.{WordChange, IsChangeOf, IsChanged}
-use Rattle.cycle_sim.specs.Readers.{AreSettled}
+use Rattle.cycle_sim.specs.Settled.{AreSettled}
 use Rattle.net_readers.specs.Readers.{AreNetReaders, AreStale, StayStale, list_at}
 use Rattle.lane_sim.proofs.Values.{split_more, slice_get-some, slice_get-set, slice_get-push, slice_get-front, slice_get-last, width_at-line, bits_at-is, bits_at-set_same, bits_at-set_other}
 use Rattle.lane_sim.proofs.Runs.{register_of_next}

@@ -8,7 +8,7 @@ use Rattle.netlist.specs.Netlists.{Netlist, IsInputPort}
 use Rattle.netlist.specs.Runs.{Cycle, Run, IsValuation, Steps, SameInputs, SameState, SameNets}
 use Rattle.cycle_sim.specs.Sims.{SimValue, AreNets, AreWords, ArePlaces, IsSim, given_to, input_widths, present}
 use Rattle.cycle_sim.specs.Standing.{IsClearedRun, StandsFor, with_cycle}
-use Rattle.cycle_sim.specs.Readers.{AreSettled}
+use Rattle.cycle_sim.specs.Settled.{AreSettled}
 use Rattle.net_readers.specs.Readers.{AreReaders}
 use Rattle.lane_words.specs.LaneWords.{LaneWord, value_at}
 

@@ -7,7 +7,7 @@ ghost use Rattle.netlist.specs.Netlists.{IsModule, IsInputPort, input_net, is_in
 ghost use Rattle.netlist.specs.Runs.{IsValuation, reset_of};
 ghost use Rattle.cycle_sim.specs.Sims.{bits_at, cycle_with, given_to, input_widths};
 ghost use Rattle.cycle_sim.specs.Given.{IsGiven};
-ghost use Rattle.cycle_sim.specs.Readers.{AreSettled, StateStays};
+ghost use Rattle.cycle_sim.specs.Settled.{AreSettled, StateStays};
 ghost use Rattle.net_readers.specs.Registers.{AreRegisters};
 ghost use Rattle.net_readers.specs.Readers.{AreReaders, StayStale, block_count};
 ghost use Rattle.lane_words.specs.LaneWords.{value_at};

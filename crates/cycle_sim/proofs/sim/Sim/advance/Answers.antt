@@ -3,7 +3,8 @@ use Rattle.std.proofs.lemmas.Bool.{false≢true}
 use Rattle.av_base.specs.Word.{Word}
 use Rattle.netlist.specs.Runs.{Steps}
 use Rattle.cycle_sim.specs.Sims.{ArePlaces, SimValue, cycle_with, present}
-use Rattle.cycle_sim.specs.Readers.{AreSettled, StayStale}
+use Rattle.net_readers.specs.Readers.{StayStale}
+use Rattle.cycle_sim.specs.Settled.{AreSettled}
 use Rattle.cycle_sim.specs.Standing.{StandsFor, with_cycle}
 use Rattle.cycle_sim.proofs.Values.{refilled}
 use Rattle.cycle_sim.proofs.Settling.{WrittenIsStale, settled_written}

@@ -3,7 +3,7 @@ use Rattle.std.proofs.lemmas.Bool.{false≢true}
 use Rattle.av_base.specs.Word.{Word}
 use Rattle.lane_words.specs.LaneWords.{LaneWord}
 use Rattle.net_readers.specs.Readers.{StayStale}
-use Rattle.cycle_sim.specs.Readers.{AreSettled}
+use Rattle.cycle_sim.specs.Settled.{AreSettled}
 use Rattle.lane_sim.specs.LaneSims.{CellsValue, IsEdge, LanesValue, cells_at, lane_of, lane_words}
 use Rattle.lane_sim.proofs.Values.{refilled}
 use Rattle.lane_sim.proofs.LaneLists.{first}

@@ -2,13 +2,13 @@ use Rattle.std.proofs.Common.{◌≡◌, slice_get, Some, subst, ◌∙◌, arit
 use Rattle.std.proofs.lemmas.Option.{slice_get_within}
 use Rattle.netlist.specs.Netlists.{memory_of}
 use Rattle.cycle_sim.specs.Sims.{bits_at}
-use Rattle.cycle_sim.specs.Readers.{AreStale}
+use Rattle.net_readers.specs.Readers.{AreStale}
 use Rattle.cycle_sim.proofs.Lines.{within}
 use Rattle.cycle_sim.proofs.Access.{address_is}
 use Rattle.cycle_sim.proofs.Blocks.{stay_same}
 use Rattle.cycle_sim.proofs.Settling.{written_stale_more}
-use Rattle.cycle_sim.proofs.readers.mark_written.Goals as goal
-use Rattle.cycle_sim.proofs.readers.mark_written.Goals.{then-bits-eq1, else-bits-eq1}
+use Rattle.cycle_sim.proofs.put.mark_written.Goals as goal
+use Rattle.cycle_sim.proofs.put.mark_written.Goals.{then-bits-eq1, else-bits-eq1}
 
 pub bounds-nets-memory : goal.bounds-nets-memory
 bounds-nets-memory c =

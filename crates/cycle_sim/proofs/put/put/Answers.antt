@@ -1,5 +1,5 @@
 use Rattle.std.proofs.Common.{◌≡◌, slice_get, Some, subst, arith}
-use Rattle.cycle_sim.proofs.readers.put.Goals as goal
+use Rattle.cycle_sim.proofs.put.put.Goals as goal
 
 pub mark-requires : goal.mark-requires
 mark-requires c j block at =

@@ -1,5 +1,0 @@
-use Rattle.cycle_sim.proofs.Orders.{AreRegistersTo}
-use Rattle.cycle_sim.proofs.order.registers_of.Given as goal
-
-abbrev pub invariant-loop-net : goal.invariant-loop-net
-invariant-loop-net l = AreRegistersTo l.module.lines l.registers.items l.net
