@@ -11,7 +11,7 @@ use Rattle.mm_runs.specs.Awake.{owes}
 use Rattle.mm_machines.specs.Lines.{target_of}
 use Rattle.mm_machines.specs.Link.{Target, Port, takes, taken_at, shown_at, operations_among, operations_in, AreLegalAt, is_last_joined}
 use Rattle.mm_machines.specs.Shorter.{legal_at_before}
-use Rattle.mm_machines.specs.Rank.{link_part, has_commands, LinkRankFalls, moves_commands, is_unclosed, is_owed, is_last_write, may_rest}
+use Rattle.mm_machines.specs.Rank.{link_part, has_commands, moves_commands, is_unclosed, is_owed, is_last_write, may_rest}
 use Rattle.mm_machines.specs.Turns.{seats_of}
 use Rattle.ranks.specs.Turns.{AllShare}
 use Rattle.ranks.specs.Path.{works, excused, stands, writing, AnswersFlow}
@@ -25,7 +25,8 @@ use Rattle.mm_awake.proofs.Bits.{none_taken, shown_again, holds, shown_extends, 
 
 pub record Laws : Type 0 where
   pub stuck : (run : Junctions) (host size : ℕ) (seen : List ℕ) → IsStuck run host size seen → size ≤ allowances (all_budgets run seen)
-  pub rank : (target : Target) (ports : ℕ → Port) (i : ℕ) (rank : ℕ → ℕ) (largest from size : ℕ) → AreLegalAt (ports (suc i)) (from + size + 1) → LinkRankFalls target (ports (suc i)) (ports i) rank largest (from + size) → KeepsRank (link_part target ports i rank largest from) size
+  pub lasts : (target : Target) (ports : ℕ → Port) (i from size : ℕ) → AreLegalAt (ports (suc i)) (from + size + 1) → (c : ℕ) → c < size → IsTrue ((link_part target ports i (λ c. 0) 0 from).works c) → IsFalse ((link_part target ports i (λ c. 0) 0 from).moves c) →
+      IsTrue ((link_part target ports i (λ c. 0) 0 from).works (suc c) || (link_part target ports i (λ c. 0) 0 from).moves (suc c))
   pub turns : TurnLaws
 
 -- a part moves as often as its moves are counted
@@ -131,13 +132,6 @@ module _ (laws : Laws) (system : System) (run : Run) (agent : ℕ) (ways : Ways)
   next : (c : ℕ) → from + suc c ≡ suc (from + c)
   next c = omega arith
 
-  restricted : (target : Target) (up down : Port) (rank : ℕ → ℕ) (largest : ℕ) → KeepsGoing target up down rank largest end → LinkRankFalls target up down rank largest (from + size)
-  restricted target up down rank largest going = record {
-    bounded = λ c h. going.falls.bounded c (omega (arith, fits, h));
-    falls = λ c h w m e. going.falls.falls c (omega (arith, fits, h)) (or_left (has_commands target up down c) _ w) m e;
-    stays = λ c h w m. going.falls.stays c (omega (arith, fits, h)) (or_left (has_commands target up down c) _ w) m;
-  }
-
   link_keeps : (target : Target) (ports : ℕ → Port) (i : ℕ) (rank : ℕ → ℕ) (largest : ℕ) → KeepsGoing target (ports (suc i)) (ports i) rank largest end →
       KeepsRank (record {
         works = λ c. works (links_at target ports (from + c)) i;
@@ -148,18 +142,15 @@ module _ (laws : Laws) (system : System) (run : Run) (agent : ℕ) (ways : Ways)
       }) size
   link_keeps target ports i rank largest going = record {
     bounded = λ c h. going.falls.bounded (from + c) (omega (arith, fits, h));
-    falls = λ c h w m e. rw (next c) (going.falls.falls (from + c) (omega (arith, fits, h)) (link_work (stands (links_at target ports (from + c)) (suc i)) (is_untaken target (ports (suc i)) (ports i) (from + c)) (is_held (ports i).commands.signals (takes (ports i)) (from + c)) (is_unclosed (ports i) (from + c)) (moves_at (ports (suc i)) (ports i) (from + c)) w m) (not_by _ (without_moves (moves_commands (ports (suc i)) (ports i) (from + c)) (is_raised ((ports (suc i)).answers.valid (suc (from + c)))) m)) (not_by _ e));
-    stays = λ c h w m. rw (next c) (going.falls.stays (from + c) (omega (arith, fits, h)) (link_work (stands (links_at target ports (from + c)) (suc i)) (is_untaken target (ports (suc i)) (ports i) (from + c)) (is_held (ports i).commands.signals (takes (ports i)) (from + c)) (is_unclosed (ports i) (from + c)) (moves_at (ports (suc i)) (ports i) (from + c)) w m) (not_by _ (without_moves (moves_commands (ports (suc i)) (ports i) (from + c)) (is_raised ((ports (suc i)).answers.valid (suc (from + c)))) m)));
+    falls = λ c h w m e. rw (next c) (going.falls.falls (from + c) (omega (arith, fits, h)) (link_work (stands (links_at target ports (from + c)) (suc i)) (is_untaken target (ports (suc i)) (ports i) (from + c)) (is_held (ports i).commands.signals (takes (ports i)) (from + c)) (is_unclosed (ports i) (from + c)) (moves_at (ports (suc i)) (ports i) (from + c)) w m) (not_by _ m) (not_by _ e));
+    stays = λ c h w m. rw (next c) (going.falls.stays (from + c) (omega (arith, fits, h)) (link_work (stands (links_at target ports (from + c)) (suc i)) (is_untaken target (ports (suc i)) (ports i) (from + c)) (is_held (ports i).commands.signals (takes (ports i)) (from + c)) (is_unclosed (ports i) (from + c)) (moves_at (ports (suc i)) (ports i) (from + c)) w m) (not_by _ m));
     lasts = λ c h w m. two_of (has_commands target (ports (suc i)) (ports i) (from + c)) (is_held (ports i).commands.signals (takes (ports i)) (from + c)) (link_work (stands (links_at target ports (from + c)) (suc i)) (is_untaken target (ports (suc i)) (ports i) (from + c)) (is_held (ports i).commands.signals (takes (ports i)) (from + c)) (is_unclosed (ports i) (from + c)) (moves_at (ports (suc i)) (ports i) (from + c)) w m)
         (λ commands. more_work (stands (links_at target ports (from + suc c)) (suc i)) (is_untaken target (ports (suc i)) (ports i) (from + suc c)) (is_held (ports i).commands.signals (takes (ports i)) (from + suc c)) (is_unclosed (ports i) (from + suc c)) (is_raised ((ports (suc i)).answers.valid (suc (from + suc c)))) (moves_commands (ports (suc i)) (ports i) (from + suc c))
-        (keeps_commands.lasts c h (as_works (stands (links_at target ports (from + c)) (suc i)) (is_untaken target (ports (suc i)) (ports i) (from + c)) (is_unclosed (ports i) (from + c)) commands) (without_moves (moves_commands (ports (suc i)) (ports i) (from + c)) (is_raised ((ports (suc i)).answers.valid (suc (from + c)))) m)))
+        (laws.lasts target ports i from size (legal_at_before (ports (suc i)) (from + size + 1) end (omega (arith, fits)) going.legal) c h (as_works (stands (links_at target ports (from + c)) (suc i)) (is_untaken target (ports (suc i)) (ports i) (from + c)) (is_unclosed (ports i) (from + c)) commands) (without_moves (moves_commands (ports (suc i)) (ports i) (from + c)) (is_raised ((ports (suc i)).answers.valid (suc (from + c)))) m)))
         (λ held. rw (next c) (held_work (stands (links_at target ports (suc (from + c))) (suc i)) (is_untaken target (ports (suc i)) (ports i) (suc (from + c))) (shows (ports i).commands.signals (suc (from + c))) (takes (ports i) (suc (from + c))) (is_unclosed (ports i) (suc (from + c))) (is_raised ((ports (suc i)).answers.valid (suc (suc (from + c))))) (takes (ports (suc i)) (suc (from + c)))
         (shown_again (ports i) (from + c) end going.legal_down (omega (arith, fits, h)) held)));
   }
     where
-      keeps_commands : KeepsRank (link_part target ports i rank largest from) size
-      keeps_commands = laws.rank target ports i rank largest from size (legal_at_before (ports (suc i)) (from + size + 1) end (omega (arith, fits)) going.legal) (restricted target (ports (suc i)) (ports i) rank largest going)
-
       as_works : (s u o : Bool) → IsTrue (s || u || o) → IsTrue (s || u || o || false)
       as_works s u o h = or_left ((s || u) || o) false h
 

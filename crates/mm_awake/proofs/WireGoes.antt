@@ -3,7 +3,7 @@ use Rattle.std.proofs.Common.{ℕ, Bool, true, false, not, ◌||◌, arith, refl
 use Rattle.std.proofs.lemmas.Bool.{or_left, or_right, both_ways}
 use Rattle.mm_runs.specs.Commands.{is_held}
 use Rattle.mm_machines.specs.Link.{Target, Port, AreLegalAt, takes}
-use Rattle.mm_machines.specs.Rank.{LinkRankFalls, has_commands, is_excused, is_owed}
+use Rattle.mm_machines.specs.Rank.{LinkRankFalls, moves_commands, has_commands, is_excused, is_owed}
 use Rattle.mm_links.specs.Going.{KeepsGoing}
 use Rattle.mm_awake.proofs.Bits.{no_true}
 
@@ -15,6 +15,10 @@ by_not : (b : Bool) → IsTrue (not b) → IsFalse b
 by_not true h = absurd (no_true h)
 by_not false h = refl
 
+neither : (a b : Bool) → IsTrue (not (a || b)) → IsTrue (not a)
+neither true b h = h
+neither false b h = refl
+
 pub wire_goes : ((target : Target) (port : Port) (end : ℕ) → AreLegalAt port end → LinkRankFalls target port port (λ c. 0) 0 end) → (target : Target) (port : Port) (end : ℕ) → AreLegalAt port end → KeepsGoing target port port (λ c. 0) 0 end
 wire_goes falls target port end legal = record {
   legal = legal;
@@ -22,7 +26,7 @@ wire_goes falls target port end legal = record {
   falls = record {
     bounded = λ c h. omega arith;
     falls = λ c h w m e. either (has_commands target port port c) (is_held port.commands.signals (takes port) c) w
-        (λ commands. (falls target port end legal).falls c h commands m e)
+        (λ commands. (falls target port end legal).falls c h commands (neither (moves_commands port port c) _ m) e)
         (λ held. absurd (both_ways (is_excused port port c) (by_not (is_excused port port c) e) (or_left _ _ (or_left _ _ held))));
     stays = λ c h w m. omega arith;
   };

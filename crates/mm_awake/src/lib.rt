@@ -88,7 +88,7 @@ pub fn work_is_short()
 {
     ranks::stuck_is_short();
     ranks::turns_keep_seats();
-    mm_machines::progress::link_keeps_rank()
+    mm_machines::progress::work_lasts()
 }
 
 /// Where the links and stages hold back few beats and words, the parts allow in a window, in which and in whose next cycle nothing is served, no more than their sum.

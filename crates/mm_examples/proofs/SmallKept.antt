@@ -130,10 +130,14 @@ link : (target : Target) (port : Port) → AreLegalAt port 4 → ((c : ℕ) → 
 link target port legal acts = record {
   legal = legal;
   legal_down = legal;
-  falls = record { bounded = λ c h. omega arith; falls = λ c h w m e. absurd (acts c h w m e); stays = λ c h w m. omega arith };
+  falls = record { bounded = λ c h. omega arith; falls = λ c h w m e. absurd (acts c h w (neither (moves_commands port port c) _ m) e); stays = λ c h w m. omega arith };
   words = λ c h owed. or_right' _ _ owed;
 }
   where
+    neither : (a b : Bool) → IsTrue (not (a || b)) → IsTrue (not a)
+    neither true b h = h
+    neither false b h = refl
+
     or_right' : (a b : Bool) → IsTrue b → IsTrue (a || b)
     or_right' true b h = refl
     or_right' false b h = h

@@ -19,6 +19,7 @@ use Rattle.mm_machines.specs.Rank.{moves_commands, is_excused, is_owed, is_unclo
 use Rattle.mm_machines.specs.SideLaws.{marked_keeps, same_counts, zip_front}
 use Rattle.mm_machines.specs.Shorter.{legal_at_before}
 use Rattle.mm_machines.specs.Straight.{are_answered}
+use Rattle.mm_links.proofs.Words.{words_move}
 use Rattle.mm_links.specs.Going.{GoesOn, GivesWhatHasCome, has_link_work, is_behind, is_untaken}
 use Rattle.mm_links.specs.Going.RowGoesOn.{at_end, further}
 use Rattle.mm_links.specs.Passes.{ShowsWrite}
@@ -511,11 +512,11 @@ module _ (target : Target) (up down : Port) (end : ℕ) (cut : Cutting target up
     going = record {
       legal = cut.legal;
       legal_down = cut.legal_below;
-      falls = record {
+      falls = words_move up down (record {
         bounded = λ c h. le_refl 0;
         falls = λ c h work still must. absurd (never c h work still must);
         stays = λ c h work still. le_refl 0;
-      };
+      });
       words = gives;
     };
     holds = holds_back;

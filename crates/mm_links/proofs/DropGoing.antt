@@ -10,6 +10,7 @@ use Rattle.mm_machines.specs.Machines.{Raw, raws}
 use Rattle.mm_machines.specs.PartRanks.{JoinsAlike, are_joined_alike}
 use Rattle.mm_machines.specs.Rank.{moves_commands, is_excused, is_owed, is_unclosed, is_last_write, may_rest, is_writing}
 use Rattle.mm_machines.specs.SideLaws.{marked_keeps}
+use Rattle.mm_links.proofs.Words.{words_move}
 use Rattle.mm_links.specs.Going.{GoesOn, GivesWhatHasCome, has_link_work, is_behind}
 use Rattle.mm_links.specs.Selects.{takes_read}
 use Rattle.mm_links.specs.Drops.{DropState, RunsAsDrop, IsDropPlan, sends, accepted, standing_at}
@@ -244,7 +245,7 @@ module _ (target : Target) (room : ℕ) (up down : Port) (state : DropState) (en
     going = record {
       legal = legal;
       legal_down = drop_legal target room up down state end plan run legal;
-      falls = record {
+      falls = words_move up down (record {
         bounded = λ c h. at_most (nat_lt 0 (state.reads c));
         falls = λ c h work still must.
             let waits = stuck c h work still must in
@@ -252,7 +253,7 @@ module _ (target : Target) (room : ℕ) (up down : Port) (state : DropState) (en
             let after = ap one_if waits.given in
             omega (arith, before, after);
         stays = λ c h work still. no_rise c (or_parts (takes down c) (takes up c) (by_not (takes down c || takes up c) still)).0;
-      };
+      });
       words = gives;
     };
     holds = holds_back target room up down state end plan run legal alike;

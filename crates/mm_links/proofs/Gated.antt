@@ -13,6 +13,7 @@ use Rattle.mm_machines.specs.PartRanks.{Accepted, held_back, JoinsAlike, are_joi
 use Rattle.mm_machines.specs.Rank.{moves_commands, is_excused, is_owed, is_unclosed, is_writing, is_last_write, may_rest}
 use Rattle.mm_machines.specs.SideLaws.{all_reached, prefix_within}
 use Rattle.mm_machines.specs.Straight.{are_answered}
+use Rattle.mm_links.proofs.Words.{words_move}
 use Rattle.mm_links.specs.Going.{GoesOn, has_link_work}
 use Rattle.mm_links.proofs.Alike.{IsAlike, AllAlike, have_operations, Fronts, shown_fronts, taken_alike, shown_up, alike_operations, alike_items, alike_sizes, alike_tagged, alike_reads, alike_lanes, alike_last_joined, alike_last_write, alike_joins}
 use Rattle.mm_links.proofs.Stages.{all_front, alike_prefix, held_back_past, accepted_of, total_accepted}
@@ -197,11 +198,11 @@ module _ (target : Target) (up down : Port) (lets : ℕ → Bool) (shows_same : 
         going = record {
           legal = legal_up;
           legal_down = legal_down;
-          falls = record {
+          falls = words_move up down (record {
             bounded = λ c h. le_refl 0;
             falls = λ c h work still must. absurd (never c h work still must);
             stays = λ c h work still. le_refl 0;
-          };
+          });
           words = λ c h owed. or_right _ (is_owed down c) (sym (owed_same c (omega (arith, h))) ∙ owed);
         };
         holds = λ c h.

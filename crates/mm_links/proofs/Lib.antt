@@ -1,3 +1,4 @@
+pub mod Words
 pub mod HandOn
 pub mod Pass
 pub mod Chain

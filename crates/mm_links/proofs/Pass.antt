@@ -8,6 +8,7 @@ use Rattle.mm_machines.specs.Rank.{is_excused, is_owed, has_commands, moves_comm
 use Rattle.mm_machines.specs.PartRanks.{KeepsMoving}
 use Rattle.mm_machines.specs.Lines.{KeepsRow}
 use Rattle.mm_machines.specs.Straight.{GoesStraightThrough, IsShownPromptly}
+use Rattle.mm_links.proofs.Words.{words_move}
 use Rattle.mm_links.specs.Going.{KeepsGoing}
 use Rattle.mm_links.specs.Going.RowGoesOn.{at_end, further}
 use Rattle.mm_links.specs.Links.{IsLink, IsStraightLink, pass_form}
@@ -25,12 +26,12 @@ wire_going : (target : Target) (port : Port) (end : ℕ) → AreLegalAt port end
 wire_going target port end legal falls = record {
   legal = legal;
   legal_down = legal;
-  falls = record {
+  falls = words_move port port (record {
     bounded = falls.bounded;
     falls = λ c h work. falls_also_behind (has_commands target port port c) (is_held port.commands.signals (takes port) c) (moves_commands port port c) (is_excused port port c) (0 < 0)
         (λ held. or_left _ _ (or_left _ _ held)) (falls.falls c h) work;
     stays = λ c h work still. le_refl 0;
-  };
+  });
   words = λ c h owed. or_right _ (is_owed port c) owed;
 }
 

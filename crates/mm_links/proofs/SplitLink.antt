@@ -13,6 +13,7 @@ use Rattle.mm_machines.specs.PartRanks.{JoinsAlike, are_joined_alike}
 use Rattle.mm_machines.specs.Rank.{moves_commands, is_excused, is_owed, is_unclosed, is_last_write, may_rest, is_writing}
 use Rattle.mm_machines.specs.SideLaws.{marked_keeps}
 use Rattle.mm_machines.specs.Straight.{are_answered}
+use Rattle.mm_links.proofs.Words.{words_move}
 use Rattle.mm_links.specs.Going.{GoesOn, has_link_work}
 use Rattle.mm_links.specs.Going.RowGoesOn.{at_end, further}
 use Rattle.mm_links.specs.Links.{IsLink}
@@ -258,11 +259,11 @@ module _ (law : HasPieces) (carries : Carries) (target : Target) (count room : �
       going = record {
         legal = legal;
         legal_down = carried.legal;
-        falls = record {
+        falls = words_move up down (record {
           bounded = λ c h. small (nat_lt (length (words_at down c)) (words_owed down c));
           falls = falls;
           stays = λ c h work still. still_rank down c (or_parts (takes down c) (takes up c) (by_not (takes down c || takes up c) still)).0;
-        };
+        });
         words = λ c h above. or_right _ (is_owed down c) (owed_up_down c (omega (arith, h)) above);
       };
       holds = holds_nothing_back target up down end carried.held;

@@ -17,6 +17,7 @@ use Rattle.mm_machines.specs.PartRanks.{Accepted, HoldsBack, held_back, behind, 
 use Rattle.mm_machines.specs.Rank.{LinkRankFalls, has_commands, moves_commands, is_excused, is_owed}
 use Rattle.mm_machines.specs.Machines.{Raw, Stage, RunsAsStage, WaitsOnlyWhenFull, above, below, raws, raw_at, mark, marked, burst_of, burst_past, idle, IsStageRun, ShowsHead, port_of, owing_rank}
 use Rattle.mm_machines.specs.SideLaws.{taken_is_shown, same_counts, zip_front}
+use Rattle.mm_links.proofs.Words.{words_move}
 use Rattle.mm_links.specs.Going.{GoesOn, KeepsGoing, GivesWhatHasCome, is_behind, is_untaken}
 use Rattle.mm_links.specs.Going.RowGoesOn.{at_end, further}
 use Rattle.mm_links.specs.Links.{IsLink, BringsLanesDown, HandsOnJoins, OwesNothingBelow}
@@ -356,13 +357,13 @@ module _ (laws : StageLaws) (depth : ℕ) (shape : Shape) (uc dc : CommandView) 
     stage_keeps_going = record {
       legal = legal;
       legal_down = legal_below;
-      falls = record {
+      falls = words_move up down (record {
         bounded = λ c h. falls_commands.bounded c h;
         falls = λ c h w m e. two_of (has_commands target up down c) (is_held dc.signals (takes down) c) w
             (λ commands. falls_commands.falls c h commands m e)
             (λ held. absurd (both_ways (is_excused up down c) (by_not (is_excused up down c) e) (or_left _ _ (or_left _ _ held))));
         stays = λ c h w m. still_rank down c (not_or (takes down c) (takes up c) m);
-      };
+      });
       words = words;
     }
       where

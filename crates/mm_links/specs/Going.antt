@@ -25,10 +25,14 @@ GivesWhatHasCome target up down end =
 abbrev pub has_link_work : Target → Port → Port → ℕ → Bool
 has_link_work target up down c = has_commands target up down c || is_held down.commands.signals (takes down) c
 
+-- a beat is taken below or accepted above, or a word is given above in the next cycle
+abbrev pub moves_or_gives : Port → Port → ℕ → Bool
+moves_or_gives up down c = moves_commands up down c || is_raised (up.answers.valid (suc c))
+
 pub record KeepsGoing (target : Target) (up down : Port) (rank : ℕ → ℕ) (largest end : ℕ) : Type 0 where
   pub legal : AreLegalAt up end
   pub legal_down : AreLegalAt down end
-  pub falls : Falls (has_link_work target up down) (moves_commands up down) (is_excused up down) rank largest end
+  pub falls : Falls (has_link_work target up down) (moves_or_gives up down) (is_excused up down) rank largest end
   pub words : GivesWhatHasCome target up down end
 
 -- the largest value of a link's rank, and how many transfers wait in it behind one that isn't wholly taken

@@ -1,5 +1,5 @@
 -- A chain of links whose ranks fall isn't stuck for longer than the ranks allow.
-use Rattle.std.proofs.Common.{ℕ, suc, ◌≤◌, ◌≡◌, ◌+◌, Bool, false, ◌||◌, arith, nat_lt, length, IsTrue, IsFalse, tests}
+use Rattle.std.proofs.Common.{ℕ, suc, ◌<◌, ◌≤◌, ◌≡◌, ◌+◌, Bool, false, ◌||◌, arith, nat_lt, length, IsTrue, IsFalse, tests}
 use Rattle.mm_runs.specs.Commands.{is_held}
 use Rattle.mm_machines.specs.Link.{Target, Port, takes, taken_at, shown_at, operations_among, AreLegalAt, has_word_ready}
 use Rattle.mm_machines.specs.Rank.{is_writing, is_owed, is_unclosed, may_rest, has_commands, LinkRankFalls, commands_at, moves_commands, link_part, link_budget, IsUnhindered, KeepLinkRanks}
@@ -49,6 +49,14 @@ link_keeps_rank target ports i rank largest from size legal law = record {
 
     less : (c : ℕ) → IsTrue (works (commands_at target ports (from + c)) i) → IsTrue (has_commands target (ports (suc i)) (ports i) (from + c))
     less c work = three_of_four (is_held (ports (suc i)).commands.signals (takes (ports (suc i))) (from + c)) _ (is_unclosed (ports i) (from + c)) work
+
+pub work_lasts : (target : Target) (ports : ℕ → Port) (i from size : ℕ) → AreLegalAt (ports (suc i)) (from + size + 1) → (c : ℕ) → c < size → IsTrue (works (commands_at target ports (from + c)) i) → IsFalse (moves_commands (ports (suc i)) (ports i) (from + c)) →
+    IsTrue (works (commands_at target ports (from + suc c)) i || moves_commands (ports (suc i)) (ports i) (from + suc c))
+work_lasts target ports i from size legal c h work still =
+    rw (next) (work_or_move _ _ (λ later. commands_last target (ports (suc i)) (ports i) (from + c) (legal_at_before (ports (suc i)) (suc (suc (from + c))) (from + size + 1) (omega (arith, h)) legal) work later))
+  where
+    next : from + suc c ≡ suc (from + c)
+    next = omega arith
 
 without_ready : (u r o : Bool) → IsFalse r → IsTrue (u || r || o) → IsTrue (u || false || o)
 without_ready u r o f h = grind (arith, tests)

@@ -1,6 +1,6 @@
 //! What must go on: ranks that fall, and turns.
 
-ghost use Rattle.std.specs.Prelude.{suc, ◌≡◌, ◌<◌, ◌≤◌, ◌+◌, ℕ, List, IsTrue};
+ghost use Rattle.std.specs.Prelude.{suc, ◌≡◌, ◌<◌, ◌≤◌, ◌+◌, ◌||◌, ℕ, List, IsTrue, IsFalse};
 ghost use Rattle.histories.specs.History.{IsPrefix};
 ghost use Rattle.mm_machines.specs.Rank.{HoldsOneBeat, LinkRankFalls, link_part, link_budget, is_owed, is_on_its_way, PartRankFalls, IsStuckChain};
 ghost use Rattle.mm_machines.specs.Turns.{IsFairArbiter, AsksInVain, others_begun};
@@ -16,6 +16,13 @@ pub fn link_keeps_rank()
     ensures { (target : Target) (ports : ℕ → Port) (i : ℕ) (rank : ℕ → ℕ) (largest from size : ℕ)
         → PartRankFalls target ports i rank largest (from + size)
         → KeepsRank (link_part target ports i rank largest from) size }
+{}
+
+/// Work of a link goes away by a move alone.
+pub fn work_lasts()
+    ensures { (target : Target) (ports : ℕ → Port) (i from size : ℕ) → AreLegalAt (ports (suc i)) (from + size + 1) → (c : ℕ) → c < size
+        → IsTrue ((link_part target ports i (λ c. 0) 0 from).works c) → IsFalse ((link_part target ports i (λ c. 0) 0 from).moves c)
+        → IsTrue ((link_part target ports i (λ c. 0) 0 from).works (suc c) || (link_part target ports i (λ c. 0) 0 from).moves (suc c)) }
 {}
 
 /// By the order of the operations, a word that is owed above a link isn't wholly asked below it, or has come, or is owed below.
