@@ -74,22 +74,22 @@ seated_if_joined shares (x ∷ order) h any = by_same (nat_eq h x) refl any (sea
     by_same true e any more = or_left (nat_eq x h) _ (grind (arith, tests, e))
     by_same false e any more = or_right (nat_eq x h) _ (more any)
 
-abbrev stood : Port → ℕ → Bool
+abbrev pub stood : Port → ℕ → Bool
 stood port zero = false
 stood port (suc c) = is_held port.commands.signals (takes port) c
 
 module _ (laws : TurnLaws) (system : System) (agent : ℕ) (up : ℕ → Port) (down : TaggedPort) (end : ℕ) (part : IsArbiterPart system agent up down end) (share : AllShare (seats_of system agent)) where
-  abbrev seats : List Seat
+  abbrev pub seats : List Seat
   seats = seats_of system agent
 
-  abbrev grant : ℕ → Grant
+  abbrev pub grant : ℕ → Grant
   grant c = grant_before seats up down.port c
 
   next_round : (round : Round) (asks : ℕ → Bool) (open_host : Option ℕ) → IsRoundOf seats round → IsRoundOf seats (choice_of open_host asks round).round
   next_round round asks None is = subst (IsRoundOf seats) (sym (choice_round (turn_of asks round))) (laws.seats seats round asks is)
   next_round round asks (Some k) is = is
 
-  is_round : (c : ℕ) → IsRoundOf seats (grant c).round
+  pub is_round : (c : ℕ) → IsRoundOf seats (grant c).round
   is_round zero = record { ring = record { seated = λ host h. h; others = λ host. refl; share = share }; left = omega arith }
   is_round (suc c) = next_round (grant c).round (asks_at up c) (grant c).open_host (is_round c)
 
@@ -98,12 +98,12 @@ module _ (laws : TurnLaws) (system : System) (agent : ℕ) (up : ℕ → Port) (
     pub joined : IsTrue (is_last_joined (taken_at (up k) c))
     pub writes : is_last_write (taken_at (up k) c) ≡ is_last_write (taken_at down.port c)
 
-  abbrev OpenAs : Option ℕ → ℕ → Type 0
+  abbrev pub OpenAs : Option ℕ → ℕ → Type 0
   OpenAs None c = IsFalse (is_last_joined (taken_at down.port c))
   OpenAs (Some k) c = (k < system.hosts) × (Left k c ⊎ IsTrue (stood (up k) c))
 
   -- where the host whose command is open shows nothing, its command is left open
-  is_left : (k c : ℕ) → k < system.hosts → c < end → IsFalse (shows (up k).commands.signals c) → Left k c ⊎ IsTrue (stood (up k) c) → Left k c
+  pub is_left : (k c : ℕ) → k < system.hosts → c < end → IsFalse (shows (up k).commands.signals c) → Left k c ⊎ IsTrue (stood (up k) c) → Left k c
   is_left k c low h none (inl left) = left
   is_left k zero low h none (inr stands) = absurd (no_true stands)
   is_left k (suc c) low h none (inr stands) = let again = shown_again (up k) c end (part.legal k low) h stands in absurd cc
@@ -156,7 +156,7 @@ module _ (laws : TurnLaws) (system : System) (agent : ℕ) (up : ℕ → Port) (
             }),
           )
 
-  quiet_if_open : (c : ℕ) (open_host : Option ℕ) (round : Round) (k : ℕ) → open_host ≡ Some k → (choice_of open_host (asks_at up c) round).host ≡ None → IsFalse (asks_at up c k)
+  pub quiet_if_open : (c : ℕ) (open_host : Option ℕ) (round : Round) (k : ℕ) → open_host ≡ Some k → (choice_of open_host (asks_at up c) round).host ≡ None → IsFalse (asks_at up c k)
   quiet_if_open c None round k e f = absurd cc
   quiet_if_open c (Some x) round k e f = let same : x ≡ k = cc in subst (λ y. IsFalse (asks_at up c y)) same (chosen_open x (asks_at up c) round f)
 

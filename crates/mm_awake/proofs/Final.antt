@@ -20,7 +20,7 @@ pub record Laws : Type 0 where
       KeepsWhole system run agent ways standings end → longest system run agent ways standings from size < size →
       Throughout from size (IsWantedAt system run agent host) → Sometime from size (λ c. IsTrue (serves system run agent c))
 
-shown_burst : (under shown : Bool) → IsTrue (not under || shown) → IsTrue under → IsTrue shown
+pub shown_burst : (under shown : Bool) → IsTrue (not under || shown) → IsTrue under → IsTrue shown
 shown_burst true shown h u = h
 shown_burst false shown h u = absurd (no_true u)
 
@@ -31,16 +31,16 @@ never_none system run host c h =
     no_true (and_parts (nat_le 1 0) (nat_le 0 (commands_begun system run host (suc c))) b).0
 
 -- what is wanted in a cycle, by the host's port
-outcome_of : (system : System) (run : Run) (host end : ℕ) → IsLegalHost (system.host host) (run.at_host host) end → (c number : ℕ) (place : Option ℕ) → c < end → IsTrue (is_oldest system run host number c) → IsTrue (is_for system run host place number (suc c)) →
-    (IsTrue (is_bursting system run host place c) → IsTrue (shows (run.at_host host).signals c)) → Outcome system run host place c
+pub outcome_of : (system : System) (run : Run) (host end : ℕ) → IsLegalHost (system.host host) (run.at_host host) end → (c number : ℕ) (place : Option ℕ) → c < end → IsTrue (is_oldest system run host number c) → IsTrue (is_for system run host place number (suc c)) →
+    (IsTrue (is_bursting system run host place c) → IsTrue (shows (run.at_host host).signals c)) → Outcome system run host place number c
 outcome_of system run host end legal c zero place h oldest for_place bursts = absurd (never_none system run host c oldest)
 outcome_of system run host end legal c (suc k) place h oldest for_place bursts = outcome system run host end legal c k place h oldest for_place bursts
 
-wants_of : (system : System) (run : Run) (agent host c : ℕ) → Outcome system run host (Some agent) c → (IsTrue (is_given_from system run (Some agent) c host) → ⊥) → Wants system run agent host c
-wants_of system run agent host c (a_beat shown all) none = wants_beat shown all
-wants_of system run agent host c (an_operation b e less) none = let same : b ≡ agent = cc in wants_operation (subst (λ x. length (of_host host (taken system run x c)) < count_for system host x (host_accepted system run host c)) same less)
-wants_of system run agent host c (a_word owing) none = wants_word owing
-wants_of system run agent host c (a_given given) none = absurd (none given)
+wants_of : (system : System) (run : Run) (agent host number c : ℕ) → Outcome system run host (Some agent) number c → (IsTrue (is_given_from system run (Some agent) c host) → ⊥) → Wants system run agent host c
+wants_of system run agent host number c (a_beat lacks shown all) none = wants_beat shown all
+wants_of system run agent host number c (an_operation whole b e less) none = let same : b ≡ agent = cc in wants_operation (subst (λ x. length (of_host host (taken system run x c)) < count_for system host x (host_accepted system run host c)) same less)
+wants_of system run agent host number c (a_word whole still owing) none = wants_word owing
+wants_of system run agent host number c (a_given whole given lacking) none = absurd (none given)
 
 pub served_within : Laws → (system : System) (run : Run) (agent : ℕ) (ways : Ways) (standings : Standings) (size end longer : ℕ) → end + 2 ≤ longer → AllShare (seats_of system agent) → KeepsWhole system run agent ways standings longer →
     ((h : ℕ) → h < system.hosts → IsLegalHost (system.host h) (run.at_host h) longer) → AllowLessThan size system run agent ways standings end → ServesWithin (suc size) system run agent end
@@ -58,7 +58,7 @@ served_within laws system run agent ways standings size end longer fits share ke
 
     now : ((c : ℕ) → c < suc size → IsFalse (serves system run agent (from + c))) → (c : ℕ) → from ≤ c → c < from + suc size → IsWantedAt system run agent host c
     now none c low high = record {
-      wants = wants_of system run agent host c
+      wants = wants_of system run agent host number c
           (outcome_of system run host longer (legal host host_is) c number (Some agent) (omega (arith, high, inside, fits)) (wanted c low high).oldest (wanted c low high).for_agent
           (λ under. burst host host_is under))
           (λ given. both_ways _ (three_parts (agent_accepts (system.agent agent) (run.at_agent agent) c) _ _ (is_none none c low high)).1 (listed (is_given_from system run (Some agent) c) 0 system.hosts host (omega arith) (omega (arith, host_is)) given));
@@ -81,11 +81,11 @@ default_within laws system run size end longer long fits legal fronts from host 
       | inr none ↦ laws.served system run host from size longer (omega (arith, inside, fits)) long (fronts host host_is) (λ c low high. now none c low high)
     ]
   where
-    wants : (c : ℕ) → Outcome system run host None c → (IsTrue (is_given_from system run None c host) → ⊥) → WantsDefault system run host c
-    wants c (a_beat shown all) none = beat shown all
-    wants c (an_operation b e less) none = absurd cc
-    wants c (a_word owing) none = word owing
-    wants c (a_given given) none = absurd (none given)
+    wants : (c : ℕ) → Outcome system run host None number c → (IsTrue (is_given_from system run None c host) → ⊥) → WantsDefault system run host c
+    wants c (a_beat lacks shown all) none = beat shown all
+    wants c (an_operation whole b e less) none = absurd cc
+    wants c (a_word whole still owing) none = word owing
+    wants c (a_given whole given lacking) none = absurd (none given)
 
     now : ((c : ℕ) → c < size → IsFalse (is_given_from system run None (from + c) host || is_written_to system run None (from + c) host)) → (c : ℕ) → from ≤ c → c < from + size → WantsDefault system run host c
     now none c low high =

@@ -72,3 +72,15 @@ pub mod PlanLinks
 pub mod ModestRow
 pub mod SplitCounts
 pub mod PipeStages
+pub mod HostRing
+pub mod HostGrants
+pub mod HostWaits
+pub mod HostBursts
+pub mod HostDefault
+pub mod HostCycles
+pub mod HostSends
+pub mod HostStaged
+pub mod HostSplits
+pub mod HostSelects
+pub mod HostCuts
+pub mod HostWired

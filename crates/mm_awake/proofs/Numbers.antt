@@ -1,5 +1,5 @@
 -- What is unfinished by the numbers of the commands is wanted at the host's port.
-use Rattle.std.proofs.Common.{ℕ, zero, suc, ◌<◌, ◌≤◌, ◌≡◌, ◌+◌, ◌-◌, Bool, true, false, not, ◌||◌, ◌&&◌, List, [], ◌∷◌, ◌++◌, arith, refl, sym, ap, ap₂, subst, ◌∙◌, nat_lt, nat_le, nat_eq, length, map, take, drop, filter, flat_map, zip, IsTrue, IsFalse, tests, inl, inr, ◌⊎◌, if◌then◌else◌, append-nil, append_assoc, length-append, le-leb, ltb-true, ltb-false, Option, Some, None}
+use Rattle.std.proofs.Common.{ℕ, zero, suc, ◌<◌, ◌≤◌, ◌≡◌, ◌+◌, ◌-◌, Bool, true, false, not, ◌||◌, ◌&&◌, List, [], ◌∷◌, ◌++◌, arith, refl, sym, ap, ap₂, subst, ◌∙◌, nat_lt, nat_le, nat_eq, length, map, take, drop, filter, flat_map, zip, IsTrue, IsFalse, tests, inl, inr, ◌⊎◌, if◌then◌else◌, append-nil, append_assoc, length-append, le-leb, lt-ltb, ltb-true, ltb-false, Option, Some, None}
 use Rattle.std.proofs.lemmas.Bool.{and_parts, or_parts, both_ways}
 use Rattle.std.specs.List.{list_any, list_all}
 use Rattle.mm_runs.specs.Views.{System}
@@ -19,6 +19,7 @@ use Rattle.mm_runs.specs.Awake.{is_for, is_oldest, is_finished, are_taken, are_g
 use Rattle.mm_machines.specs.Lines.{host_accepted}
 use Rattle.mm_parts.specs.Steps.{given_before}
 use Rattle.mm_awake.specs.Front.{shows_for, are_all_given, owes_next, is_bursting}
+use Rattle.mm_runs.specs.Awake.{lacks_beats}
 use Rattle.mm_awake.proofs.Bits.{no_true}
 use Rattle.mm_awake.proofs.Beats.{both, same_place, place_self, asked_append, next_at, next_here, next_stays, drop_past, some_beat, writes_on}
 
@@ -522,11 +523,11 @@ not_reached : (own all reached : ℕ) → IsFalse (nat_eq own 0 || nat_le all re
 not_reached own all reached h = let p = or_parts (nat_eq own 0) (nat_le all reached) h in let a = p.0 in let b = p.1 in (grind (arith, tests, a), grind (arith, tests, b))
 
 -- what a host wants, by the numbers of its commands
-pub data Outcome (system : System) (run : Run) (host : ℕ) (place : Option ℕ) (c : ℕ) : Type 0 where
-  a_beat : IsTrue (shows_for system run host place c) → IsTrue (are_all_given system run host c) → Outcome system run host place c
-  an_operation : (b : ℕ) → place ≡ Some b → length (of_host host (taken system run b c)) < count_for system host b (host_accepted system run host c) → Outcome system run host place c
-  a_word : IsTrue (owes_next system run host place c) → Outcome system run host place c
-  a_given : IsTrue (is_given_from system run place c host) → Outcome system run host place c
+pub data Outcome (system : System) (run : Run) (host : ℕ) (place : Option ℕ) (number c : ℕ) : Type 0 where
+  a_beat : IsTrue (lacks_beats system run host number c) → IsTrue (shows_for system run host place c) → IsTrue (are_all_given system run host c) → Outcome system run host place number c
+  an_operation : IsFalse (lacks_beats system run host number c) → (b : ℕ) → place ≡ Some b → length (of_host host (taken system run b c)) < count_for system host b (host_accepted system run host c) → Outcome system run host place number c
+  a_word : IsFalse (lacks_beats system run host number c) → IsFalse (gives_word (system.host host) (run.at_host host) c) → IsTrue (owes_next system run host place c) → Outcome system run host place number c
+  a_given : IsFalse (lacks_beats system run host number c) → IsTrue (is_given_from system run place c host) → IsFalse (are_given system run host number c) → Outcome system run host place number c
 
 module _ (system : System) (run : Run) (host end : ℕ) (legal : IsLegalHost (system.host host) (run.at_host host) end) where
   abbrev shape : Shape
@@ -737,7 +738,7 @@ module _ (system : System) (run : Run) (host end : ℕ) (legal : IsLegalHost (sy
         subst (λ p. IsTrue (list_all (λ (t : Transfer). is_place p (place_of system host t)) (chosen (λ i. nat_eq i number) 1 (whole c)))) (any_of_all system host one.0 place (chosen (λ i. nat_eq i number) 1 (whole c)) one.1 any_for) one.1
 
     -- the command hasn't ended: its beat is shown
-    goes_on : ends_in (all_accepted_by c) < number → Outcome system run host place c
+    goes_on : ends_in (all_accepted_by c) < number → Outcome system run host place number c
     unfolding is_some Steady chosen begins_in
     goes_on less = by_shown (shows signals c) refl
       where
@@ -768,7 +769,7 @@ module _ (system : System) (run : Run) (host end : ℕ) (legal : IsLegalHost (sy
         place_left : number ≡ 1 + ends_in (all_accepted_by c) → IsTrue (list_any (λ (t : Transfer). is_place place (place_of system host t)) (chosen (λ i. nat_eq i number) 1 (all_accepted_by c))) → after system host None (all_accepted_by c) ≡ Some place
         place_left e any = open_place system host None place 1 number (all_accepted_by c) (stands c (omega (arith, h))).steady e any
 
-        by_shown : (b : Bool) → shows signals c ≡ b → Outcome system run host place c
+        by_shown : (b : Bool) → shows signals c ≡ b → Outcome system run host place number c
         by_shown false e =
             let bal = balance in
             let most = at_most_one (after system host None (all_accepted_by c)) in
@@ -779,7 +780,7 @@ module _ (system : System) (run : Run) (host end : ℕ) (legal : IsLegalHost (sy
             let is = opened_so (nat_lt 0 (burst c).left) (system.place host Writes (burst c).first) (sym (stands c (omega (arith, h))).opened ∙ open_now) in
             let shown = bursts (both _ _ is.0 (ap (is_place place) is.1 ∙ place_self place)) in
             absurd (no_true (sym e ∙ shown))
-        by_shown true e = a_beat (both _ _ e here) all_given
+        by_shown true e = a_beat (let f = ends_length (all_accepted_by c) in lt-ltb (length (filter (λ (t : Transfer). t.ends) (all_accepted_by c))) number (omega (arith, less, f))) (both _ _ e here) all_given
           where
             whole_is : whole c ≡ all_accepted_by c ++ now c ∷ []
             whole_is = rw e refl
@@ -832,11 +833,14 @@ module _ (system : System) (run : Run) (host end : ℕ) (legal : IsLegalHost (sy
                 leb_true i n t = grind (arith, tests, t)
 
     -- it has: an operation isn't taken, or a word isn't given
-    has_ended : number ≤ ends_in (all_accepted_by c) → IsTrue (not (is_finished system run host number c)) → Outcome system run host place c
+    has_ended : number ≤ ends_in (all_accepted_by c) → IsTrue (not (is_finished system run host number c)) → Outcome system run host place number c
     has_ended more open_still = by_parts (not_both (nat_le number (length (filter (λ (t : Transfer). t.ends) (all_accepted_by c))) && list_all (are_taken system run host number c) (numbers 0 system.agents)) (are_given system run host number c) open_still)
       where
         ended : IsTrue (nat_le number (length (filter (λ (t : Transfer). t.ends) (all_accepted_by c))))
         ended = let e = ends_length (all_accepted_by c) in le-leb number (length (filter (λ (t : Transfer). t.ends) (all_accepted_by c))) (omega (arith, more, e))
+
+        not_lacking : IsFalse (lacks_beats system run host number c)
+        not_lacking = let e = ends_length (all_accepted_by c) in (let most : number ≤ length (filter (λ (t : Transfer). t.ends) (all_accepted_by c)) = omega (arith, more, e) in grind (arith, tests, most))
 
         second : (a b : Bool) → IsTrue a → IsFalse (a && b) → IsFalse b
         second true b h f = f
@@ -848,7 +852,7 @@ module _ (system : System) (run : Run) (host end : ℕ) (legal : IsLegalHost (sy
             leb_true : (i n : ℕ) → IsTrue (nat_le i n) → i ≤ n
             leb_true i n t = grind (arith, tests, t)
 
-        from_operation : (b : ℕ) → IsFalse (are_taken system run host number c b) → Outcome system run host place c
+        from_operation : (b : ℕ) → IsFalse (are_taken system run host number c b) → Outcome system run host place number c
         from_operation b not_taken =
             let r = not_reached (count_for system host b (of_command number (host_transfers system run host (suc c)))) (count_for system host b (up_to number (host_transfers system run host (suc c)))) (length (of_host host (taken system run b c))) not_taken in
             let r0 = r.0 in
@@ -857,9 +861,9 @@ module _ (system : System) (run : Run) (host end : ℕ) (legal : IsLegalHost (sy
             let all = ap (count_for system host b) (up_is c number h ∙ upto_same) ∙ ops_count system host b (chosen (λ i. nat_le i number) 1 (all_accepted_by c)) in
             let most = ops_chosen system host b (λ i. nat_le i number) 1 (all_accepted_by c) in
             let count = ops_count system host b (all_accepted_by c) in
-            an_operation b (some_there system host b place (chosen (λ i. nat_eq i number) 1 (whole c)) all_for (omega (arith, r0, own))) (omega (arith, r1, all, most, count))
+            an_operation not_lacking b (some_there system host b place (chosen (λ i. nat_eq i number) 1 (whole c)) all_for (omega (arith, r0, own))) (omega (arith, r1, all, most, count))
 
-        from_word : IsFalse (are_given system run host number c) → Outcome system run host place c
+        from_word : IsFalse (are_given system run host number c) → Outcome system run host place number c
         from_word not_given = by_given (gives_word (system.host host) (run.at_host host) c) refl
           where
             r : given_before system run host c < reads_in (chosen (λ i. nat_le i number) 1 (whole c))
@@ -872,10 +876,10 @@ module _ (system : System) (run : Run) (host end : ℕ) (legal : IsLegalHost (sy
             low : reads_in (chosen (λ i. nat_le i k) 1 (whole c)) ≤ given_before system run host c
             low = earlier_given c k h all_finished
 
-            by_given : (b : Bool) → gives_word (system.host host) (run.at_host host) c ≡ b → Outcome system run host place c
+            by_given : (b : Bool) → gives_word (system.host host) (run.at_host host) c ≡ b → Outcome system run host place number c
             by_given true e =
                 let next = next_word system host None place k 1 (given_before system run host c) (whole c) (whole_steady c h) low r all_for in
-                a_given (both _ _ e (subst (λ l. IsTrue (list_any (λ (q : Asked). is_place place q.place) (take 1 (drop (given_before system run host c) (asked_among system host l))))) (sym (presented_is c h)) next))
+                a_given not_lacking (both _ _ e (subst (λ l. IsTrue (list_any (λ (q : Asked). is_place place q.place) (take 1 (drop (given_before system run host c) (asked_among system host l))))) (sym (presented_is c h)) next)) not_given
             by_given false e =
                 let lower_same = within c k (omega (arith, more)) (λ i. nat_le i k) (λ i t. leb_true i k t) in
                 let own_same = within c number (omega (arith, more)) (λ i. nat_eq i number) (λ i t. eq_low i number t) in
@@ -885,7 +889,7 @@ module _ (system : System) (run : Run) (host end : ℕ) (legal : IsLegalHost (sy
                 let u = r in
                 let next = next_word system host None place k 1 (given_before system run host c) (all_accepted_by c) (stands c (omega (arith, h))).steady (omega (arith, l, low')) (omega (arith, u, high')) (subst (λ ts. IsTrue (list_all (λ (t : Transfer). is_place place (place_of system host t)) ts)) own_same all_for) in
                 let still : given_before system run host (suc c) ≡ given_before system run host c = ap length (rw e (append-nil (given (system.host host) (run.at_host host) c))) in
-                a_word (subst (λ n. IsTrue (list_any (λ (q : Asked). is_place place q.place) (take 1 (drop n (asked_among system host (all_accepted_by (suc c))))))) (sym still)
+                a_word not_lacking e (subst (λ n. IsTrue (list_any (λ (q : Asked). is_place place q.place) (take 1 (drop n (asked_among system host (all_accepted_by (suc c))))))) (sym still)
                 (subst (λ l. IsTrue (list_any (λ (q : Asked). is_place place q.place) (take 1 (drop (given_before system run host c) l)))) (sym (asked_append system host (all_accepted_by c) (only_if (accepts c) (now c)))) (next_stays place (given_before system run host c) (asked_among system host (all_accepted_by c)) (asked_among system host (only_if (accepts c) (now c))) next)))
               where
                 leb_true : (i n : ℕ) → IsTrue (nat_le i n) → i ≤ n
@@ -894,13 +898,13 @@ module _ (system : System) (run : Run) (host end : ℕ) (legal : IsLegalHost (sy
                 eq_low : (i n : ℕ) → IsTrue (nat_eq i n) → i ≤ n
                 eq_low i n t = grind (arith, tests, t)
 
-        by_parts : IsFalse (nat_le number (length (filter (λ (t : Transfer). t.ends) (all_accepted_by c))) && list_all (are_taken system run host number c) (numbers 0 system.agents)) ⊎ IsFalse (are_given system run host number c) → Outcome system run host place c
+        by_parts : IsFalse (nat_le number (length (filter (λ (t : Transfer). t.ends) (all_accepted_by c))) && list_all (are_taken system run host number c) (numbers 0 system.agents)) ⊎ IsFalse (are_given system run host number c) → Outcome system run host place number c
         by_parts (inl f) = let found = some_fails (are_taken system run host number c) 0 system.agents (second (nat_le number (length (filter (λ (t : Transfer). t.ends) (all_accepted_by c)))) _ ended f) in from_operation found.0 found.1
         by_parts (inr f) = from_word f
 
-    pub outcome : Outcome system run host place c
+    pub outcome : Outcome system run host place number c
     outcome = by_ends (nat_lt (ends_in (all_accepted_by c)) number) refl
       where
-        by_ends : (b : Bool) → nat_lt (ends_in (all_accepted_by c)) number ≡ b → Outcome system run host place c
+        by_ends : (b : Bool) → nat_lt (ends_in (all_accepted_by c)) number ≡ b → Outcome system run host place number c
         by_ends true e = goes_on (ltb-true _ _ e)
         by_ends false e = has_ended (ltb-false _ _ e) unfinished.1

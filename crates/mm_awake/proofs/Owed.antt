@@ -48,7 +48,7 @@ asked_append : (xs ys : List Marked) → asked_tags (xs ++ ys) ≡ asked_tags xs
 asked_append xs ys = ap (λ l. flat_map (λ (m : Marked). map (λ _. m.tag) m.transfer.beats) l) (filter-append (λ (m : Marked). is_of_reads m.transfer.kind) xs ys)
     ∙ flat_map-append (λ (m : Marked). map (λ _. m.tag) m.transfer.beats) (filter (λ (m : Marked). is_of_reads m.transfer.kind) xs) (filter (λ (m : Marked). is_of_reads m.transfer.kind) ys)
 
-beats_append : (xs ys : List Marked) → read_beats (xs ++ ys) ≡ read_beats xs ++ read_beats ys
+pub beats_append : (xs ys : List Marked) → read_beats (xs ++ ys) ≡ read_beats xs ++ read_beats ys
 beats_append xs ys = ap (λ l. flat_map (λ (m : Marked). m.transfer.beats) l) (filter-append (λ (m : Marked). is_of_reads m.transfer.kind) xs ys)
     ∙ flat_map-append (λ (m : Marked). m.transfer.beats) (filter (λ (m : Marked). is_of_reads m.transfer.kind) xs) (filter (λ (m : Marked). is_of_reads m.transfer.kind) ys)
 

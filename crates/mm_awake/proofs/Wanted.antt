@@ -70,7 +70,7 @@ pub two_of : (a b : Bool) {R : Type 0} → IsTrue (a || b) → (IsTrue a → R) 
 two_of true b h fa fb = fa refl
 two_of false b h fa fb = fb h
 
-three_of : (a b c : Bool) {R : Type 0} → IsTrue (a || b || c) → (IsTrue a → R) → (IsTrue b → R) → (IsTrue c → R) → R
+pub three_of : (a b c : Bool) {R : Type 0} → IsTrue (a || b || c) → (IsTrue a → R) → (IsTrue b → R) → (IsTrue c → R) → R
 three_of true b c h fa fb fc = fa refl
 three_of false true c h fa fb fc = fb refl
 three_of false false true h fa fb fc = fc refl

@@ -36,7 +36,7 @@ module _ (bits : ℕ) (port : Port) where
   abbrev wide : Port
   wide = with_bursts bits port
 
-  bursts : burst_before (shape_with bits port.shape) port.commands.signals (takes port) ≡ burst_before port.shape port.commands.signals (takes port)
+  pub bursts : burst_before (shape_with bits port.shape) port.commands.signals (takes port) ≡ burst_before port.shape port.commands.signals (takes port)
   bursts = fun_ext (burst_same bits port.shape port.commands.signals (takes port))
 
   shown_same : (c : ℕ) → shown_at wide c ≡ shown_at port c

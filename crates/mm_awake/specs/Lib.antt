@@ -15,3 +15,5 @@ pub mod RowFront
 pub mod RowRun
 pub mod LinkSystem
 pub mod PipeStages
+pub mod Steps
+pub mod Onward

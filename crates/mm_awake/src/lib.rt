@@ -3,6 +3,7 @@
 
 pub mod built;
 pub mod fair;
+pub mod hosts;
 pub mod links;
 pub mod plain;
 pub mod rows;
@@ -16,8 +17,8 @@ ghost use Rattle.mm_runs.specs.Whole.{IsLegalRun, IsSafe};
 ghost use Rattle.std.specs.List.{list_all};
 ghost use Rattle.mm_runs.specs.Commands.{agent_accepts, shows};
 ghost use Rattle.mm_runs.specs.Order.{is_joined};
-ghost use Rattle.mm_runs.specs.Legal.{IsLegalHost};
-ghost use Rattle.mm_runs.specs.Awake.{NeverIdles, ReadsAheadWithin, asks_only, is_alike, longest_wait, Throughout, Sometime, ServesWithin, ServesDefaultWithin, agent_window};
+ghost use Rattle.mm_runs.specs.Legal.{IsLegalHost, IsProperAtHost};
+ghost use Rattle.mm_runs.specs.Awake.{NeverIdles, ReadsAheadWithin, asks_only, is_alike, longest_wait, Throughout, Sometime, ServesWithin, ServesDefaultWithin, MovesAtDefaultWithin, agent_window};
 ghost use Rattle.mm_machines.specs.Link.{Port, Target, AreLegalAt, items};
 ghost use Rattle.mm_machines.specs.Machines.{Stage, above, below, RunsAsStage, WaitsOnlyWhenFull, owing_rank};
 ghost use Rattle.mm_machines.specs.Rank.{AnswersPromptly};
@@ -125,6 +126,13 @@ pub fn wanted_default_is_served()
     ensures { (system : System) (run : Run) (host from size end : ℕ) → from + size ≤ end → 2 ≤ size
         → IsDefaultFront system run host end → Throughout from size (WantsDefault system run host)
         → IsDefaultServedIn system run host from size }
+{}
+
+/// A command of a legal host that is wanted at the default agent moves on itself in two cycles, where words come to the host only for reads that it has shown.
+pub fn wanted_default_moves_on()
+    ensures { (system : System) (run : Run) (host size end : ℕ) → 2 ≤ size
+        → IsLegalHost (system.host host) (run.at_host host) end → IsProperAtHost (system.host host) (run.at_host host) end
+        → IsDefaultFront system run host end → MovesAtDefaultWithin size system run host end }
 {}
 
 /// The part next to a host and the route keep what is asked of the front for each agent, with and without readdatavalid.

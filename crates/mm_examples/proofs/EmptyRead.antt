@@ -7,7 +7,7 @@ use Rattle.mm_machines.specs.Rank.{AnswersPromptly, is_owed, moves_commands}
 use Rattle.mm_links.specs.Going.{GivesWhatHasCome, is_behind}
 use Rattle.mm_examples.specs.SmallSystem.{small_system, stage_top, stage_low}
 
-no_true : IsTrue false → ⊥
+pub no_true : IsTrue false → ⊥
 no_true h = cc
 
 pub not_prompt : AnswersPromptly (target_of small_system 0) stage_top stage_low 6 → ⊥

@@ -28,3 +28,4 @@ pub mod Tables
 pub mod WidthKept
 pub mod BurstKept
 pub mod LongKept
+pub mod HostRuns

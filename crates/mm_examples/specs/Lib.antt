@@ -21,3 +21,4 @@ pub mod TwoByTwo
 pub mod WidthSystem
 pub mod BurstSystem
 pub mod LongRows
+pub mod HostRuns

@@ -2,6 +2,7 @@
 #![tactic(auto)]
 
 pub mod awake;
+pub mod hosts;
 pub mod links;
 pub mod parts;
 pub mod rows;

@@ -153,6 +153,26 @@ ServesDefaultWithin size system run end =
     Throughout from size (λ c. IsTrue (is_wanted_at_default system run host number c)) →
     Sometime from size (λ c. IsTrue (is_given_from system run None c host || is_written_to system run None c host))
 
+-- as a cycle begins, beats of a command are still to be accepted from its host
+abbrev pub lacks_beats : System → Run → ℕ → ℕ → ℕ → Bool
+lacks_beats system run host number cycle =
+    nat_lt (length (filter (λ t. t.ends) (accepted (system.host host).shape (run.at_host host).signals (host_accepts (run.at_host host)) cycle))) number
+
+-- a beat of the oldest command is accepted from its host
+abbrev pub is_accepted_now : System → Run → ℕ → ℕ → ℕ → Bool
+is_accepted_now system run host number cycle = host_accepts (run.at_host host) cycle && lacks_beats system run host number cycle
+
+-- the oldest command of a host, which is for the default agent, moves on: a beat of it is accepted, or the host is given a word from there while words of the command lack
+abbrev pub moves_on_at_default : System → Run → ℕ → ℕ → ℕ → Bool
+moves_on_at_default system run host number cycle =
+    is_accepted_now system run host number cycle || (is_given_from system run None cycle host && not (are_given system run host number cycle))
+
+-- within so many cycles in which the default agent is wanted for a command, that command itself moves on
+abbrev pub MovesAtDefaultWithin : ℕ → System → Run → ℕ → ℕ → Type 0
+MovesAtDefaultWithin size system run host end =
+    (from number : ℕ) → from + size ≤ end → Throughout from size (λ c. IsTrue (is_wanted_at_default system run host number c)) →
+    Sometime from size (λ c. IsTrue (moves_on_at_default system run host number c))
+
 -- a host whose plain commands reach the agent one for one
 abbrev pub is_alike : HostSide → AgentSide → Bool
 is_alike host agent =

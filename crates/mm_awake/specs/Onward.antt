@@ -1,0 +1,124 @@
+-- No host hangs: where nothing but the module can hold a command up, the command itself moves on.
+use Rattle.std.specs.Prelude.{ℕ, suc, ◌+◌, ◌-◌, ◌*◌, ◌<◌, ◌≤◌, Bool, not, ◌&&◌, ◌||◌, nat_eq, IsTrue, IsFalse, Some}
+use Rattle.std.specs.List.{list_all}
+use Rattle.histories.specs.History.{is_raised, numbers}
+use Rattle.mm_runs.specs.Views.{System, Run}
+use Rattle.mm_runs.specs.Commands.{longest_burst, agent_accepts}
+use Rattle.mm_runs.specs.Legal.{host_accepts}
+use Rattle.mm_runs.specs.Order.{is_joined}
+use Rattle.mm_runs.specs.Awake.{are_taken, are_given, is_given_from, owes, shows_its_burst, is_oldest, is_for, lacks_beats, is_accepted_now, IsWanted, Throughout, Sometime, longest_wait}
+use Rattle.mm_machines.specs.Link.{Port}
+use Rattle.mm_machines.specs.Rank.{is_owed}
+use Rattle.mm_machines.specs.Turns.{seats_of}
+use Rattle.mm_awake.specs.Ways.{count_in}
+use Rattle.mm_awake.specs.Steps.{beats_of_others}
+
+-- the agent takes a beat with the host's tag while operations of the command lack there
+abbrev pub is_taken_now : System → Run → ℕ → ℕ → ℕ → ℕ → Bool
+is_taken_now system run agent host number cycle =
+    agent_accepts (system.agent agent) (run.at_agent agent) cycle && nat_eq ((run.at_agent agent).grant cycle) host && not (are_taken system run host number cycle agent)
+
+-- the host is given a word from the agent while words of the command lack
+abbrev pub is_given_now : System → Run → ℕ → ℕ → ℕ → ℕ → Bool
+is_given_now system run agent host number cycle = is_given_from system run (Some agent) cycle host && not (are_given system run host number cycle)
+
+-- the oldest command of a host, which is for the agent, moves on
+abbrev pub moves_on : System → Run → ℕ → ℕ → ℕ → ℕ → Bool
+moves_on system run agent host number cycle =
+    is_accepted_now system run host number cycle || is_taken_now system run agent host number cycle || is_given_now system run agent host number cycle
+
+-- each host with a write burst for the agent under way shows a beat
+abbrev pub bursts_go_on : System → Run → ℕ → ℕ → Bool
+bursts_go_on system run agent cycle = list_all (shows_its_burst system run (Some agent) cycle) (numbers 0 system.hosts)
+
+-- the agent neither stalls nor owes an answer, and no burst for it lacks a beat
+abbrev pub is_good : System → Run → ℕ → ℕ → Bool
+is_good system run agent cycle = bursts_go_on system run agent cycle && not (is_raised ((run.at_agent agent).waitrequest cycle)) && not (owes system run agent cycle)
+
+-- throughout a window of so many cycles the command is the oldest unfinished one of its host, and it is for the agent, which neither stalls nor owes an answer, and each host with a write burst for the agent under way shows a beat: then the command moves on in it
+abbrev pub MovesWithin : ℕ → System → Run → ℕ → ℕ → ℕ → Type 0
+MovesWithin size system run agent host end =
+    (from number : ℕ) → from + size ≤ end → Throughout from size (IsWanted system run agent host number) →
+    Sometime from size (λ c. IsTrue (moves_on system run agent host number c))
+
+-- the longest burst of a host, in beats
+abbrev pub longest_of : System → ℕ → ℕ
+longest_of system host = longest_burst (system.host host).burst_bits
+
+-- one round of the others at an agent: each host's share of its longest bursts
+abbrev pub round_of_others : System → ℕ → ℕ → ℕ
+round_of_others system agent host = beats_of_others (longest_of system) host (seats_of system agent)
+
+-- the same by other numbers of steps
+abbrev pub round_by : (ℕ → ℕ) → System → ℕ → ℕ → ℕ
+round_by steps system agent host = beats_of_others steps host (seats_of system agent)
+
+-- a round of the others and a host's own beat, each with the agent's wait states, and a cycle
+abbrev pub moves_by : ℕ → System → ℕ → ℕ
+moves_by round system agent = (round + 1) * (longest_wait (system.agent agent) + 1) + 1
+
+abbrev pub wired_window : System → ℕ → ℕ → ℕ
+wired_window system agent host = moves_by (round_of_others system agent host) system agent
+
+-- each host that is joined to an agent
+pub record NoHostHangs (window : ℕ → ℕ → ℕ) (system : System) (run : Run) (end : ℕ) : Type 0 where
+  pub moves : (a h : ℕ) → a < system.agents → h < system.hosts → IsTrue (is_joined system a h) → MovesWithin (window a h) system run a h end
+
+-- where an agent owes nothing by the end of a cycle, no word is owed above the part next to it. So it is but at read latency 0, where a word goes up one cycle later
+abbrev pub SendsWordsUp : System → Run → ℕ → Port → ℕ → Type 0
+SendsWordsUp system run agent port end = (c : ℕ) → suc c < end → IsFalse (owes system run agent c) → IsFalse (is_owed port c)
+
+-- a beat of the oldest command, which is for the agent, stands at its host and isn't accepted, while no burst for the agent lacks a beat. A read of a host without readdatavalid is left out: it stands until its word comes
+pub record IsStanding (system : System) (run : Run) (agent host number cycle : ℕ) : Type 0 where
+  pub oldest : IsTrue (is_oldest system run host number cycle)
+  pub for_agent : IsTrue (is_for system run host (Some agent) number (suc cycle))
+  pub lacking : IsTrue (lacks_beats system run host number cycle)
+  pub waits : IsFalse (host_accepts (run.at_host host) cycle)
+  pub bursts : IsTrue (bursts_go_on system run agent cycle)
+  pub passes : IsTrue (is_raised ((run.at_host host).write cycle) || (system.host host).has_readdatavalid)
+
+-- the good cycles in which a beat may stand. Each beat of the others may bring its wait states, a cycle in which its word comes, and one for each stage
+abbrev pub standing_by : ℕ → System → ℕ → ℕ
+standing_by round system agent = round * (longest_wait (system.agent agent) + system.stages + 2) + (longest_wait (system.agent agent) + system.stages + 1)
+
+-- the beats that the agent accepts meanwhile: those of one round, and those that stand in the pipe
+abbrev pub accepted_by : ℕ → System → ℕ
+accepted_by round system = round + 2 * system.stages
+
+abbrev pub standing_window : System → ℕ → ℕ → ℕ
+standing_window system agent host = standing_by (round_of_others system agent host) system agent
+
+abbrev pub beats_before : System → ℕ → ℕ → ℕ
+beats_before system agent host = accepted_by (round_of_others system agent host) system
+
+-- a beat stands for few good cycles, and few beats of others are taken meanwhile
+abbrev pub StandsFor : ℕ → ℕ → System → Run → ℕ → ℕ → ℕ → Type 0
+StandsFor cycles beats system run agent host end =
+    (from size number : ℕ) → from + size ≤ end → Throughout from size (IsStanding system run agent host number) →
+    (count_in (is_good system run agent) from size ≤ cycles) × (count_in (agent_accepts (system.agent agent) (run.at_agent agent)) from size ≤ beats)
+
+-- an agent that never stalls, and that owes nothing by the end of so many cycles in which it takes nothing
+pub record IsPrompt (system : System) (run : Run) (agent late end : ℕ) : Type 0 where
+  pub ready : (c : ℕ) → c < end → IsFalse (is_raised ((run.at_agent agent).waitrequest c))
+  pub answers : (c : ℕ) → c + late ≤ end → Throughout c late (λ k. IsFalse (agent_accepts (system.agent agent) (run.at_agent agent) k)) → IsFalse (owes system run agent (c + late - 1))
+
+-- a beat stands at its host for fewer cycles than these: the good ones, and the agent's latency for each beat that it accepts meanwhile, and once more
+abbrev pub prompt_by : ℕ → System → ℕ → ℕ → ℕ
+prompt_by round system agent late = standing_by round system agent + late * (accepted_by round system + 1)
+
+abbrev pub prompt_window : System → ℕ → ℕ → ℕ → ℕ
+prompt_window system agent host late = prompt_by (round_of_others system agent host) system agent late
+
+-- the oldest command lacks beats, whether or not one is accepted in this cycle
+pub record IsLacking (system : System) (run : Run) (agent host number cycle : ℕ) : Type 0 where
+  pub oldest : IsTrue (is_oldest system run host number cycle)
+  pub for_agent : IsTrue (is_for system run host (Some agent) number (suc cycle))
+  pub lacking : IsTrue (lacks_beats system run host number cycle)
+  pub bursts : IsTrue (bursts_go_on system run agent cycle)
+  pub passes : IsTrue (is_raised ((run.at_host host).write cycle) || (system.host host).has_readdatavalid)
+
+-- in each window of so many cycles in which the oldest command lacks beats one is accepted
+abbrev pub AcceptsWithin : ℕ → System → Run → ℕ → ℕ → ℕ → Type 0
+AcceptsWithin size system run agent host end =
+    (from number : ℕ) → from + size ≤ end → Throughout from size (IsLacking system run agent host number) →
+    Sometime from size (λ c. IsTrue (host_accepts (run.at_host host) c))
