@@ -410,6 +410,7 @@ module _ (plan : PlanTable) (netlist : Netlist) (m : IsMemoryIn plan netlist) (f
         agents = λ a below. absurd (no_agent a below);
         default = λ from host number fits below. absurd (no_host host below);
         ahead = λ a below. absurd (no_agent a below);
+        hosts_at_default = λ h below. absurd (no_host h below);
       };
       fair = λ run cycles r legal. record { few = λ a below. absurd (no_agent a below); turns = λ a below. absurd (no_agent a below) };
       reads_back = λ run cycles host agent contents here there. absurd (no_host host here);

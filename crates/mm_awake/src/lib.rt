@@ -33,7 +33,7 @@ ghost use Rattle.mm_awake.specs.Approach.{Approach, IsAwake, ServesWanted};
 ghost use Rattle.mm_awake.specs.Ahead.{KeepsNothingBack, LeavesNothingOpen, LeadsAhead, CanTakeMore};
 ghost use Rattle.mm_awake.specs.Ways.{Ways, Standings, KeepsAwake, IsAtWork, longest};
 
-/// Where every part of a system is its machine, its links and pipes keep their lines, its links keep going, and the components are legal, the whole is safe and never idles: a wanted agent, and the default agent, are served within their windows, and reads travel while others are owed.
+/// Where every part of a system is its machine, its links and pipes keep their lines, its links keep going, and the components are legal, the whole is safe and never idles: a wanted agent, and the default agent, are served within their windows, no host hangs at the default agent, and reads travel while others are owed.
 pub fn machines_are_awake()
     ensures safe { (responses : Responses) (system : System) (run : Run) (inside : Boundaries) (states : States) (ranks : LinkRanks) (end : ℕ)
         → IsBuilt responses system run inside states ranks end → IsLegalRun system run end
@@ -44,6 +44,7 @@ pub fn machines_are_awake()
 {
     systems_are_awake();
     systems_read_ahead();
+    wanted_default_moves_on();
     mm_machines::lines::the_lines_give_the_headline();
     built::machines_keep_their_lines();
     built::machines_keep_their_records()

@@ -10,7 +10,7 @@ use Rattle.mm_runs.specs.Views.Kind.{Writes}
 use Rattle.mm_runs.specs.Commands.{Burst, Transfer, accepted, agent_accepts, read_beats, transfer_at}
 use Rattle.mm_runs.specs.Legal.{host_accepts, given, gives_word}
 use Rattle.mm_runs.specs.Order.{Owner, Asked, asked, for_agent, host_transfers, is_agent, is_read_beat, is_same_owner, issued, of_host, place_of, taken, transfer_operations}
-use Rattle.mm_runs.specs.Awake.{IsWanted, ServesWithin, ServesDefaultWithin, ReadsAheadWithin, NeverIdles, IsAsked, IsWaiting, IsPassedByFew, TakesTurns, HasFullTurns, IsFair, are_finished_before, are_given, are_reached, are_taken, asks_only, begun, begun_by_others, begun_within, commands_begun, count_for, first_owners, has_begun, has_no_operation, is_finished, is_for, is_given_from, is_oldest, is_place, is_unfinished, is_wanted_at_default, is_written_to, may_be_counted, of_command, owes, serves, shares_of_others, shows_its_burst, shows_plain_write, turns_of, up_to, agent_window, window_of}
+use Rattle.mm_runs.specs.Awake.{IsWanted, ServesWithin, ServesDefaultWithin, ReadsAheadWithin, NeverIdles, IsAsked, IsWaiting, IsPassedByFew, TakesTurns, HasFullTurns, IsFair, are_finished_before, are_given, are_reached, are_taken, asks_only, begun, begun_by_others, begun_within, commands_begun, count_for, first_owners, has_begun, has_no_operation, is_finished, is_for, is_given_from, is_oldest, is_place, is_unfinished, is_wanted_at_default, is_written_to, lacks_beats, may_be_counted, moves_on_at_default, MovesAtDefaultWithin, of_command, owes, serves, shares_of_others, shows_its_burst, shows_plain_write, turns_of, up_to, agent_window, window_of}
 use Rattle.mm_runs.specs.Beginnings.{RunsAgreeBefore}
 use Rattle.mm_runs.proofs.SameSides.{same_before, same_shows, same_burst, same_transfer, same_gives, same_unanswered, same_words}
 use Rattle.mm_runs.proofs.SameSafe.{host_takes, agent_takes, same_transfers, same_host_accepted, words_given, same_asks, same_issued, same_beats, same_taken, same_owners_taken, same_words_in}
@@ -105,6 +105,20 @@ module _ (system : System) (one two : Run) (end : ℕ) (same : RunsAgreeBefore o
       let there : found.0 < end = (let sooner = found.2 in omega (arith, sooner, low)) in
       (found.0, found.1, found.2, subst IsTrue (ap₂ (λ a b. a || b) (same_given_from None found.0 h there) (same_written_to None found.0 h there)) found.3)
 
+  same_lacks : (h number c : ℕ) → c ≤ end → lacks_beats system one h number c ≡ lacks_beats system two h number c
+  same_lacks h number c low = ap (λ (ts : List Transfer). nat_lt (length (filter (λ (t : Transfer). t.ends) ts)) number) (same_host_accepted system one two end same h c low)
+
+  same_moves_at_default : (h number c : ℕ) → c < end → moves_on_at_default system one h number c ≡ moves_on_at_default system two h number c
+  same_moves_at_default h number c low =
+      ap₂ (λ a b. (a && b) || (is_given_from system one None c h && not (are_given system one h number c))) (host_takes system one two end same h c low) (same_lacks h number c (omega arith))
+      ∙ ap₂ (λ a b. (host_accepts (two.at_host h) c && lacks_beats system two h number c) || (a && not b)) (same_given_from None c h low) (same_are_given h number c low)
+
+  same_default_moves : (size h : ℕ) → MovesAtDefaultWithin size system one h end → MovesAtDefaultWithin size system two h end
+  same_default_moves size h within from number low all =
+      let found = within from number low (λ c later sooner. subst IsTrue (sym (same_wanted_at_default h number c (omega arith))) (all c later sooner)) in
+      let there : found.0 < end = (let sooner = found.2 in omega (arith, sooner, low)) in
+      (found.0, found.1, found.2, subst IsTrue (same_moves_at_default h number found.0 there) found.3)
+
   same_no_operation : (h number c : ℕ) → c ≤ end → has_no_operation system one h number c ≡ has_no_operation system two h number c
   same_no_operation h number c low =
       ap (λ (ts : List Transfer). list_all (λ agent. nat_eq (length (flat_map (transfer_operations system h agent) (for_agent system h agent (of_command number ts)))) 0) (numbers 0 system.agents)) (same_transfers system one two end same h c low)
@@ -141,6 +155,7 @@ module _ (system : System) (one two : Run) (end : ℕ) (same : RunsAgreeBefore o
     agents = λ a there. same_service (agent_window system a) a (awake.agents a there);
     default = same_default (window_of system 0) awake.default;
     ahead = λ a there. same_ahead (agent_window system a) a (awake.ahead a there);
+    hosts_at_default = λ h low. same_default_moves (window_of system 0) h (awake.hosts_at_default h low);
   }
 
   -- ---- fairness

@@ -207,11 +207,12 @@ ReadsAheadWithin size system run agent end =
     Throughout from size (IsAsked system run agent host) →
     Sometime from size (λ c. IsTrue (agent_accepts (system.agent agent) (run.at_agent agent) c))
 
--- the module never idles beyond the window while an unstalled agent, or the default agent, is wanted
+-- the module never idles beyond the window while an unstalled agent, or the default agent, is wanted, and no host hangs at the default agent
 pub record NeverIdles (system : System) (run : Run) (end : ℕ) : Type 0 where
   pub agents : (a : ℕ) → a < system.agents → ServesWithin (agent_window system a) system run a end
   pub default : ServesDefaultWithin (window_of system 0) system run end
   pub ahead : (a : ℕ) → a < system.agents → ReadsAheadWithin (agent_window system a) system run a end
+  pub hosts_at_default : (h : ℕ) → h < system.hosts → MovesAtDefaultWithin (window_of system 0) system run h end
 
 -- each owner once, where it comes first
 abbrev pub first_owners : List Owner → List Owner → List Owner

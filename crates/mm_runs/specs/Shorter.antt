@@ -75,6 +75,7 @@ module _ (shorter end : ℕ) (h : shorter ≤ end) where
     agents = λ agent there from host number low. awake.agents agent there from host number (le_trans low h);
     default = λ from host number low. awake.default from host number (le_trans low h);
     ahead = λ agent there has alike from host low. awake.ahead agent there has alike from host (le_trans low h);
+    hosts_at_default = λ host is from number low. awake.hosts_at_default host is from number (le_trans low h);
   }
 
   pub fair_before : (system : System) (run : Run) → IsFair system run end → IsFair system run shorter
