@@ -337,13 +337,13 @@ class Splitter:
 
 
 class Dropper:
-    """Before an agent without byte enables: a beat without a lane goes no further. A read of it is given 0 once nothing is owed.
+    """Before an agent without byte enables: a beat without a lane goes no further. A read of it is given what `bus` shows once nothing is owed.
 
     A write that another beat of its command may follow is kept until it is known whether one with a lane does.
     """
 
     def __init__(self, room):
-        self.room, self.kept, self.reads, self.own = room, None, 0, False
+        self.room, self.kept, self.reads, self.own, self.bus = room, None, 0, False, 0
 
     def below(self, command):
         self.command, self.shown, self.acts = command, NOTHING, command.lanes != 0
@@ -371,7 +371,7 @@ class Dropper:
     def above(self, wait, word):
         self.gone = self.shown.kind is not None and not wait
         self.accepted, self.came = self.accepts(), word is not None
-        return not self.accepted, 0 if self.own else word
+        return not self.accepted, self.bus if self.own else word
 
     def edge(self):
         now = self.command
@@ -407,8 +407,10 @@ class Links:
             command = link.below(command)
         return command
 
-    def above(self, wait, word):
+    def above(self, wait, word, bus):
+        """Whether the part above waits, and the word that it is given, where `bus` stands below whether or not it is a word for this host."""
         for link in reversed(self.links):
+            link.bus = bus
             wait, word = link.above(wait, word)
         return wait, word
 
@@ -462,7 +464,7 @@ class Stage:
     """A pipeline stage: two places for commands, of which the first is shown below, and a register for a word and its host."""
 
     def __init__(self):
-        self.held, self.answer = [], None
+        self.held, self.answer, self.bus = [], None, 0
 
     def shows(self):
         return self.held[0] if self.held else NOTHING
@@ -470,11 +472,11 @@ class Stage:
     def waits(self):
         return len(self.held) == 2
 
-    def edge(self, command, wait, answer):
-        """What is shown above, whether it waits below, and the answer below."""
+    def edge(self, command, wait, answer, bus):
+        """What is shown above, whether it waits below, the answer below, and what stands for its word."""
         taken = [command] if command.kind is not None and not self.waits() else []
         self.held = (self.held if wait or not self.held else self.held[1:]) + taken
-        self.answer = answer
+        self.answer, self.bus = answer, bus
 
 
 class AgentPart:
@@ -484,7 +486,7 @@ class AgentPart:
     """
 
     def __init__(self, agent):
-        self.agent, self.reads, self.row, self.word = agent, Reads(), [None] * max(agent.latency, 1), None
+        self.agent, self.reads, self.row, self.word = agent, Reads(), [None] * max(agent.latency, 1), 0
 
     def below(self, command):
         self.command = command
@@ -500,6 +502,8 @@ class AgentPart:
         """Whether the part above waits, and the host and the word that come, from what stands at the agent's port."""
         self.taken = self.command.kind == "r" and not self.held and not wait
         self.port = port
+        self.shown = (1 << self.agent.bits) - 1 if port is None else port
+        self.bus = self.word if self.agent.fixed and self.agent.latency == 0 else self.shown
         if self.agent.fixed:
             tag, word = self.row[-1], self.word if self.agent.latency == 0 else port
             return self.held or wait, None if tag is None else (tag, word)
@@ -507,7 +511,7 @@ class AgentPart:
 
     def edge(self):
         if self.agent.fixed:
-            self.row, self.word = [self.command.tag if self.taken else None] + self.row[:-1], self.port
+            self.row, self.word = [self.command.tag if self.taken else None] + self.row[:-1], self.shown
             return
         self.reads.edge(self.command if self.taken else None, self.port is not None)
 
@@ -649,17 +653,19 @@ class System:
         self.told = [part.above(wait, word) for part, wait, word in zip(self.parts, waits, words)]
         for arbiter, pipe, (wait, answer) in zip(self.arbiters, self.pipes, self.told):
             told.append(arbiter.above(pipe[0].waits() if pipe else wait, pipe[0].answer if pipe else answer))
-        fitted = [[link.above(waits.get(number), words.get(number)) for link, (waits, words) in zip(links, told)]
+        buses = [pipe[0].bus if pipe else part.bus for pipe, part in zip(self.pipes, self.parts)]
+        fitted = [[link.above(waits.get(number), words.get(number), bus) for link, (waits, words), bus in zip(links, told, buses)]
                   for number, links in enumerate(self.links)]
         return [top.above(*route.above([wait for wait, _ in each], [word for _, word in each]))
                 for top, route, each in zip(self.tops, self.routes, fitted)]
 
     def edge(self):
-        for pipe, commands, (wait, answer) in zip(self.pipes, self.commands, self.told):
+        for pipe, commands, part, (wait, answer) in zip(self.pipes, self.commands, self.parts, self.told):
             waits = [stage.waits() for stage in pipe[1:]] + [wait]
             answers = [stage.answer for stage in pipe[1:]] + [answer]
-            for stage, command, wait, answer in zip(pipe, commands, waits, answers):
-                stage.edge(command, wait, answer)
+            buses = [stage.bus for stage in pipe[1:]] + [part.bus]
+            for stage, command, wait, answer, bus in zip(pipe, commands, waits, answers, buses):
+                stage.edge(command, wait, answer, bus)
         for part in self.tops + self.routes + sum(self.links, []) + self.arbiters + self.parts:
             part.edge()
 

@@ -255,6 +255,6 @@ module _ (given : DropInputs) where
     own_begins = refl;
     own_next = λ c. refl;
     valid = λ c. raised_one ((drop_registers given c).own || is_raised (given.inputs.answers.valid c));
-    word = λ c. refl;
+    word = λ c none. ap (λ b. if b then 0 else given.inputs.answers.word c) none;
     code = λ c. refl;
   }

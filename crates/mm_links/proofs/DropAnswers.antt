@@ -162,7 +162,7 @@ module _ (target : Target) (room : ℕ) (up down : Port) (state : DropState) (en
             up_words : words_at up (suc c) ≡ words_at up c ++ w ∷ []
             up_words =
                 more_word up c true (run.valid c ∙ ap₂ (λ b v. b || v) own.0 e)
-                ∙ ap₂ (λ x y. words_at up c ++ word_of x y ∷ []) (run.word c ∙ ap (λ b. if b then 0 else down.answers.word c) own.0) (run.code c ∙ ap (λ b. if b then 0 else down.answers.code c) own.0)
+                ∙ ap₂ (λ x y. words_at up c ++ word_of x y ∷ []) (run.word c own.0) (run.code c ∙ ap (λ b. if b then 0 else down.answers.code c) own.0)
 
             low_words : words_at down (suc c) ≡ words_at down c ++ w ∷ []
             low_words = more_word down c true e

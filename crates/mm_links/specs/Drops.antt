@@ -90,9 +90,9 @@ pub record RunsAsDrop (room : ℕ) (up down : Port) (state : DropState) : Type 0
   pub reads_next : (c : ℕ) → state.reads (suc c) ≡ (state.reads c + one_if (takes_read down c)) - one_if (is_raised (down.answers.valid c))
   pub own_begins : state.own 0 ≡ false
   pub own_next : (c : ℕ) → state.own (suc c) ≡ owes_itself (standing_at up state c) (takes down c)
-  -- answers: its own words are 0, with code 0
+  -- answers: its own words are free, with code 0
   pub valid : (c : ℕ) → is_raised (up.answers.valid c) ≡ (state.own c || is_raised (down.answers.valid c))
-  pub word : (c : ℕ) → up.answers.word c ≡ (if state.own c then 0 else down.answers.word c)
+  pub word : (c : ℕ) → state.own c ≡ false → up.answers.word c ≡ down.answers.word c
   pub code : (c : ℕ) → up.answers.code c ≡ (if state.own c then 0 else down.answers.code c)
 
 -- words are those of the agent, which has no byte enables, and addresses are the same below. Commands have one beat on both sides
