@@ -14,6 +14,8 @@ mod stored;
 pub use bits::{address_bits, count_bits};
 pub use laws::stored_queue_keeps_few_bits;
 pub use pointers::Pointers;
-pub use queue::{ItemQueue, finish_queue, has_room, make_queue, show_oldest};
+pub use queue::{
+    ItemQueue, finish_queue, has_room, hold_items, make_queue, read_oldest, show_oldest,
+};
 pub use storage::{FEWEST_STORED, Storage};
 pub use stored::StoredItems;

@@ -1,13 +1,13 @@
 //! A queue of items: its nets, what it shows, and what it does from cycle to cycle.
 
-ghost use Rattle.std.specs.Prelude.{◌≡◌, ℕ, ◌+◌, ◌*◌, ◌^◌, ◌<◌, ◌≤◌, ◌⊎◌, ◌==◌, ◌&&◌, nat_lt, length, IfOk, OnOk};
+ghost use Rattle.std.specs.Prelude.{◌≡◌, ℕ, ◌+◌, ◌*◌, ◌^◌, ◌<◌, ◌≤◌, ◌⊎◌, ◌==◌, ◌&&◌, ◌∷◌, List, nat_lt, length, IfOk, OnOk};
 ghost use Rattle.netlist.specs.Netlists.{IsNet, IsWaiting, WaitsForWrite};
 ghost use Rattle.netlist.specs.Runs.{Always};
-ghost use Rattle.net_parts.specs.Nets.{IsBit};
+ghost use Rattle.net_parts.specs.Nets.{IsBit, StartsLow};
 ghost use Rattle.net_parts.specs.Growth.{AddsNets, GrowsInMemory, StillWait, WaitsBeside, WaitsWithout, AreMadeBetween, StillWaitForWrite, WriteWaitsBeside, WriteWaitsWithout};
-ghost use Rattle.net_parts.specs.Groups.{AreNets, values_of};
+ghost use Rattle.net_parts.specs.Groups.{AreNets, group_widths, values_of};
 ghost use Rattle.net_parts.specs.PlaceRows.{nets_of, ArePlaceNets, HaveSameWidths};
-ghost use Rattle.item_queues.specs.Storages.{shown_oldest};
+ghost use Rattle.item_queues.specs.Storages.{owns_in, shown_oldest};
 ghost use Rattle.item_queues.specs.Queues.{owns, owns_memories, IsQueueMade, StartsEmpty, StepsQueue, held_in};
 
 use crate::count::{hold_count, move_count};
@@ -23,6 +23,44 @@ pub struct ItemQueue<const N: usize> {
     /// How many items are held.
     pub count: Net,
     pub storage: Storage<N>,
+}
+
+/// Makes the registers or the memories of an empty queue of at most `bound` items like this one, whose count stands.
+pub fn hold_items<const N: usize>(
+    builder: &mut Builder,
+    like: &[Net; N],
+    bound: u8,
+    count: Net,
+) -> Result<ItemQueue<N>, NetFault>
+    requires some { 1 ≤ bound }
+    requires some_net { 1 ≤ N }
+    requires few_nets { N < 2 ^ 32 }
+    requires like { AreNets builder.old like.now }
+    requires count { IsNet builder.old count }
+    requires wide { bound < 2 ^ count.width }
+    requires least { (bits : ℕ) → 1 ≤ bits → bound < 2 ^ bits → count.width ≤ bits }
+    requires low { StartsLow builder.old count }
+    ensures made { IfOk result (λ queue. IsQueueMade builder.new like.now queue) }
+    ensures bound { IfOk result (λ queue. queue.bound ≡ bound) }
+    ensures count { IfOk result (λ queue. queue.count ≡ count) }
+    ensures starts { IfOk result (λ queue. StartsEmpty builder.new queue) }
+    ensures owned { IfOk result (λ queue. AreMadeBetween (owns_in queue.bound queue.storage) builder.old builder.new) }
+    ensures owned_memories { IfOk result (λ queue. (m : ℕ) → owns_memories queue m → (length builder.old.memories ≤ m) × (m < length builder.new.memories)) }
+    ensures grows { GrowsInMemory (3 * N) N builder.old builder.new }
+    ensures still_wait { StillWait builder.old builder.new }
+    ensures own_wait { IfOk result (λ queue. (n : ℕ) → owns_in queue.bound queue.storage n → IsWaiting builder.new n) }
+    ensures newly { IfOk result (λ queue. WaitsBeside (owns_in queue.bound queue.storage) builder.old builder.new) }
+    ensures still_wait_for_write { StillWaitForWrite builder.old builder.new }
+    ensures own_wait_for_write { IfOk result (λ queue. (m : ℕ) → owns_memories queue m → WaitsForWrite builder.new m) }
+    ensures newly_written { IfOk result (λ queue. WriteWaitsBeside (owns_memories queue) builder.old builder.new) }
+    ensures full { result ≡ Err NetFault.TooManyNets → (2 ^ 20 < length builder.old.lines + 3 * N) ⊎ (2 ^ 16 < length builder.old.memories + N) }
+{
+    let storage = make_storage(builder, like, bound)?;
+    Ok(ItemQueue {
+        bound,
+        count,
+        storage,
+    })
 }
 
 /// Makes the nets of an empty queue of at most `bound` items like this one.
@@ -50,12 +88,7 @@ pub fn make_queue<const N: usize>(
     ensures full { result ≡ Err NetFault.TooManyNets → (2 ^ 20 < length builder.old.lines + (3 * N + 1)) ⊎ (2 ^ 16 < length builder.old.memories + N) }
 {
     let count = hold_count(builder, bound)?;
-    let storage = make_storage(builder, like, bound)?;
-    Ok(ItemQueue {
-        bound,
-        count,
-        storage,
-    })
+    hold_items(builder, like, bound, count)
 }
 
 /// The oldest item where one is held, and else the one that comes.
@@ -85,6 +118,23 @@ pub fn show_oldest<const N: usize>(
     let item = choose_all(builder, some, &oldest, &coming.item)?;
     let full = builder.or(some, coming.full)?;
     Ok(PlaceNets { full, item })
+}
+
+/// The oldest item, where one is held; `like` has the widths of its nets.
+pub fn read_oldest<const N: usize>(
+    builder: &mut Builder,
+    queue: &ItemQueue<N>,
+    like: &[Net; N],
+) -> Result<[Net; N], NetFault>
+    requires few_nets { N < 2 ^ 32 }
+    requires queue { IsQueueMade builder.old like.now queue.now }
+    ensures nets { IfOk result (λ made. AreNets builder.new made) }
+    ensures widths { IfOk result (λ made. group_widths made ≡ group_widths like.now) }
+    ensures value { IfOk result (λ made. Always builder.new (λ cycle. 1 ≤ cycle.net queue.now.count.number → (coming : List ℕ) → shown_oldest (held_in cycle queue.now) coming ≡ 1 ∷ values_of cycle made)) }
+    ensures adds { AddsNets (2 * N + 4) builder.old builder.new }
+    ensures full { result ≡ Err NetFault.TooManyNets → 2 ^ 20 < length builder.old.lines + (2 * N + 4) }
+{
+    oldest_item(builder, &queue.storage, queue.bound, queue.count, like)
 }
 
 /// Whether there is room for an item, by registers alone.
