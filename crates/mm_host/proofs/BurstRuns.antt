@@ -1,141 +1,160 @@
--- The registers of a host that reads in bursts, in a run.
-use Rattle.std.proofs.Common.{◌≡◌, ℕ, zero, suc, ◌+◌, ◌<◌, Bool, true, false, not, ◌&&◌, ◌||◌, ◌==◌, nat_lt, if◌then◌else◌, List, [], ◌∷◌, length, refl, sym, subst, ap, ◌∙◌, arith}
-use Rattle.histories.specs.History.{is_raised}
-use Rattle.iface_roles.specs.declared.records.HostPort.{HostPort}
+-- The unanswered reads of a host that reads in bursts, in a run.
+use Rattle.std.proofs.Common.{◌≡◌, ℕ, zero, suc, ◌+◌, ◌<◌, ◌≤◌, Bool, true, false, not, ◌&&◌, ◌==◌, nat_eq, nat_lt, if◌then◌else◌, List, [], ◌∷◌, ◌++◌, length, map, drop, refl, sym, subst, ap, ◌∙◌, inl, arith}
+use Rattle.std.proofs.lemmas.Bool.{ltb-true, ne_eqb}
+use Rattle.std.proofs.lemmas.List.{length-map, map-append}
+use Rattle.histories.specs.History.{is_raised, one_if, only_if}
 use Rattle.netlist.specs.Nets.{NetValue}
 use Rattle.netlist.specs.Netlists.{Netlist}
 use Rattle.netlist.specs.Runs.{Cycle, Run, cycle_of, IsEndlessRun, IsValuation}
 use Rattle.net_parts.specs.Laws.{bit_fits}
-use Rattle.net_parts.specs.Groups.{values_of}
-use Rattle.net_parts.specs.Places.{Place, held_of, row_as, place_as, AllEmpty, IsPacked, has_room, last_full, coming, held_then, PlacesMove}
-use Rattle.net_parts.specs.PlaceLaws.{held_empty, empty_as, moves_as, places_packed, held_next, room_count, room_last}
-use Rattle.net_parts.specs.PlaceRows as rows
-use Rattle.net_parts.specs.declared.places.PlaceNets.{PlaceNets}
-use Rattle.mm_host.specs.declared.queue.HeldQueue.{HeldQueue}
-use Rattle.mm_host.specs.Queued.{incoming, IsQueueMade, QueuesOn, IsOldestAnswered}
-use Rattle.mm_host.proofs.Bursts.{GotFits, Step, stepped}
+use Rattle.item_queues.specs.declared.queue.ItemQueue.{ItemQueue}
+use Rattle.item_queues.specs.Storages.{shown_oldest}
+use Rattle.item_queues.specs.Queues.{IsInOrder, MayMove, held_in}
+use Rattle.item_queues.specs.Laws.{held_count}
+use Rattle.mm_parts.specs.Queue.{Entry}
+use Rattle.mm_host.specs.Queued.{QueuesOn, IsOldestAnswered}
+use Rattle.mm_host.specs.Reads.{AreCounted}
+use Rattle.mm_host.proofs.Bursts.{GotFits, IsNext, IsOldest, Step, entries_of, entries_count, some_held, stepped}
 
 abbrev pub count_in : List ℕ → ℕ
 count_in [] = 0
 count_in (count ∷ others) = count
 
-abbrev pub counts_at : Cycle → List (PlaceNets 1) → List (Place ℕ)
-counts_at cycle row = row_as count_in (rows.row_in cycle row)
+abbrev pub counts_in : Cycle → ItemQueue 1 → List ℕ
+counts_in cycle queue = map count_in (held_in cycle queue)
+
+-- the reads with the counts in a queue, the oldest of which has got so many words
+abbrev pub reads_of : ItemQueue 1 → NetValue → Run → ℕ → List Entry
+reads_of queue got run c = entries_of (run.net c got.number) (counts_in (cycle_of run c) queue)
 
 high_is : (x : ℕ) → x < 2 → (x == 1) ≡ is_raised x
 high_is zero h = refl
 high_is (suc zero) h = refl
 high_is (suc (suc x)) h = absurd (omega arith)
 
-not_twice : (b : Bool) → not (not b) ≡ b
-not_twice true = refl
-not_twice false = refl
+one_dropped : (t : Bool) (items : List (List ℕ)) → map count_in (drop (one_if t) items) ≡ drop (one_if t) (map count_in items)
+one_dropped true [] = refl
+one_dropped true (item ∷ items) = refl
+one_dropped false items = refl
 
-with_room : (taken room : Bool) → (taken ≡ true → room ≡ true) → (taken && room) ≡ taken
-with_room true room h = h refl
-with_room false room h = refl
+one_more : (t : Bool) (count : ℕ) → map count_in (only_if t (count ∷ [])) ≡ only_if t count
+one_more true count = refl
+one_more false count = refl
 
-room_of : (read full shown wait : Bool) → shown ≡ (read && not full) → (shown && not wait) ≡ true → not full ≡ true
-room_of true full shown wait e f = by_shown shown e f
+-- the oldest count is shown where there is one
+shown_first : (items : List (List ℕ)) (n beats : ℕ) (some : Bool) → length items ≡ n → some ≡ not (nat_eq n 0) → (1 ≤ n → (coming : List ℕ) → shown_oldest items coming ≡ 1 ∷ beats ∷ []) →
+    map count_in items ≡ (if some then beats ∷ drop 1 (map count_in items) else [])
+shown_first [] n beats some e f shows = rw (f, ← e) refl
+shown_first (item ∷ items) n beats some e f shows =
+    let oldest : count_in item ≡ beats = ap (λ (xs : List ℕ). count_in (drop 1 xs)) (shows (omega (arith, e)) []) in
+    let is : some ≡ true = f ∙ ap not (ne_eqb n 0 (λ none. omega (arith, e, none))) in
+    ap (λ k. k ∷ map count_in items) oldest ∙ sym (ap (λ t. if t then beats ∷ map count_in items else []) is)
+
+-- a read that is taken was shown, and there was room for it
+room_of : (read shown wait : Bool) (u : ℕ) → shown ≡ (read && not (not (nat_lt u 16))) → (shown && not wait) ≡ true → u < 16
+room_of read true wait u e f = ltb-true u 16 (by_test read (nat_lt u 16) e)
   where
-    by_shown : (t : Bool) → t ≡ (true && not full) → (t && not wait) ≡ true → not full ≡ true
-    by_shown true e f = sym e
-    by_shown false e f = cc
-room_of false full shown wait e f = absurd (let none : (shown && not wait) ≡ false = ap (λ t. t && not wait) e in cc)
+    by_test : (r t : Bool) → true ≡ (r && not (not t)) → t ≡ true
+    by_test true true e = refl
+    by_test true false e = cc
+    by_test false t e = cc
+room_of read false wait u e f = cc
 
-row_length : (cycle : Cycle) (row : List (PlaceNets 1)) → length (counts_at cycle row) ≡ length row
-row_length cycle [] = refl
-row_length cycle (place ∷ row) = ap suc (row_length cycle row)
-
-last_same : (cycle : Cycle) (first : PlaceNets 1) (rest : List (PlaceNets 1)) → last_full (place_as count_in (rows.place_in cycle first)) (counts_at cycle rest) ≡ (cycle.net (rows.last_full first rest).number == 1)
-last_same cycle first [] = refl
-last_same cycle first (next ∷ rest) = last_same cycle next rest
-
-module _ (netlist : Netlist) (port : HostPort) (read count shown : NetValue) (held : HeldQueue) (wait valid told : NetValue) (k : IsQueueMade netlist port read count held) (l : QueuesOn netlist read count shown held wait valid told) (run : Run) (endless : IsEndlessRun netlist run)
-    (shows : (c : ℕ) → is_raised (run.net c shown.number) ≡ (is_raised (run.net c read.number) && not (is_raised (run.net c held.ends.full.number)))) where
+module _ (netlist : Netlist) (read count shown unanswered full wait valid told : NetValue) (k : AreCounted netlist read shown unanswered full) (l : QueuesOn netlist read count shown unanswered full wait valid told) (run : Run) (endless : IsEndlessRun netlist run) where
   val : (c : ℕ) → IsValuation netlist (cycle_of run c)
   val c = (endless (c + 1)).valuations c (omega arith)
 
   next_cycle : (c : ℕ) → c + 1 ≡ suc c
   next_cycle c = omega arith
 
-  abbrev places : ℕ → List (Place ℕ)
-  places c = counts_at (cycle_of run c) held.row
-
   abbrev counts : ℕ → List ℕ
-  counts c = held_of (places c)
-
-  abbrev later : ℕ → List ℕ
-  later c = held_of (counts_at (cycle_of run c) k.ends.rest)
-
-  abbrev gives : ℕ → Bool
-  gives c = rows.gives_item (cycle_of run c) held.row (incoming read count) l.last
-
-  abbrev comes : ℕ → Bool
-  comes c = run.net c l.taken.number == 1
+  counts c = counts_in (cycle_of run c) l.words.queue
 
   abbrev T : ℕ → Bool
   T c = is_raised (run.net c shown.number) && not (is_raised (run.net c wait.number))
 
   abbrev S : ℕ → Bool
-  S c = is_raised (run.net c held.ends.some.number)
+  S c = is_raised (run.net c l.words.some.number)
 
   abbrev L : ℕ → Bool
-  L c = is_raised (run.net c l.last.number)
+  L c = is_raised (run.net c l.words.last.number)
 
-  starts : AllEmpty (places 0)
-  starts = empty_as count_in (rows.row_in (cycle_of run 0) held.row) (k.empty run 1 (endless 1) (omega arith))
+  count_is : (c : ℕ) → length (counts c) ≡ run.net c unanswered.number
+  count_is c = length-map (held_in (cycle_of run c) l.words.queue) count_in ∙ held_count (cycle_of run c) l.words.queue ∙ ap (λ (n : NetValue). run.net c n.number) l.words.count_is
 
-  moves : (c : ℕ) → PlacesMove (places c) (places (c + 1)) (gives c) (comes c) (run.net c count.number)
-  moves c = moves_as count_in (rows.row_in (cycle_of run c) held.row) (rows.row_in (cycle_of run (c + 1)) held.row) (gives c) (comes c) (values_of (cycle_of run c) (count ∷ [])) (l.steps run (c + 2) (endless (c + 2)) c (omega arith))
+  pub full_is : (c : ℕ) → is_raised (run.net c full.number) ≡ not (nat_lt (length (reads_of l.words.queue l.words.got run c)) 16)
+  full_is c = k.is_full (cycle_of run c) (val c) ∙ ap (λ n. not (nat_lt n 16)) (sym (entries_count (run.net c l.words.got.number) (counts c) ∙ count_is c))
 
-  packed : (c : ℕ) → IsPacked (places c)
-  packed c = places_packed places gives comes (λ k. run.net k count.number) starts moves c
+  comes_is : (c : ℕ) → (run.net c l.taken.number == 1) ≡ T c
+  comes_is c = high_is _ (bit_fits netlist l.taken l.taken_bit (cycle_of run c) (val c)) ∙ l.takes (cycle_of run c) (val c)
 
-  next_held : (c : ℕ) → counts (suc c) ≡ held_then (gives c) (counts c) (coming (comes c && has_room (places c)) (run.net c count.number))
-  next_held c = held_next places gives comes (λ k. run.net k count.number) starts moves c
+  goes_is : (c : ℕ) → (run.net c l.words.last.number == 1) ≡ L c
+  goes_is c = high_is _ (bit_fits netlist l.words.last l.words.last_bit (cycle_of run c) (val c))
 
-  some_is : (c : ℕ) → (run.net c k.ends.first.full.number == 1) ≡ S c
-  some_is c = ap (λ (n : NetValue). run.net c n.number == 1) (sym k.ends.some) ∙ high_is _ (bit_fits netlist held.ends.some k.some_bit (cycle_of run c) (val c))
+  room : (c : ℕ) → T c ≡ true → run.net c unanswered.number < 16
+  room c e =
+      room_of (is_raised (run.net c read.number)) _ (is_raised (run.net c wait.number)) _
+      (k.shows (cycle_of run c) (val c) ∙ ap (λ t. is_raised (run.net c read.number) && not t) (k.is_full (cycle_of run c) (val c))) e
 
-  first_is : (c : ℕ) → counts c ≡ (if S c then run.net c held.ends.beats.number ∷ later c else [])
-  first_is c =
-      ap (λ (row : List (PlaceNets 1)). held_of (counts_at (cycle_of run c) row)) k.ends.split
-      ∙ ap (λ (xs : List NetValue). if run.net c k.ends.first.full.number == 1 then count_in (values_of (cycle_of run c) xs) ∷ later c else []) k.ends.beats
-      ∙ ap (λ t. if t then run.net c held.ends.beats.number ∷ later c else []) (some_is c)
+  first_is : (c : ℕ) → counts c ≡ (if S c then run.net c l.words.beats.number ∷ drop 1 (counts c) else [])
+  first_is c = shown_first (held_in (cycle_of run c) l.words.queue) _ _ (S c) (held_count (cycle_of run c) l.words.queue) (l.words.some_is (cycle_of run c) (val c)) (l.words.oldest (cycle_of run c) (val c))
 
-  gives_is : (c : ℕ) → gives c ≡ ((S c || (run.net c read.number == 1)) && L c)
-  gives_is c =
-      ap (λ (row : List (PlaceNets 1)). rows.gives_item (cycle_of run c) row (incoming read count) l.last) k.ends.split
-      ∙ ap (λ t. (t || (run.net c read.number == 1)) && (run.net c l.last.number == 1)) (some_is c)
-      ∙ ap (λ t. (S c || (run.net c read.number == 1)) && t) (high_is _ (bit_fits netlist l.last l.last_bit (cycle_of run c) (val c)))
+  -- the queue is in order, and the oldest read hasn't got too many words
+  record Stands (c : ℕ) : Type 0 where
+    pub in_order : IsInOrder l.words.queue (cycle_of run c)
+    pub fits : GotFits (run.net c l.words.got.number) (counts c)
 
-  room_is : (c : ℕ) → has_room (places c) ≡ not (is_raised (run.net c held.ends.full.number))
-  room_is c =
-      ap (λ (row : List (PlaceNets 1)). has_room (counts_at (cycle_of run c) row)) k.ends.split
-      ∙ room_last (place_as count_in (rows.place_in (cycle_of run c) k.ends.first)) (counts_at (cycle_of run c) k.ends.rest) (subst (λ (row : List (PlaceNets 1)). IsPacked (counts_at (cycle_of run c) row)) k.ends.split (packed c))
-      ∙ ap not (last_same (cycle_of run c) k.ends.first k.ends.rest ∙ ap (λ (n : NetValue). run.net c n.number == 1) (sym k.ends.full) ∙ high_is _ (bit_fits netlist held.ends.full k.full_bit (cycle_of run c) (val c)))
+  oldest : (c : ℕ) → Stands c → IsOldest (is_raised (run.net c valid.number)) (S c) (L c) (run.net c l.words.beats.number) (run.net c l.words.got.number) (run.net (suc c) l.words.got.number) (drop 1 (counts c)) (counts c)
+  oldest c stands = record {
+    held_is = first_is c;
+    fits = stands.fits;
+    answered = λ few.
+        subst (IsOldestAnswered _ _ _ _ _) (sym (l.words.follows run (c + 2) (endless (c + 2)) c (omega arith)) ∙ ap (λ n. run.net n l.words.got.number) (next_cycle c))
+        (l.words.answered (cycle_of run c) (val c) few);
+  }
 
-  pub full_is : (c : ℕ) → is_raised (run.net c held.ends.full.number) ≡ not (nat_lt (length (counts c)) 16)
-  full_is c =
-      sym (not_twice _) ∙ ap not (sym (room_is c) ∙ room_count (places c) (packed c) ∙ ap (λ n. nat_lt (length (counts c)) n) (row_length (cycle_of run c) held.row ∙ k.places))
+  may : (c : ℕ) → Stands c → MayMove l.words.queue l.taken l.words.last (cycle_of run c)
+  may c stands = record {
+    in_order = stands.in_order;
+    room = λ high.
+        (let low = room c (sym (comes_is c) ∙ high) in
+        let bound = l.words.bound in
+        let same : run.net c l.words.queue.count.number ≡ run.net c unanswered.number = ap (λ (n : NetValue). run.net c n.number) l.words.count_is in
+        omega (arith, low, bound, same));
+    some = λ high.
+        inl (let some = some_held _ _ _ _ _ _ _ _ (oldest c stands) (sym (goes_is c) ∙ high) in
+        let same = length-map (held_in (cycle_of run c) l.words.queue) count_in ∙ held_count (cycle_of run c) l.words.queue in
+        omega (arith, some, same));
+  }
 
-  comes_is : (c : ℕ) → (comes c && has_room (places c)) ≡ T c
-  comes_is c =
-      ap (λ t. t && has_room (places c)) (high_is _ (bit_fits netlist l.taken l.taken_bit (cycle_of run c) (val c)) ∙ l.takes (cycle_of run c) (val c))
-      ∙ with_room (T c) (has_room (places c)) (λ e. room_is c ∙ room_of _ _ _ _ (shows c) e)
+  next_is : (c : ℕ) → Stands c → IsNext (L c) (T c) (run.net c count.number) (counts c) (counts (suc c))
+  next_is c stands =
+      let moved = l.words.steps run (c + 2) (endless (c + 2)) c (omega arith) (may c stands) in
+      let coming : List ℕ = run.net c count.number ∷ [] in
+      ap counts (sym (next_cycle c)) ∙ ap (map count_in) moved.held ∙ one_dropped (run.net c l.words.last.number == 1) _
+      ∙ ap (λ (xs : List ℕ). drop (one_if (run.net c l.words.last.number == 1)) xs) (map-append count_in (held_in (cycle_of run c) l.words.queue) (only_if (run.net c l.taken.number == 1) coming))
+      ∙ ap (λ (xs : List ℕ). drop (one_if (run.net c l.words.last.number == 1)) (counts c ++ xs)) (one_more (run.net c l.taken.number == 1) (run.net c count.number))
+      ∙ ap (λ t. drop (one_if t) (counts c ++ only_if (run.net c l.taken.number == 1) (run.net c count.number))) (goes_is c)
+      ∙ ap (λ t. drop (one_if (L c)) (counts c ++ only_if t (run.net c count.number))) (comes_is c)
 
-  pub step : (c : ℕ) → GotFits (run.net c held.got.number) (counts c) → Step (is_raised (run.net c valid.number)) (T c) (run.net c count.number) (run.net c held.got.number) (run.net (suc c) held.got.number) (counts c) (counts (suc c))
-  step c fits =
-      stepped (S c) (is_raised (run.net c valid.number)) (run.net c read.number == 1) (T c) (L c) (run.net c held.ends.beats.number) (run.net c count.number) (run.net c held.got.number) (run.net (suc c) held.got.number) (later c) (counts c) (counts (suc c))
-      (first_is c) fits
-      (λ few. subst (IsOldestAnswered _ _ _ _ _) (sym (l.follows run (c + 2) (endless (c + 2)) c (omega arith)) ∙ ap (λ n. run.net n held.got.number) (next_cycle c)) (l.answered (cycle_of run c) (val c) few))
-      (next_held c ∙ ap (λ t. held_then t (counts c) (coming (comes c && has_room (places c)) (run.net c count.number))) (gives_is c)
-      ∙ ap (λ t. held_then ((S c || (run.net c read.number == 1)) && L c) (counts c) (coming t (run.net c count.number))) (comes_is c))
+  step_of : (c : ℕ) → Stands c → Step (is_raised (run.net c valid.number)) (T c) (run.net c count.number) (run.net c l.words.got.number) (run.net (suc c) l.words.got.number) (counts c) (counts (suc c))
+  step_of c stands = stepped _ _ _ _ _ _ _ _ _ _ _ (oldest c stands) (next_is c stands)
 
-  pub none_yet : counts 0 ≡ []
-  none_yet = held_empty (places 0) starts
+  none_yet : counts 0 ≡ []
+  none_yet = ap (map count_in) (l.words.empty run 1 (endless 1) (omega arith)).none
 
-  pub fits : (c : ℕ) → GotFits (run.net c held.got.number) (counts c)
-  fits zero = subst (GotFits (run.net 0 held.got.number)) (sym none_yet) (k.none_got run 1 (endless 1) (omega arith))
-  fits (suc c) = (step c (fits c)).fits
+  stands : (c : ℕ) → Stands c
+  stands zero = record {
+    in_order = (l.words.empty run 1 (endless 1) (omega arith)).in_order;
+    fits = subst (GotFits (run.net 0 l.words.got.number)) (sym none_yet) (l.words.none_got run 1 (endless 1) (omega arith));
+  }
+  stands (suc c) = record {
+    in_order = subst (λ k. IsInOrder l.words.queue (cycle_of run k)) (next_cycle c) (l.words.steps run (c + 2) (endless (c + 2)) c (omega arith) (may c (stands c))).in_order;
+    fits = (step_of c (stands c)).fits;
+  }
+
+  pub begins : reads_of l.words.queue l.words.got run 0 ≡ []
+  begins = ap (entries_of (run.net 0 l.words.got.number)) none_yet
+
+  pub step : (c : ℕ) → Step (is_raised (run.net c valid.number)) (T c) (run.net c count.number) (run.net c l.words.got.number) (run.net (suc c) l.words.got.number) (counts c) (counts (suc c))
+  step c = step_of c (stands c)

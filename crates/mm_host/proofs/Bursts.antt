@@ -1,10 +1,9 @@
--- A row of counts, and the words that the oldest has got, as a queue of reads.
-use Rattle.std.proofs.Common.{◌≡◌, ℕ, zero, suc, ◌+◌, ◌-◌, Bool, true, false, not, ◌&&◌, ◌||◌, nat_eq, if◌then◌else◌, List, [], ◌∷◌, ◌++◌, length, map, refl, sym, subst, ap, ◌∙◌, arith}
-use Rattle.std.specs.Prelude.{◌≤◌}
+-- The counts of unanswered reads, and the words that the oldest has got, as a queue of reads.
+use Rattle.std.proofs.Common.{◌≡◌, ℕ, zero, suc, ◌+◌, ◌-◌, Bool, true, false, not, ◌&&◌, nat_eq, if◌then◌else◌, List, [], ◌∷◌, ◌++◌, length, map, drop, refl, sym, subst, ap, ◌∙◌, arith}
+use Rattle.std.specs.Prelude.{◌≤◌, ◌<◌}
 use Rattle.std.proofs.lemmas.List.{map-append}
 use Rattle.std.proofs.lemmas.Bool.{eqb-true}
 use Rattle.histories.specs.History.{one_if, only_if}
-use Rattle.net_parts.specs.Places.{held_then, coming}
 use Rattle.mm_parts.specs.Queue.{Entry, answered}
 use Rattle.mm_host.specs.Queued.{IsOldestAnswered}
 use Rattle.mm_host.proofs.Levels.{and_false}
@@ -30,7 +29,7 @@ entries_count got (count ∷ later) = ap suc (each later)
     each [] = refl
     each (x ∷ xs) = ap suc (each xs)
 
-with_coming : (taken : Bool) (count : ℕ) (later : List ℕ) → map entry (later ++ coming taken count) ≡ map entry later ++ only_if taken (entry count)
+with_coming : (taken : Bool) (count : ℕ) (later : List ℕ) → map entry (later ++ only_if taken count) ≡ map entry later ++ only_if taken (entry count)
 with_coming true count later = map-append entry later (count ∷ [])
 with_coming false count later = map-append entry later []
 
@@ -60,13 +59,17 @@ less_by_one lacks = by_case (nat_eq lacks 0) refl
     by_case true e = (let none = eqb-true lacks 0 e in omega (arith, none))
     by_case false e = refl
 
+-- the counts after a cycle: that of a read that is taken comes, and the oldest one goes with its last word
+abbrev pub IsNext : Bool → Bool → ℕ → List ℕ → List ℕ → Type 0
+IsNext last taken count held after = after ≡ drop (one_if last) (held ++ only_if taken count)
+
 pub record Step (came taken : Bool) (count got next : ℕ) (held after : List ℕ) : Type 0 where
   pub queue : entries_of next after ≡ answered came (entries_of got held) ++ only_if taken (entry count)
   pub fits : GotFits next after
 
 -- no read is unanswered
-from_empty : (came read taken last : Bool) (count got next : ℕ) (lacks : ℕ) (after : List ℕ) → got ≡ 0 → IsOldestAnswered came false lacks got last next → after ≡ held_then ((false || read) && last) [] (coming taken count) → Step came taken count got next [] after
-from_empty came read taken last count got next lacks after none o e = record {
+from_empty : (came taken last : Bool) (count got next lacks : ℕ) (after : List ℕ) → got ≡ 0 → IsOldestAnswered came false lacks got last next → IsNext last taken count [] after → Step came taken count got next [] after
+from_empty came taken last count got next lacks after none o e = record {
   queue = ap (λ n. entries_of n after) next_is ∙ ap (entries_of 0) after_is ∙ by_taken taken;
   fits = subst (λ n. GotFits n after) (sym next_is) (fits_start after);
 } where
@@ -79,29 +82,29 @@ from_empty came read taken last count got next lacks after none o e = record {
   next_is : next ≡ 0
   next_is = o.goes ∙ ap (λ t. if t then 0 else got + one_if ((came && false) && not (nat_eq lacks 0))) no_last ∙ ap (λ t. got + one_if (t && not (nat_eq lacks 0))) stays ∙ (let zero_more : got + 0 ≡ 0 = omega (arith, none) in zero_more)
 
-  after_is : after ≡ coming taken count
-  after_is = e ∙ ap (λ t. held_then (read && t) [] (coming taken count)) no_last ∙ ap (λ t. held_then t [] (coming taken count)) (and_false read)
+  after_is : after ≡ only_if taken count
+  after_is = e ∙ ap (λ t. drop (one_if t) (only_if taken count)) no_last
 
-  by_taken : (t : Bool) → entries_of 0 (coming t count) ≡ only_if t (entry count)
+  by_taken : (t : Bool) → entries_of 0 (only_if t count) ≡ only_if t (entry count)
   by_taken true = ap (λ (x : Entry). x ∷ []) (whole_entry count)
   by_taken false = refl
 
 -- some read is, and no word comes
-none_comes : (read taken last : Bool) (oldest count got next : ℕ) (later after : List ℕ) → got ≤ oldest → IsOldestAnswered false true (oldest - got) got last next → after ≡ held_then ((true || read) && last) (oldest ∷ later) (coming taken count) → Step false taken count got next (oldest ∷ later) after
-none_comes read taken last oldest count got next later after few o e = record {
+none_comes : (taken last : Bool) (oldest count got next : ℕ) (later after : List ℕ) → got ≤ oldest → IsOldestAnswered false true (oldest - got) got last next → IsNext last taken count (oldest ∷ later) after → Step false taken count got next (oldest ∷ later) after
+none_comes taken last oldest count got next later after few o e = record {
   queue = ap (λ n. entries_of n after) next_is ∙ ap (entries_of got) after_is ∙ ap (λ (es : List Entry). entry (oldest - got) ∷ es) (with_coming taken count later);
   fits = subst (λ n. GotFits n after) (sym next_is) (subst (GotFits got) (sym after_is) few);
 } where
   next_is : next ≡ got
   next_is = o.goes ∙ ap (λ t. if t then 0 else got + 0) o.ends ∙ (let same : got + 0 ≡ got = omega arith in same)
 
-  after_is : after ≡ oldest ∷ (later ++ coming taken count)
-  after_is = e ∙ ap (λ t. held_then t (oldest ∷ later) (coming taken count)) o.ends
+  after_is : after ≡ oldest ∷ (later ++ only_if taken count)
+  after_is = e ∙ ap (λ t. drop (one_if t) (oldest ∷ (later ++ only_if taken count))) o.ends
 
 -- the last word of the oldest comes
-last_comes : (read taken last : Bool) (oldest count got next : ℕ) (later after : List ℕ) → nat_eq (oldest - got) 1 ≡ true → IsOldestAnswered true true (oldest - got) got last next → after ≡ held_then ((true || read) && last) (oldest ∷ later) (coming taken count) → Step true taken count got next (oldest ∷ later) after
-last_comes read taken last oldest count got next later after one o e = record {
-  queue = ap (λ n. entries_of n after) next_is ∙ ap (entries_of 0) after_is ∙ from_start (later ++ coming taken count) ∙ with_coming taken count later
+last_comes : (taken last : Bool) (oldest count got next : ℕ) (later after : List ℕ) → nat_eq (oldest - got) 1 ≡ true → IsOldestAnswered true true (oldest - got) got last next → IsNext last taken count (oldest ∷ later) after → Step true taken count got next (oldest ∷ later) after
+last_comes taken last oldest count got next later after one o e = record {
+  queue = ap (λ n. entries_of n after) next_is ∙ ap (entries_of 0) after_is ∙ from_start (later ++ only_if taken count) ∙ with_coming taken count later
       ∙ sym (ap (λ t. (if t then map entry later else entry (oldest - got - 1) ∷ map entry later) ++ only_if taken (entry count)) one);
   fits = subst (λ n. GotFits n after) (sym next_is) (fits_start after);
 } where
@@ -111,12 +114,12 @@ last_comes read taken last oldest count got next later after one o e = record {
   next_is : next ≡ 0
   next_is = o.goes ∙ ap (λ t. if t then 0 else got + one_if (not (nat_eq (oldest - got) 0))) is_last
 
-  after_is : after ≡ later ++ coming taken count
-  after_is = e ∙ ap (λ t. held_then t (oldest ∷ later) (coming taken count)) is_last
+  after_is : after ≡ later ++ only_if taken count
+  after_is = e ∙ ap (λ t. drop (one_if t) (oldest ∷ (later ++ only_if taken count))) is_last
 
 -- another word of the oldest comes
-word_comes : (read taken last : Bool) (oldest count got next : ℕ) (later after : List ℕ) → got ≤ oldest → nat_eq (oldest - got) 1 ≡ false → IsOldestAnswered true true (oldest - got) got last next → after ≡ held_then ((true || read) && last) (oldest ∷ later) (coming taken count) → Step true taken count got next (oldest ∷ later) after
-word_comes read taken last oldest count got next later after few other o e = record {
+word_comes : (taken last : Bool) (oldest count got next : ℕ) (later after : List ℕ) → got ≤ oldest → nat_eq (oldest - got) 1 ≡ false → IsOldestAnswered true true (oldest - got) got last next → IsNext last taken count (oldest ∷ later) after → Step true taken count got next (oldest ∷ later) after
+word_comes taken last oldest count got next later after few other o e = record {
   queue = ap (λ n. entries_of n after) next_is ∙ ap (entries_of (got + one_if (not (nat_eq (oldest - got) 0)))) after_is
       ∙ ap (λ (es : List Entry). entry (oldest - (got + one_if (not (nat_eq (oldest - got) 0)))) ∷ es) (with_coming taken count later)
       ∙ ap (λ n. entry n ∷ (map entry later ++ only_if taken (entry count))) lowered
@@ -129,30 +132,44 @@ word_comes read taken last oldest count got next later after few other o e = rec
   next_is : next ≡ got + one_if (not (nat_eq (oldest - got) 0))
   next_is = o.goes ∙ ap (λ t. if t then 0 else got + one_if (not (nat_eq (oldest - got) 0))) not_last
 
-  after_is : after ≡ oldest ∷ (later ++ coming taken count)
-  after_is = e ∙ ap (λ t. held_then t (oldest ∷ later) (coming taken count)) not_last
+  after_is : after ≡ oldest ∷ (later ++ only_if taken count)
+  after_is = e ∙ ap (λ t. drop (one_if t) (oldest ∷ (later ++ only_if taken count))) not_last
 
   lowered : oldest - (got + one_if (not (nat_eq (oldest - got) 0))) ≡ oldest - got - 1
   lowered = (let parts = less_by_one (oldest - got) in omega (arith, parts))
 
+-- the oldest read, where some is unanswered, and what a word does to it
+pub record IsOldest (came some last : Bool) (oldest got next : ℕ) (later held : List ℕ) : Type 0 where
+  pub held_is : held ≡ (if some then oldest ∷ later else [])
+  pub fits : GotFits got held
+  pub answered : got ≤ oldest → IsOldestAnswered came some (oldest - got) got last next
+
+-- one goes only where one is held
+pub some_held : (came some last : Bool) (oldest got next : ℕ) (later held : List ℕ) → IsOldest came some last oldest got next later held → last ≡ true → 0 < length held
+some_held came true last oldest got next later held h e = subst (λ (xs : List ℕ). 0 < length xs) (sym h.held_is) (omega arith)
+some_held came false last oldest got next later held h e =
+    let none = subst (GotFits got) h.held_is h.fits in
+    let ends = (h.answered (omega (arith, none))).ends in
+    let no_last : last ≡ false = ends ∙ ap (λ t. t && nat_eq (oldest - got) 1) (and_false came) in
+    absurd (cc)
+
 -- one cycle of the queue
-pub stepped : (some came read taken last : Bool) (oldest count got next : ℕ) (later held after : List ℕ) → held ≡ (if some then oldest ∷ later else []) → GotFits got held → (got ≤ oldest → IsOldestAnswered came some (oldest - got) got last next) →
-    after ≡ held_then ((some || read) && last) held (coming taken count) → Step came taken count got next held after
-stepped false came read taken last oldest count got next later held after e fits o is =
-    subst (λ (xs : List ℕ). Step came taken count got next xs after) (sym e)
-    (let none = subst (GotFits got) e fits in
-    from_empty came read taken last count got next (oldest - got) after none (o (omega (arith, none))) (is ∙ ap (λ (xs : List ℕ). held_then ((false || read) && last) xs (coming taken count)) e))
-stepped true false read taken last oldest count got next later held after e fits o is =
-    subst (λ (xs : List ℕ). Step false taken count got next xs after) (sym e)
-    (let few = subst (GotFits got) e fits in none_comes read taken last oldest count got next later after few (o few) (is ∙ ap (λ (xs : List ℕ). held_then ((true || read) && last) xs (coming taken count)) e))
-stepped true true read taken last oldest count got next later held after e fits o is = by_case (nat_eq (oldest - got) 1) refl
+pub stepped : (came some taken last : Bool) (oldest count got next : ℕ) (later held after : List ℕ) → IsOldest came some last oldest got next later held → IsNext last taken count held after → Step came taken count got next held after
+stepped came false taken last oldest count got next later held after h is =
+    subst (λ (xs : List ℕ). Step came taken count got next xs after) (sym h.held_is)
+    (let none = subst (GotFits got) h.held_is h.fits in
+    from_empty came taken last count got next (oldest - got) after none (h.answered (omega (arith, none))) (subst (λ (xs : List ℕ). IsNext last taken count xs after) h.held_is is))
+stepped false true taken last oldest count got next later held after h is =
+    subst (λ (xs : List ℕ). Step false taken count got next xs after) (sym h.held_is)
+    (let few = subst (GotFits got) h.held_is h.fits in none_comes taken last oldest count got next later after few (h.answered few) (subst (λ (xs : List ℕ). IsNext last taken count xs after) h.held_is is))
+stepped true true taken last oldest count got next later held after h is = by_case (nat_eq (oldest - got) 1) refl
   where
     few : got ≤ oldest
-    few = subst (GotFits got) e fits
+    few = subst (GotFits got) h.held_is h.fits
 
-    here : after ≡ held_then ((true || read) && last) (oldest ∷ later) (coming taken count)
-    here = is ∙ ap (λ (xs : List ℕ). held_then ((true || read) && last) xs (coming taken count)) e
+    here : IsNext last taken count (oldest ∷ later) after
+    here = subst (λ (xs : List ℕ). IsNext last taken count xs after) h.held_is is
 
     by_case : (t : Bool) → nat_eq (oldest - got) 1 ≡ t → Step true taken count got next held after
-    by_case true one = subst (λ (xs : List ℕ). Step true taken count got next xs after) (sym e) (last_comes read taken last oldest count got next later after one (o few) here)
-    by_case false other = subst (λ (xs : List ℕ). Step true taken count got next xs after) (sym e) (word_comes read taken last oldest count got next later after few other (o few) here)
+    by_case true one = subst (λ (xs : List ℕ). Step true taken count got next xs after) (sym h.held_is) (last_comes taken last oldest count got next later after one (h.answered few) here)
+    by_case false other = subst (λ (xs : List ℕ). Step true taken count got next xs after) (sym h.held_is) (word_comes taken last oldest count got next later after few other (h.answered few) here)

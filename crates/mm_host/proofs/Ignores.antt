@@ -1,5 +1,5 @@
 -- The command of a host depends on the host and on the registers alone.
-use Rattle.std.proofs.Common.{◌≡◌, ℕ, Bool, false, not, ◌&&◌, nat_eq, nat_lt, List, [], ◌∷◌, Option, Some, None, refl, sym, subst, ap, ◌∙◌, inl, inr}
+use Rattle.std.proofs.Common.{◌≡◌, ℕ, Bool, false, not, ◌&&◌, nat_eq, nat_lt, Option, Some, None, refl, sym, ap, ◌∙◌, inl, inr}
 use Rattle.histories.specs.History.{is_raised, one_if}
 use Rattle.iface_roles.specs.declared.records.HostPort.{HostPort}
 use Rattle.netlist.specs.Nets.{NetValue}
@@ -14,12 +14,8 @@ use Rattle.mm_host.specs.declared.reads.HeldReads.TheVariants.{Never, Asks, Coun
 use Rattle.mm_host.specs.declared.writes.HeldWrites.{HeldWrites}
 use Rattle.mm_host.specs.declared.host.HeldHost.{HeldHost}
 use Rattle.mm_host.specs.Hosts.{bursts}
-use Rattle.mm_host.specs.Reads.{owns_reads, AreReadsHeld}
+use Rattle.mm_host.specs.Reads.{owns_reads, AreCounted, AreReadsHeld}
 use Rattle.mm_host.specs.Writes.{owns_writes, AreWritesHeld, beats_of}
-use Rattle.net_parts.specs.declared.places.PlaceNets.{PlaceNets}
-use Rattle.net_parts.specs.PlaceRows.{InRow, last_full}
-use Rattle.mm_host.specs.declared.queue.RowEnds.{RowEnds}
-use Rattle.mm_host.specs.Queued.{AreEnds}
 use Rattle.mm_host.specs.Forms.{IsHeld, IgnoresAnswer}
 use Rattle.command_nets.specs.Levels.{bit_same}
 use Rattle.command_nets.specs.Ports.{HasNet, value_or, all_ones, SameLevel}
@@ -37,25 +33,19 @@ level_same : (level : ℕ) (net : Option NetValue) (one other : Cycle) → SameL
 level_same level None one other h = refl
 level_same level (Some net) one other h = h
 
-last_in : (first : PlaceNets 1) (rest : List (PlaceNets 1)) → InRow (first ∷ rest) (last_full first rest).number
-last_in first [] = inl (inl refl)
-last_in first (next ∷ rest) = inr (last_in next rest)
-
-in_row : (row : List (PlaceNets 1)) (ends : RowEnds) → AreEnds row ends → InRow row ends.full.number
-in_row row ends e = subst (λ (xs : List (PlaceNets 1)). InRow xs ends.full.number) (sym e.split) (subst (λ (n : NetValue). InRow (e.first ∷ e.rest) n.number) (sym e.full) (last_in e.first e.rest))
-
 module _ (netlist : Netlist) (port : HostPort) (one other : Cycle) (v : IsValuation netlist one) (w : IsValuation netlist other) where
-  read_same : (read count shown : NetValue) (reads : HeldReads) → AreReadsHeld netlist port read count shown reads → ((n : ℕ) → owns_reads reads n → one.net n ≡ other.net n) → one.net read.number ≡ other.net read.number → is_raised (one.net shown.number) ≡ is_raised (other.net shown.number)
-  read_same read count shown Never k state e = ap (λ (n : NetValue). is_raised (one.net n.number)) k.shows ∙ ap is_raised e ∙ sym (ap (λ (n : NetValue). is_raised (other.net n.number)) k.shows)
-  read_same read count shown (Asks asked) k state e =
-      k.shows one v ∙ ap (λ n. is_raised n && not (is_raised (one.net asked.number))) e ∙ ap (λ n. is_raised (other.net read.number) && not (is_raised n)) (state asked.number refl) ∙ sym (k.shows other w)
-  read_same read count shown (Counts unanswered full) k state e =
-      (let full_same : is_raised (one.net full.number) ≡ is_raised (other.net full.number) = k.is_full one v ∙ ap (λ n. not (nat_lt n 16)) (state unanswered.number refl) ∙ sym (k.is_full other w) in
+  counted_same : (read shown unanswered full : NetValue) → AreCounted netlist read shown unanswered full → one.net unanswered.number ≡ other.net unanswered.number → one.net read.number ≡ other.net read.number → is_raised (one.net shown.number) ≡ is_raised (other.net shown.number)
+  counted_same read shown unanswered full k same e =
+      (let full_same : is_raised (one.net full.number) ≡ is_raised (other.net full.number) = k.is_full one v ∙ ap (λ n. not (nat_lt n 16)) same ∙ sym (k.is_full other w) in
       k.shows one v ∙ ap (λ n. is_raised n && not (is_raised (one.net full.number))) e ∙ ap (λ t. is_raised (other.net read.number) && not t) full_same ∙ sym (k.shows other w))
-  read_same read count shown (Queues queue) k state e =
-      (let full_same : one.net queue.ends.full.number ≡ other.net queue.ends.full.number = state queue.ends.full.number (inl (in_row queue.row queue.ends k.made.ends)) in
-      k.shows one v ∙ ap (λ n. is_raised n && not (is_raised (one.net queue.ends.full.number))) e ∙ ap (λ n. is_raised (other.net read.number) && not (is_raised n)) full_same ∙ sym (k.shows other w))
-  read_same read count shown Unbounded k state e = ap (λ (n : NetValue). is_raised (one.net n.number)) k.shows ∙ ap is_raised e ∙ sym (ap (λ (n : NetValue). is_raised (other.net n.number)) k.shows)
+
+  read_same : (read shown : NetValue) (reads : HeldReads) → AreReadsHeld netlist port read shown reads → ((n : ℕ) → owns_reads reads n → one.net n ≡ other.net n) → one.net read.number ≡ other.net read.number → is_raised (one.net shown.number) ≡ is_raised (other.net shown.number)
+  read_same read shown Never k state e = ap (λ (n : NetValue). is_raised (one.net n.number)) k.shows ∙ ap is_raised e ∙ sym (ap (λ (n : NetValue). is_raised (other.net n.number)) k.shows)
+  read_same read shown (Asks asked) k state e =
+      k.shows one v ∙ ap (λ n. is_raised n && not (is_raised (one.net asked.number))) e ∙ ap (λ n. is_raised (other.net read.number) && not (is_raised n)) (state asked.number refl) ∙ sym (k.shows other w)
+  read_same read shown (Counts unanswered full) k state e = counted_same read shown unanswered full k.counted (state unanswered.number refl) e
+  read_same read shown (Queues unanswered full) k state e = counted_same read shown unanswered full k.counted (state unanswered.number refl) e
+  read_same read shown Unbounded k state e = ap (λ (n : NetValue). is_raised (one.net n.number)) k.shows ∙ ap is_raised e ∙ sym (ap (λ (n : NetValue). is_raised (other.net n.number)) k.shows)
 
   more_same : (write count more : NetValue) (writes : Option HeldWrites) → AreWritesHeld netlist port write count more writes → ((n : ℕ) → owns_writes writes n → one.net n ≡ other.net n) → one.net write.number ≡ other.net write.number → one.net count.number ≡ other.net count.number → one.net more.number ≡ other.net more.number
   more_same write count more None k state e f = k.low one v ∙ sym (k.low other w)
@@ -76,7 +66,7 @@ ignores port netlist held h one other v w state same =
     let write : one.net held.command.write.number ≡ other.net held.command.write.number = a.write ∙ level_same 0 held.nets.write one other same.write ∙ sym b.write in
     let count : one.net held.command.count.number ≡ other.net held.command.count.number = a.count ∙ level_same 1 held.nets.burstcount one other same.burstcount ∙ sym b.count in
     raw_same
-    (bit_same _ _ (bit_fits netlist held.command.read h.shown one v) (bit_fits netlist held.command.read h.shown other w) (read_same netlist port one other v w held.read held.command.count held.command.read held.reads h.reads (λ n o. state n (inl o)) read))
+    (bit_same _ _ (bit_fits netlist held.command.read h.shown one v) (bit_fits netlist held.command.read h.shown other w) (read_same netlist port one other v w held.read held.command.read held.reads h.reads (λ n o. state n (inl o)) read))
     write
     (a.address ∙ ap (byte_address (host_side port).shape) same.address ∙ sym b.address)
     (a.word ∙ level_same 0 held.nets.writedata one other same.writedata ∙ sym b.word)

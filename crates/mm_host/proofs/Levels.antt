@@ -94,7 +94,7 @@ pub if_both : {X E : Type 0} (r : Result X E) (P Q R : X → Type 0) → ((x : X
 if_both (Ok x) P Q R f h k = f x h k
 if_both (Err e) P Q R f h k = tt
 
-raised_any : (t : Bool) (some : ℕ) → some ≡ (if t then 0 else 1) → is_raised some ≡ not t
+pub raised_any : (t : Bool) (some : ℕ) → some ≡ (if t then 0 else 1) → is_raised some ≡ not t
 raised_any true some e = ap is_raised e
 raised_any false some e = ap is_raised e
 
@@ -135,3 +135,11 @@ fits_in_two bits wanted = by_test (bits == wanted)
     by_test : (t : Bool) → (if t then 0 else 2) ≤ 2
     by_test true = omega arith
     by_test false = omega arith
+
+-- a number above 16 takes five bits
+pub five_bits : (bits : ℕ) → 16 < 2 ^ bits → 5 ≤ bits
+five_bits bits high = by_case (nat_lt bits 5) refl
+  where
+    by_case : (t : Bool) → nat_lt bits 5 ≡ t → 5 ≤ bits
+    by_case true below = (let low = ltb-true bits 5 below in let few : bits ≤ 4 = omega (arith, low) in let most = pow_mono few in absurd (omega (arith, most, high)))
+    by_case false above = ltb-false bits 5 above

@@ -1,7 +1,7 @@
 pub mod Levels
+pub mod Memories
 pub mod Queues
 pub mod Bursts
-pub mod Ends
 pub mod BurstRuns
 pub mod Machine
 pub mod Ignores

@@ -26,11 +26,9 @@ use Rattle.mm_host.specs.Reads.{AreReadsHeld, ReadsQueue, ReadsGoOn, is_unbounde
 use Rattle.mm_host.specs.Writes.{AreWritesHeld, WritesGoOn}
 use Rattle.mm_host.specs.Forms.{IsHeld, HostGoesOn, IsBoundedBelow, shape_below, valid_of}
 use Rattle.mm_host.proofs.Ignores.{single}
-use Rattle.net_parts.specs.Places.{held_of}
-use Rattle.mm_host.specs.declared.queue.HeldQueue.{HeldQueue}
 use Rattle.mm_host.specs.Queued.{QueuesOn}
-use Rattle.mm_host.proofs.Bursts.{entry, entries_of, entries_count}
-use Rattle.mm_host.proofs.BurstRuns.{counts_at, full_is, step, fits, none_yet}
+use Rattle.mm_host.proofs.Bursts.{entry}
+use Rattle.mm_host.proofs.BurstRuns.{reads_of, full_is, begins, step}
 use Rattle.mm_host.proofs.Queues.{one_word, words_of, words_count, words_next}
 
 -- ---- bits
@@ -113,30 +111,16 @@ room shown wait read u e fits = by_case (nat_lt u 16) refl
 
 -- ---- the state
 
--- `unbounded` is the number of unanswered reads where no register has it
-abbrev pub queue_of : HeldReads → (ℕ → ℕ) → Run → ℕ → List Entry
-queue_of Never unbounded run c = []
-queue_of (Asks asked) unbounded run c = []
-queue_of (Counts unanswered full) unbounded run c = words_of (run.net c unanswered.number)
-queue_of (Queues queue) unbounded run c = entries_of (run.net c queue.got.number) (held_of (counts_at (cycle_of run c) queue.row))
-queue_of Unbounded unbounded run c = words_of (unbounded c)
-
 abbrev pub asked_of : HeldReads → Run → ℕ → Bool
 asked_of Never run c = false
 asked_of (Asks asked) run c = is_raised (run.net c asked.number)
 asked_of (Counts unanswered full) run c = false
-asked_of (Queues queue) run c = false
+asked_of (Queues unanswered full) run c = false
 asked_of Unbounded run c = false
 
 abbrev pub left_of : Option HeldWrites → Run → ℕ → ℕ
 left_of None run c = 0
 left_of (Some held) run c = run.net c held.left.number
-
-abbrev pub state_of : HeldHost → (ℕ → ℕ) → Run → HostState
-state_of held unbounded run = record { queue = queue_of held.reads unbounded run; left = left_of held.writes run; asked = asked_of held.reads run }
-
-abbrev shut_of : HostPort → HeldReads → (ℕ → ℕ) → Run → ℕ → Bool
-shut_of port reads unbounded run c = if port.readdatavalid then not (nat_lt (length (queue_of reads unbounded run c)) 16) else asked_of reads run c
 
 -- fewer than 16 shut no read out
 open_below : (n : ℕ) → n < 16 → not (nat_lt (length (words_of n)) 16) ≡ false
@@ -179,50 +163,64 @@ module _ (port : HostPort) (held : HeldHost) (wait : NetValue) (answer : AnswerN
 
   -- ---- reads
 
-  queue_full : (queue : HeldQueue) → ReadsQueue netlist port held.read held.command.count held.command.read queue → QueuesOn netlist held.read held.command.count held.command.read queue wait answer.valid made.waitrequest → (c : ℕ) →
-      is_raised (run.net c queue.ends.full.number) ≡ not (nat_lt (length (queue_of (Queues queue) U run c)) 16)
-  queue_full queue k l c =
-      full_is netlist port held.read held.command.count held.command.read queue wait answer.valid made.waitrequest k.made l run endless (λ c. k.shows (cycle_of run c) (val c)) c
-      ∙ ap (λ n. not (nat_lt n 16)) (sym (entries_count (run.net c queue.got.number) (held_of (counts_at (cycle_of run c) queue.row))))
+  abbrev Kept : HeldReads → Type 0
+  Kept reads = AreReadsHeld netlist port held.read held.command.read reads
 
-  bursts_on : (queue : HeldQueue) → ReadsQueue netlist port held.read held.command.count held.command.read queue → QueuesOn netlist held.read held.command.count held.command.read queue wait answer.valid made.waitrequest → (end : ℕ) →
-      QueuesReads (port_in (shape_below port) run held.command wait answer) (λ c. run.net c answer.valid.number) (queue_of (Queues queue) U run) end
-  bursts_on queue k l end = record {
-    begins = ap (entries_of (run.net 0 queue.got.number)) (none_yet netlist port held.read held.command.count held.command.read queue wait answer.valid made.waitrequest k.made l run endless shows);
+  abbrev On : HeldReads → Type 0
+  On reads = ReadsGoOn netlist held.read held.command.count held.command.read wait answer.valid made.waitrequest reads
+
+  -- the reads that aren't answered: where no register has their number, the run does
+  abbrev queue_of : (reads : HeldReads) → On reads → ℕ → List Entry
+  queue_of Never l c = []
+  queue_of (Asks asked) l c = []
+  queue_of (Counts unanswered full) l c = words_of (run.net c unanswered.number)
+  queue_of (Queues unanswered full) l c = reads_of l.words.queue l.words.got run c
+  queue_of Unbounded l c = words_of (U c)
+
+  abbrev shut_of : (reads : HeldReads) → On reads → ℕ → Bool
+  shut_of reads l c = if port.readdatavalid then not (nat_lt (length (queue_of reads l c)) 16) else asked_of reads run c
+
+  queue_full : (unanswered full : NetValue) → ReadsQueue netlist port held.read held.command.read unanswered full → (l : QueuesOn netlist held.read held.command.count held.command.read unanswered full wait answer.valid made.waitrequest) → (c : ℕ) →
+      is_raised (run.net c full.number) ≡ not (nat_lt (length (reads_of l.words.queue l.words.got run c)) 16)
+  queue_full unanswered full k l c = full_is netlist held.read held.command.count held.command.read unanswered full wait answer.valid made.waitrequest k.counted l run endless c
+
+  bursts_on : (unanswered full : NetValue) → ReadsQueue netlist port held.read held.command.read unanswered full → (l : QueuesOn netlist held.read held.command.count held.command.read unanswered full wait answer.valid made.waitrequest) → (end : ℕ) →
+      QueuesReads (port_in (shape_below port) run held.command wait answer) (λ c. run.net c answer.valid.number) (reads_of l.words.queue l.words.got run) end
+  bursts_on unanswered full k l end = record {
+    begins = begins netlist held.read held.command.count held.command.read unanswered full wait answer.valid made.waitrequest k.counted l run endless;
     next = λ c lt.
-        (step netlist port held.read held.command.count held.command.read queue wait answer.valid made.waitrequest k.made l run endless shows c
-        (fits netlist port held.read held.command.count held.command.read queue wait answer.valid made.waitrequest k.made l run endless shows c)).queue
-        ∙ ap (λ t. answered (V c) (queue_of (Queues queue) U run c) ++ only_if t (entry (run.net c held.command.count.number))) (sym (read_taken (D c) (W c) (N c)))
-        ∙ ap (λ n. answered (V c) (queue_of (Queues queue) U run c) ++ only_if (((D c || W c) && not (N c)) && D c) (record { tag = n; left = run.net c held.command.count.number })) (sym (h.values (cycle_of run c) (val c)).tag);
+        (step netlist held.read held.command.count held.command.read unanswered full wait answer.valid made.waitrequest k.counted l run endless c).queue
+        ∙ ap (λ t. answered (V c) (queue c) ++ only_if t (entry (run.net c held.command.count.number))) (sym (read_taken (D c) (W c) (N c)))
+        ∙ ap (λ n. answered (V c) (queue c) ++ only_if (((D c || W c) && not (N c)) && D c) (record { tag = n; left = run.net c held.command.count.number })) (sym (h.values (cycle_of run c) (val c)).tag);
   } where
-    shows : (c : ℕ) → D c ≡ (R c && not (is_raised (run.net c queue.ends.full.number)))
-    shows c = k.shows (cycle_of run c) (val c)
+    queue : ℕ → List Entry
+    queue = reads_of l.words.queue l.words.got run
 
-  shown_raised : (reads : HeldReads) → AreReadsHeld netlist port held.read held.command.count held.command.read reads → ReadsGoOn netlist held.read held.command.count held.command.read wait answer.valid made.waitrequest reads → (c : ℕ) → (IsTrue (is_unbounded reads) → U c < 16) → D c ≡ (R c && not (shut_of port reads U run c))
+  shown_raised : (reads : HeldReads) → Kept reads → (l : On reads) → (c : ℕ) → (IsTrue (is_unbounded reads) → U c < 16) → D c ≡ (R c && not (shut_of reads l c))
   shown_raised Never k l c few = ap (λ (n : NetValue). is_raised (run.net c n.number)) k.shows ∙ sym (and_true (R c)) ∙ rw k.kind refl
   shown_raised (Asks asked) k l c few = k.shows (cycle_of run c) (val c) ∙ rw k.kind refl
   shown_raised (Counts unanswered full) k l c few =
-      k.shows (cycle_of run c) (val c) ∙ ap (λ t. R c && not t) (k.is_full (cycle_of run c) (val c) ∙ ap (λ n. not (nat_lt n 16)) (sym (words_count (run.net c unanswered.number)))) ∙ rw k.kind refl
-  shown_raised (Queues queue) k l c few = k.shows (cycle_of run c) (val c) ∙ ap (λ t. R c && not t) (queue_full queue k l c) ∙ rw k.kind refl
+      k.counted.shows (cycle_of run c) (val c) ∙ ap (λ t. R c && not t) (k.counted.is_full (cycle_of run c) (val c) ∙ ap (λ n. not (nat_lt n 16)) (sym (words_count (run.net c unanswered.number)))) ∙ rw k.kind refl
+  shown_raised (Queues unanswered full) k l c few = k.counted.shows (cycle_of run c) (val c) ∙ ap (λ t. R c && not t) (queue_full unanswered full k l c) ∙ rw k.kind refl
   shown_raised Unbounded k l c few = ap (λ (n : NetValue). is_raised (run.net c n.number)) k.shows ∙ sym (and_true (R c)) ∙ ap (λ t. R c && not t) (sym (open_below (U c) (few refl))) ∙ rw k.kind refl
 
-  told_is : (reads : HeldReads) → AreReadsHeld netlist port held.read held.command.count held.command.read reads → ReadsGoOn netlist held.read held.command.count held.command.read wait answer.valid made.waitrequest reads → (c : ℕ) → (IsTrue (is_unbounded reads) → U c < 16) →
-      is_raised (run.net c made.waitrequest.number) ≡ (if R c && not port.readdatavalid then not (asked_of reads run c && V c) else (shut_of port reads U run c && R c) || N c)
+  told_is : (reads : HeldReads) → Kept reads → (l : On reads) → (c : ℕ) → (IsTrue (is_unbounded reads) → U c < 16) →
+      is_raised (run.net c made.waitrequest.number) ≡ (if R c && not port.readdatavalid then not (asked_of reads run c && V c) else (shut_of reads l c && R c) || N c)
   told_is Never k l c few = rw k.kind (told_never (R c) (N c) _ _ (ap (λ (n : NetValue). is_raised (run.net c n.number)) l) (ap is_raised (k.low (cycle_of run c) (val c))))
   told_is (Asks asked) k l c few = rw k.kind (told_asks (R c) _ (V c) (N c) _ (l.tells (cycle_of run c) (val c)))
   told_is (Counts unanswered full) k l c few =
-      rw k.kind (told_counts (R c) _ _ (N c) _ _ (l.tells (cycle_of run c) (val c)) (k.is_full (cycle_of run c) (val c) ∙ ap (λ n. not (nat_lt n 16)) (sym (words_count (run.net c unanswered.number)))))
-  told_is (Queues queue) k l c few = rw k.kind (told_counts (R c) _ _ (N c) _ _ (l.tells (cycle_of run c) (val c)) (queue_full queue k l c))
+      rw k.kind (told_counts (R c) _ _ (N c) _ _ (l.tells (cycle_of run c) (val c)) (k.counted.is_full (cycle_of run c) (val c) ∙ ap (λ n. not (nat_lt n 16)) (sym (words_count (run.net c unanswered.number)))))
+  told_is (Queues unanswered full) k l c few = rw k.kind (told_counts (R c) _ _ (N c) _ _ (l.tells (cycle_of run c) (val c)) (queue_full unanswered full k l c))
   told_is Unbounded k l c few = rw k.kind (told_counts (R c) false _ (N c) _ _ (ap (λ (n : NetValue). is_raised (run.net c n.number)) l) (sym (open_below (U c) (few refl))))
 
-  quiet_at : (reads : HeldReads) → AreReadsHeld netlist port held.read held.command.count held.command.read reads → asked_of reads run 0 ≡ false
+  quiet_at : (reads : HeldReads) → Kept reads → asked_of reads run 0 ≡ false
   quiet_at Never k = refl
   quiet_at (Asks asked) k = ap is_raised (k.starts run 1 (endless 1) (omega arith))
   quiet_at (Counts unanswered full) k = refl
-  quiet_at (Queues queue) k = refl
+  quiet_at (Queues unanswered full) k = refl
   quiet_at Unbounded k = refl
 
-  asks_on : (reads : HeldReads) → AreReadsHeld netlist port held.read held.command.count held.command.read reads → ReadsGoOn netlist held.read held.command.count held.command.read wait answer.valid made.waitrequest reads → IsFalse port.readdatavalid → (c : ℕ) →
+  asks_on : (reads : HeldReads) → Kept reads → On reads → IsFalse port.readdatavalid → (c : ℕ) →
       asked_of reads run (suc c) ≡ ((asked_of reads run c || (((D c || W c) && not (N c)) && D c)) && not (V c))
   asks_on Never k l none c =
       (let low : D c ≡ false = ap (λ (n : NetValue). is_raised (run.net c n.number)) k.shows ∙ ap is_raised (k.low (cycle_of run c) (val c)) in
@@ -231,7 +229,7 @@ module _ (port : HostPort) (held : HeldHost) (wait : NetValue) (answer : AnswerN
       ap (λ n. is_raised (run.net n asked.number)) (sym (next_cycle c)) ∙ l.next run (c + 2) (endless (c + 2)) c (omega arith)
       ∙ ap (λ t. (is_raised (run.net c asked.number) || t) && not (V c)) (sym (read_taken (D c) (W c) (N c)))
   asks_on (Counts unanswered full) k l none c = absurd (let some = k.kind in cc)
-  asks_on (Queues queue) k l none c = absurd (let some = k.kind in cc)
+  asks_on (Queues unanswered full) k l none c = absurd (let some = k.kind in cc)
   asks_on Unbounded k l none c = absurd (let some = k.kind in cc)
 
   -- a host without bursts asks for one word
@@ -241,17 +239,17 @@ module _ (port : HostPort) (held : HeldHost) (wait : NetValue) (answer : AnswerN
       entries : {tag count : ℕ} → tag ≡ 0 → count ≡ 1 → ◌≡◌ {A = Entry} (record { tag = tag; left = count }) one_word
       entries {tag} {count} e f = ap (λ n. record { tag = n; left = count }) e ∙ ap (λ n. record { tag = 0; left = n }) f
 
-  queue_on : (reads : HeldReads) → AreReadsHeld netlist port held.read held.command.count held.command.read reads → ReadsGoOn netlist held.read held.command.count held.command.read wait answer.valid made.waitrequest reads → IsTrue port.readdatavalid → (end : ℕ) →
-      QueuesReads (port_in (shape_below port) run held.command wait answer) (λ c. run.net c answer.valid.number) (queue_of reads U run) end
+  queue_on : (reads : HeldReads) → Kept reads → (l : On reads) → IsTrue port.readdatavalid → (end : ℕ) →
+      QueuesReads (port_in (shape_below port) run held.command wait answer) (λ c. run.net c answer.valid.number) (queue_of reads l) end
   queue_on Never k l some end = absurd (let none = k.kind in cc)
   queue_on (Asks asked) k l some end = absurd (let none = k.kind in cc)
-  queue_on (Queues queue) k l some end = bursts_on queue k l end
+  queue_on (Queues unanswered full) k l some end = bursts_on unanswered full k l end
   queue_on (Counts unanswered full) k l some end = record {
-    begins = ap words_of (k.starts run 1 (endless 1) (omega arith));
+    begins = ap words_of (k.counted.starts run 1 (endless 1) (omega arith));
     next = λ c lt.
         (let cycle : Cycle = cycle_of run c in
         let v = val c in
-        let few = room (D c) (N c) (R c) (run.net c unanswered.number) (k.shows cycle v ∙ ap (λ t. R c && not t) (k.is_full cycle v)) (width_fits netlist unanswered 5 k.net cycle v) in
+        let few = room (D c) (N c) (R c) (run.net c unanswered.number) (k.counted.shows cycle v ∙ ap (λ t. R c && not t) (k.counted.is_full cycle v)) (width_fits netlist unanswered 5 k.counted.net cycle v) in
         words_next (run.net c unanswered.number) (run.net (suc c) unanswered.number) (V c) (D c && not (N c)) _ _ (read_taken (D c) (W c) (N c)) (one_entry k.words c)
         (ap (λ n. run.net n unanswered.number) (sym (next_cycle c)) ∙ l.next run (c + 2) (endless (c + 2)) c (omega arith) few));
   }
@@ -289,14 +287,17 @@ module _ (port : HostPort) (held : HeldHost) (wait : NetValue) (answer : AnswerN
   valid_is : (valid : Option NetValue) → valid ≡ valid_of port answer.valid → IsTrue port.readdatavalid → (c : ℕ) → is_raised (value_or 0 valid (cycle_of run c)) ≡ V c
   valid_is valid e some c = ap (λ (o : Option NetValue). is_raised (value_or 0 o (cycle_of run c))) (e ∙ ap (λ t. if t then Some answer.valid else None) some)
 
-  pub machine : (end : ℕ) → IsBoundedBelow held wait answer run end → IsHostMachine AreZero (host_side port) (host_view port held.nets made run) (port_in (shape_below port) run held.command wait answer) (state_of held U run) end
+  abbrev pub state : HostState
+  state = record { queue = queue_of held.reads g.reads; left = left_of held.writes run; asked = asked_of held.reads run }
+
+  pub machine : (end : ℕ) → IsBoundedBelow held wait answer run end → IsHostMachine AreZero (host_side port) (host_view port held.nets made run) (port_in (shape_below port) run held.command wait answer) state end
   machine end few = record {
     words = refl;
     units = refl;
     bursts = refl;
     read = λ c lt.
-        gated (shut_of port held.reads U run c) _ _ (bit_fits netlist held.command.read h.shown (cycle_of run c) (val c)) (bit_fits netlist held.read h.fields.read (cycle_of run c) (val c)) (shown_raised held.reads h.reads g.reads c (λ some. few some c lt))
-        ∙ ap (λ n. if shut_of port held.reads U run c then 0 else n) (read_is c);
+        gated (shut_of held.reads g.reads c) _ _ (bit_fits netlist held.command.read h.shown (cycle_of run c) (val c)) (bit_fits netlist held.read h.fields.read (cycle_of run c) (val c)) (shown_raised held.reads h.reads g.reads c (λ some. few some c lt))
+        ∙ ap (λ n. if shut_of held.reads g.reads c then 0 else n) (read_is c);
     write = λ c lt. write_is c;
     address = λ c lt. (h.values (cycle_of run c) (val c)).address;
     word = λ c lt. (h.values (cycle_of run c) (val c)).word;
@@ -308,7 +309,7 @@ module _ (port : HostPort) (held : HeldHost) (wait : NetValue) (answer : AnswerN
         (more_is held.writes h.writes c));
     tag = λ c lt. (h.values (cycle_of run c) (val c)).tag;
     wait = λ c lt.
-        subst (λ r. is_raised (run.net c made.waitrequest.number) ≡ (if is_raised r && not port.readdatavalid then not (asked_of held.reads run c && V c) else (shut_of port held.reads U run c && is_raised r) || N c)) (read_is c)
+        subst (λ r. is_raised (run.net c made.waitrequest.number) ≡ (if is_raised r && not port.readdatavalid then not (asked_of held.reads run c && V c) else (shut_of held.reads g.reads c && is_raised r) || N c)) (read_is c)
         (told_is held.reads h.reads g.reads c (λ some. few some c lt));
     starts = left_at held.writes h.writes;
     lasts = λ c lt.

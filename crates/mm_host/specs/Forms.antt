@@ -51,7 +51,7 @@ pub record IsHeld (netlist : Netlist) (port : HostPort) (held : HeldHost) : Type
   pub more : IsBit netlist held.command.more
   pub fields : AreFields netlist port (fields_of held)
   pub values : Always netlist (ShowFields port held.nets (fields_of held))
-  pub reads : AreReadsHeld netlist port held.read held.command.count held.command.read held.reads
+  pub reads : AreReadsHeld netlist port held.read held.command.read held.reads
   pub writes : AreWritesHeld netlist port held.command.write held.command.count held.command.more held.writes
   pub apart : (n : ℕ) → owns_reads held.reads n → owns_writes held.writes n → ⊥
 
@@ -149,7 +149,7 @@ held_lasts old new port held h e = record {
   more = net_lasts old new held.command.more 1 e h.more;
   fields = fields_last old new port (fields_of held) h.fields e;
   values = λ cycle v. h.values cycle (e.valuations cycle v);
-  reads = reads_last old new port held.read held.command.count held.command.read held.reads h.reads e;
+  reads = reads_last old new port held.read held.command.read held.reads h.reads e;
   writes = writes_last old new port held.command.write held.command.count held.command.more held.writes h.writes e;
   apart = h.apart;
 }

@@ -1,65 +1,35 @@
--- The unanswered reads of a host that reads in bursts: a row of 16 places holds their counts, and a register the words that the oldest has got.
-use Rattle.std.specs.Prelude.{◌≡◌, ℕ, ◌+◌, ◌-◌, ◌≤◌, Bool, not, ◌&&◌, ◌||◌, nat_eq, if◌then◌else◌, List, [], ◌∷◌, length, ◌⊎◌}
-use Rattle.std.proofs.Common.{inl, inr}
+-- The unanswered reads of a host that reads in bursts: a queue holds their counts, and a register the words that the oldest has got.
+use Rattle.std.specs.Prelude.{◌≡◌, ℕ, ◌+◌, ◌-◌, ◌≤◌, Bool, not, ◌&&◌, ◌||◌, nat_eq, if◌then◌else◌, ◌⊎◌, List, [], ◌∷◌}
 use Rattle.histories.specs.History.{is_raised, one_if}
-use Rattle.iface_roles.specs.declared.records.HostPort.{HostPort}
 use Rattle.netlist.specs.Nets.{NetValue}
-use Rattle.netlist.specs.Netlists.{Netlist, IsWaiting}
+use Rattle.netlist.specs.Netlists.{Netlist}
 use Rattle.netlist.specs.Runs.{Always}
 use Rattle.netlist.specs.Longer.{Extends}
 use Rattle.net_parts.specs.Nets.{IsBit, IsNetOfWidth, StartsLow, TakesNext}
 use Rattle.net_parts.specs.Laws.{net_lasts}
-use Rattle.net_parts.specs.Groups.{AreNumberedFrom}
-use Rattle.net_parts.specs.declared.places.PlaceNets.{PlaceNets}
-use Rattle.net_parts.specs.PlaceRows.{nets_of, ArePlaceNets, HaveSameWidths, IsRow, InRow, StartsAllEmpty, StepsRow, last_full}
-use Rattle.net_parts.specs.RowLaws.{place_lasts}
-use Rattle.memory_sides.specs.Sides.{burst_width}
-use Rattle.mm_host.specs.declared.queue.RowEnds.{RowEnds}
-use Rattle.mm_host.specs.declared.queue.HeldQueue.{HeldQueue}
+use Rattle.item_queues.specs.declared.queue.ItemQueue.{ItemQueue}
+use Rattle.item_queues.specs.Storages.{shown_oldest}
+use Rattle.item_queues.specs.Queues.{owns, IsQueueMade, StartsEmpty, StepsQueue, held_in}
+use Rattle.item_queues.specs.Laws.{starts_last, steps_last}
+use Rattle.mm_host.specs.declared.queue.HeldWords.{HeldWords}
 
--- ---- after the first call
+-- ---- the queue as it is made
 
-abbrev pub owns_queue : HeldQueue → ℕ → Type 0
-owns_queue held n = InRow held.row n ⊎ (n ≡ held.got.number)
+-- its registers
+abbrev pub owns_words : HeldWords → ℕ → Type 0
+owns_words held n = owns held.queue n ⊎ (n ≡ held.got.number)
 
--- what comes into the row
-abbrev pub incoming : NetValue → NetValue → PlaceNets 1
-incoming read count = record { full = read; item = count ∷ [] }
-
--- the registers of a place, which need not wait
-pub record IsPlaceAt (netlist : Netlist) (like place : PlaceNets 1) (from : ℕ) : Type 0 where
-  pub nets : ArePlaceNets netlist place
-  pub widths : HaveSameWidths place like
-  pub numbers : AreNumberedFrom from (nets_of place)
-
--- those of a row go on from place to place
-abbrev pub ArePlaces : Netlist → PlaceNets 1 → ℕ → List (PlaceNets 1) → Type 0
-ArePlaces netlist like from [] = Unit {0}
-ArePlaces netlist like from (place ∷ row) = IsPlaceAt netlist like place from × ArePlaces netlist like (from + length (nets_of place)) row
-
--- the first place holds the oldest read, and where the last one is full there is no room
-pub record AreEnds (row : List (PlaceNets 1)) (ends : RowEnds) : Type 0 where
-  pub first : PlaceNets 1
-  pub rest : List (PlaceNets 1)
-  pub split : row ≡ first ∷ rest
-  pub some : ends.some ≡ first.full
-  pub beats : first.item ≡ ends.beats ∷ []
-  pub full : ends.full ≡ last_full first rest
-
-pub record IsQueueMade (netlist : Netlist) (port : HostPort) (read count : NetValue) (held : HeldQueue) : Type 0 where
-  pub places : length held.row ≡ 16
-  pub start : ℕ
-  pub row : ArePlaces netlist (incoming read count) start held.row
-  pub ends : AreEnds held.row held.ends
-  pub some_bit : IsBit netlist held.ends.some
-  pub full_bit : IsBit netlist held.ends.full
-  pub beats_net : IsNetOfWidth netlist held.ends.beats (burst_width port.burst_bits)
-  pub got_net : IsNetOfWidth netlist held.got (burst_width port.burst_bits)
-  pub apart : ¬ InRow held.row held.got.number
-  pub empty : StartsAllEmpty netlist held.row
+-- none is held, and the oldest has got no word
+pub record AreWordsHeld (netlist : Netlist) (bits : ℕ) (count unanswered : NetValue) (held : HeldWords) : Type 0 where
+  pub made : IsQueueMade netlist (count ∷ []) held.queue
+  pub count_is : held.queue.count ≡ unanswered
+  pub bound : held.queue.bound ≡ 16
+  pub empty : StartsEmpty netlist held.queue
+  pub got_net : IsNetOfWidth netlist held.got bits
   pub none_got : StartsLow netlist held.got
+  pub apart : ¬ owns held.queue held.got.number
 
--- ---- after the second call
+-- ---- from cycle to cycle
 
 -- where a word comes and it is the last one that the oldest read lacks, the oldest read goes; else it has got one word more
 pub record IsOldestAnswered (came some : Bool) (lacks got : ℕ) (last : Bool) (next : ℕ) : Type 0 where
@@ -72,60 +42,60 @@ AnswersOldest netlist valid some beats got last next =
     Always netlist (λ cycle. cycle.net got.number ≤ cycle.net beats.number
     → IsOldestAnswered (is_raised (cycle.net valid.number)) (is_raised (cycle.net some.number)) (cycle.net beats.number - cycle.net got.number) (cycle.net got.number) (is_raised (cycle.net last.number)) (cycle.net next.number))
 
--- a read waits while there is no room; one that is taken comes into the row
-pub record QueuesOn (netlist : Netlist) (read count shown : NetValue) (held : HeldQueue) (wait valid told : NetValue) : Type 0 where
-  pub tells : Always netlist (λ cycle. is_raised (cycle.net told.number) ≡ ((is_raised (cycle.net held.ends.full.number) && is_raised (cycle.net read.number)) || is_raised (cycle.net wait.number)))
-  pub taken : NetValue
+-- a queue holds the counts of the unanswered reads: one that is taken comes, and the oldest one goes with its last word
+pub record WordsGoOn (netlist : Netlist) (count unanswered taken valid : NetValue) : Type 0 where
+  pub queue : ItemQueue 1
+  pub got : NetValue
+  pub some : NetValue
+  pub beats : NetValue
   pub last : NetValue
   pub next : NetValue
-  pub taken_bit : IsBit netlist taken
+  pub count_is : queue.count ≡ unanswered
+  pub bound : queue.bound ≡ 16
+  pub empty : StartsEmpty netlist queue
+  pub none_got : StartsLow netlist got
   pub last_bit : IsBit netlist last
+  pub some_is : Always netlist (λ cycle. is_raised (cycle.net some.number) ≡ not (nat_eq (cycle.net queue.count.number) 0))
+  pub oldest : Always netlist (λ cycle. 1 ≤ cycle.net queue.count.number → (coming : List ℕ) → shown_oldest (held_in cycle queue) coming ≡ 1 ∷ cycle.net beats.number ∷ [])
+  pub answered : AnswersOldest netlist valid some beats got last next
+  pub steps : StepsQueue netlist queue (count ∷ []) taken last
+  pub follows : TakesNext netlist got next
+
+-- a read waits while there is no room; one that is taken comes into the queue
+pub record QueuesOn (netlist : Netlist) (read count shown unanswered full wait valid told : NetValue) : Type 0 where
+  pub tells : Always netlist (λ cycle. is_raised (cycle.net told.number) ≡ ((is_raised (cycle.net full.number) && is_raised (cycle.net read.number)) || is_raised (cycle.net wait.number)))
+  pub taken : NetValue
+  pub taken_bit : IsBit netlist taken
   pub takes : Always netlist (λ cycle. is_raised (cycle.net taken.number) ≡ (is_raised (cycle.net shown.number) && not (is_raised (cycle.net wait.number))))
-  pub answered : AnswersOldest netlist valid held.ends.some held.ends.beats held.got last next
-  pub steps : StepsRow netlist held.row (incoming read count) taken last
-  pub follows : TakesNext netlist held.got next
+  pub words : WordsGoOn netlist count unanswered taken valid
 
 -- ---- what stands lasts. No contract reads these proofs; the laws of the host cite them
 
-pub places_of : (netlist : Netlist) (like : PlaceNets 1) (from : ℕ) (row : List (PlaceNets 1)) → IsRow netlist like from row → ArePlaces netlist like from row
-places_of netlist like from [] h = tt
-places_of netlist like from (place ∷ row) h = (record { nets = h.0.nets_are; widths = h.0.widths; numbers = h.0.numbers }, places_of netlist like (from + length (nets_of place)) row h.1)
-
--- places whose registers wait are a row
-pub row_of : (netlist : Netlist) (like : PlaceNets 1) (from : ℕ) (row : List (PlaceNets 1)) → ArePlaces netlist like from row → ((n : ℕ) → InRow row n → IsWaiting netlist n) → IsRow netlist like from row
-row_of netlist like from [] h wait = tt
-row_of netlist like from (place ∷ row) h wait =
-    (record { nets_are = h.0.nets; widths = h.0.widths; numbers = h.0.numbers; wait = λ n o. wait n (inl o) }, row_of netlist like (from + length (nets_of place)) row h.1 (λ n o. wait n (inr o)))
-
-pub places_last : (old new : Netlist) (like : PlaceNets 1) (from : ℕ) (row : List (PlaceNets 1)) → ArePlaces old like from row → Extends old new → ArePlaces new like from row
-places_last old new like from [] h e = tt
-places_last old new like from (place ∷ row) h e = (record { nets = place_lasts old new place e h.0.nets; widths = h.0.widths; numbers = h.0.numbers }, places_last old new like (from + length (nets_of place)) row h.1 e)
-
-pub queue_lasts : (old new : Netlist) (port : HostPort) (read count : NetValue) (held : HeldQueue) → IsQueueMade old port read count held → Extends old new → IsQueueMade new port read count held
-queue_lasts old new port read count held h e = record {
-  places = h.places;
-  start = h.start;
-  row = places_last old new (incoming read count) h.start held.row h.row e;
-  ends = h.ends;
-  some_bit = net_lasts old new held.ends.some 1 e h.some_bit;
-  full_bit = net_lasts old new held.ends.full 1 e h.full_bit;
-  beats_net = net_lasts old new held.ends.beats (burst_width port.burst_bits) e h.beats_net;
-  got_net = net_lasts old new held.got (burst_width port.burst_bits) e h.got_net;
-  apart = h.apart;
-  empty = λ run cycles r. h.empty run cycles (e.runs run cycles r);
-  none_got = λ run cycles r. h.none_got run cycles (e.runs run cycles r);
-}
-
-pub queue_goes_on : (old new : Netlist) (read count shown : NetValue) (held : HeldQueue) (wait valid told : NetValue) → QueuesOn old read count shown held wait valid told → Extends old new → QueuesOn new read count shown held wait valid told
-queue_goes_on old new read count shown held wait valid told h e = record {
-  tells = λ cycle v. h.tells cycle (e.valuations cycle v);
-  taken = h.taken;
+pub words_go_on : (old new : Netlist) (count unanswered taken valid : NetValue) → WordsGoOn old count unanswered taken valid → Extends old new → WordsGoOn new count unanswered taken valid
+words_go_on old new count unanswered taken valid h e = record {
+  queue = h.queue;
+  got = h.got;
+  some = h.some;
+  beats = h.beats;
   last = h.last;
   next = h.next;
-  taken_bit = net_lasts old new h.taken 1 e h.taken_bit;
+  count_is = h.count_is;
+  bound = h.bound;
+  empty = starts_last old new h.queue h.empty e;
+  none_got = λ run cycles r. h.none_got run cycles (e.runs run cycles r);
   last_bit = net_lasts old new h.last 1 e h.last_bit;
-  takes = λ cycle v. h.takes cycle (e.valuations cycle v);
+  some_is = λ cycle v. h.some_is cycle (e.valuations cycle v);
+  oldest = λ cycle v. h.oldest cycle (e.valuations cycle v);
   answered = λ cycle v. h.answered cycle (e.valuations cycle v);
-  steps = λ run cycles r. h.steps run cycles (e.runs run cycles r);
+  steps = steps_last old new h.queue (count ∷ []) taken h.last h.steps e;
   follows = λ run cycles r. h.follows run cycles (e.runs run cycles r);
+}
+
+pub queue_goes_on : (old new : Netlist) (read count shown unanswered full wait valid told : NetValue) → QueuesOn old read count shown unanswered full wait valid told → Extends old new → QueuesOn new read count shown unanswered full wait valid told
+queue_goes_on old new read count shown unanswered full wait valid told h e = record {
+  tells = λ cycle v. h.tells cycle (e.valuations cycle v);
+  taken = h.taken;
+  taken_bit = net_lasts old new h.taken 1 e h.taken_bit;
+  takes = λ cycle v. h.takes cycle (e.valuations cycle v);
+  words = words_go_on old new count unanswered h.taken valid h.words e;
 }

@@ -1,11 +1,11 @@
 //! The part next to a host: the command that it hands on, and what the host is told.
 
-ghost use Rattle.std.specs.Prelude.{◌≡◌, ℕ, ◌+◌, ◌*◌, ◌^◌, ◌<◌, ◌&&◌, length, IfOk, OnOk};
+ghost use Rattle.std.specs.Prelude.{◌≡◌, ℕ, ◌+◌, ◌*◌, ◌^◌, ◌<◌, ◌⊎◌, ◌&&◌, length, IfOk, OnOk};
 ghost use Rattle.iface_roles.specs.Proper.{IsBoundedHost};
 ghost use Rattle.netlist.specs.Netlists.{IsWaiting};
 ghost use Rattle.netlist.specs.Runs.{Always};
 ghost use Rattle.net_parts.specs.Nets.{IsBit};
-ghost use Rattle.net_parts.specs.Growth.{GrowsBy, AddsNets, StillWait, WaitsBeside, WaitsWithout, AreMadeBetween};
+ghost use Rattle.net_parts.specs.Growth.{GrowsBy, GrowsInMemory, AddsNets, StillWait, WaitsBeside, WaitsWithout, AreMadeBetween, StillWaitForWrite};
 ghost use Rattle.command_nets.specs.Nets.{AreCommandNets, AreAnswerNets};
 ghost use Rattle.command_nets.specs.Ports.{HasNet, value_or};
 ghost use Rattle.mm_host.specs.Hosts.{reads_words, AreHostNets};
@@ -106,7 +106,7 @@ pub fn emit_host(
     ensures full { result ≡ Err NetFault.TooManyNets → 2 ^ 20 < length builder.old.lines + 51 }
 {
     let fields = make_fields(builder, port, nets)?;
-    let reads = hold_reads(builder, port, fields.read, fields.count, bounded)?;
+    let reads = hold_reads(builder, port, fields.read, bounded)?;
     let writes = hold_writes(builder, port, fields.write, fields.count)?;
     Ok(HeldHost {
         nets: *nets,
@@ -136,12 +136,14 @@ pub fn finish_host(
     ensures nets { IfOk result (λ made. AreAnswersTo builder.new port.now made) }
     ensures on { IfOk result (λ made. HostGoesOn builder.new held.now port.now wait answer.now made) }
     ensures machine { IfOk result (λ made. RunsAsHostWhile builder.new port.now held.now wait answer.now made) }
-    ensures grows { GrowsBy 171 builder.old builder.new }
+    ensures grows { GrowsInMemory 171 1 builder.old builder.new }
     ensures waits { (n : ℕ) → ¬ owns held.now n → IsWaiting builder.old n → IsWaiting builder.new n }
     ensures no_more_wait { OnOk result (WaitsWithout (owns held.now) builder.old builder.new) }
+    ensures still_wait_for_write { StillWaitForWrite builder.old builder.new }
+    ensures no_more_wait_for_write { OnOk result (StillWaitForWrite builder.new builder.old) }
 
     // Memory may run out at any net.
-    ensures full { result ≡ Err NetFault.TooManyNets → 2 ^ 20 < length builder.old.lines + 171 }
+    ensures full { result ≡ Err NetFault.TooManyNets → (2 ^ 20 < length builder.old.lines + 171) ⊎ (2 ^ 16 < length builder.old.memories + 1) }
 {
     let joined = JoinedBeats {
         more: held.command.more,

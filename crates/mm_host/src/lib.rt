@@ -11,6 +11,5 @@ mod writes;
 pub use fields::Fields;
 pub use host::{HeldHost, emit_host, finish_host};
 pub use nets::{HostAnswer, HostNets};
-pub use queue::{HeldQueue, RowEnds};
 pub use reads::HeldReads;
 pub use writes::HeldWrites;

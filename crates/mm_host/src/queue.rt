@@ -1,91 +1,25 @@
-//! The unanswered reads of a host that reads in bursts: their counts in a row of 16 places, and the words that the oldest has got.
+//! The unanswered reads of a host that reads in bursts: their counts in a queue of 16, and the words that the oldest has got.
 
-ghost use Rattle.std.specs.Prelude.{◌≡◌, ℕ, ◌+◌, ◌-◌, ◌*◌, ◌^◌, ◌<◌, ◌≤◌, not, ◌&&◌, ◌||◌, nat_eq, if◌then◌else◌, [], ◌∷◌, length, IfOk, OnOk};
+ghost use Rattle.std.specs.Prelude.{◌≡◌, ℕ, ◌+◌, ◌-◌, ◌*◌, ◌^◌, ◌<◌, ◌≤◌, ◌⊎◌, not, ◌&&◌, ◌||◌, nat_eq, if◌then◌else◌, [], ◌∷◌, length, IfOk, OnOk};
 ghost use Rattle.histories.specs.History.{is_raised, one_if};
 ghost use Rattle.iface_roles.specs.Proper.{IsBoundedHost};
-ghost use Rattle.netlist.specs.Netlists.{IsNet, IsWaiting};
+ghost use Rattle.netlist.specs.Netlists.{IsNet, IsWaiting, WaitsForWrite};
 ghost use Rattle.netlist.specs.Runs.{Always};
-ghost use Rattle.net_parts.specs.Nets.{IsBit, IsNetOfWidth};
-ghost use Rattle.net_parts.specs.Growth.{GrowsBy, AddsNets, StillWait, WaitsBeside, WaitsWithout, AreMadeBetween};
+ghost use Rattle.net_parts.specs.Nets.{IsBit, IsNetOfWidth, StartsLow};
+ghost use Rattle.net_parts.specs.Growth.{GrowsInMemory, AddsNets, StillWait, WaitsBeside, WaitsWithout, StillWaitForWrite, WriteWaitsBeside, WriteWaitsWithout};
+ghost use Rattle.item_queues.specs.Queues.{owns_memories};
 ghost use Rattle.memory_sides.specs.Sides.{burst_width};
-ghost use Rattle.mm_host.specs.Queued.{owns_queue, AreEnds, IsQueueMade, AnswersOldest, QueuesOn};
+ghost use Rattle.mm_host.specs.Queued.{owns_words, AreWordsHeld, AnswersOldest, WordsGoOn};
 
 use crate::fields::count_bits;
-use command_nets::{both, either, register, take_next, unless};
+use command_nets::{both, register, take_next};
 use iface_roles::HostPort;
-use net_parts::{PlaceNets, choose, constant, fill_places, fit_bits, last_full, set_places};
+use item_queues::{ItemQueue, finish_queue, hold_items, read_oldest};
+use net_parts::{choose, constant, fit_bits};
 use netlist::{Builder, Net, NetFault};
 
-/// What tells of the two ends of the row.
-#[derive(Clone, Copy)]
-pub struct RowEnds {
-    /// One bit: some read is unanswered.
-    pub some: Net,
-    /// The count of the oldest one. As wide as `burstcount`.
-    pub beats: Net,
-    /// One bit: 16 reads are unanswered.
-    pub full: Net,
-}
-
-/// The registers of the unanswered reads.
-#[derive(Clone, Copy)]
-pub struct HeldQueue {
-    /// Their counts, the oldest first.
-    pub row: [PlaceNets<1>; 16],
-    pub ends: RowEnds,
-    /// The words that the oldest has got. As wide as `burstcount`.
-    pub got: Net,
-}
-
-/// The count in a place.
-fn beats_in(place: &PlaceNets<1>) -> Net
-    ensures { place.now.item ≡ result ∷ [] }
-{
-    let [beats] = place.item;
-    beats
-}
-
-/// The ends of the row.
-fn row_ends(row: &[PlaceNets<1>]) -> RowEnds
-    requires { 1 ≤ length row.now }
-    ensures { AreEnds row.now result }
-{
-    RowEnds {
-        some: row[0].full,
-        beats: beats_in(&row[0]),
-        full: last_full(&row[0], &row[1..]),
-    }
-}
-
-/// Makes the registers of the unanswered reads, of which there is none yet.
-#[tactic(auto, using(net_parts::specs::Laws::growing))]
-pub(crate) fn make_queue(
-    builder: &mut Builder,
-    port: &HostPort,
-    read: Net,
-    count: Net,
-) -> Result<HeldQueue, NetFault>
-    requires port { IsBoundedHost port.now }
-    requires read { IsBit builder.old read }
-    requires count { IsNetOfWidth builder.old count (burst_width port.now.burst_bits) }
-    ensures made { IfOk result (λ held. IsQueueMade builder.new port.now read count held) }
-    ensures owned { IfOk result (λ held. AreMadeBetween (owns_queue held) builder.old builder.new) }
-    ensures grows { GrowsBy 33 builder.old builder.new }
-    ensures still_wait { StillWait builder.old builder.new }
-    ensures own_wait { IfOk result (λ held. (n : ℕ) → owns_queue held n → IsWaiting builder.new n) }
-    ensures newly { IfOk result (λ held. WaitsBeside (owns_queue held) builder.old builder.new) }
-    ensures full { result ≡ Err NetFault.TooManyNets → 2 ^ 20 < length builder.old.lines + 33 }
-{
-    let coming = PlaceNets {
-        full: read,
-        item: [count],
-    };
-    let mut row = [coming; 16];
-    fill_places(builder, &coming, &mut row)?;
-    let got = register(builder, count_bits(port))?;
-    let ends = row_ends(&row);
-    Ok(HeldQueue { row, ends, got })
-}
+/// The most unanswered reads of a host.
+const MOST_READS: u8 = 16;
 
 /// The words that the oldest read has got after a cycle, none where it goes.
 #[tactic(auto, using(net_parts::specs::Laws::growing))]
@@ -131,24 +65,25 @@ pub(crate) struct Answered {
 fn answer_oldest(
     builder: &mut Builder,
     valid: Net,
-    ends: &RowEnds,
+    some: Net,
+    beats: Net,
     got: Net,
     bits: u8,
 ) -> Result<Answered, NetFault>
     requires valid { IsBit builder.old valid }
-    requires some_read { IsBit builder.old ends.now.some }
-    requires beats { IsNetOfWidth builder.old ends.now.beats bits }
+    requires some_read { IsBit builder.old some }
+    requires beats { IsNetOfWidth builder.old beats bits }
     requires got { IsNetOfWidth builder.old got bits }
     requires some { 1 ≤ bits }
     requires few { bits ≤ 128 }
     ensures last { IfOk result (λ made. IsBit builder.new made.last) }
     ensures next { IfOk result (λ made. IsNetOfWidth builder.new made.next bits) }
-    ensures value { IfOk result (λ made. AnswersOldest builder.new valid ends.now.some ends.now.beats got made.last made.next) }
+    ensures value { IfOk result (λ made. AnswersOldest builder.new valid some beats got made.last made.next) }
     ensures adds { AddsNets 12 builder.old builder.new }
     ensures full { result ≡ Err NetFault.TooManyNets → 2 ^ 20 < length builder.old.lines + 12 }
 {
-    let goes = both(builder, valid, ends.some)?;
-    let lacks = builder.sub(ends.beats, got)?;
+    let goes = both(builder, valid, some)?;
+    let lacks = builder.sub(beats, got)?;
     let one = constant(builder, bits, 1)?;
     let single = builder.eq(lacks, one)?;
     let last = both(builder, goes, single)?;
@@ -156,42 +91,116 @@ fn answer_oldest(
     Ok(Answered { last, next })
 }
 
-/// Sets the registers of the unanswered reads, and makes the waitrequest that the host is told.
+/// The only net of an item.
+fn only_net(item: &[Net; 1]) -> Net
+    ensures { item.now ≡ result ∷ [] }
+{
+    let [net] = *item;
+    net
+}
+
+/// The queue of the counts, and the words that the oldest read has got.
+#[derive(Clone, Copy)]
+pub(crate) struct HeldWords {
+    pub queue: ItemQueue<1>,
+    pub got: Net,
+}
+
+/// Makes a queue for the counts of the unanswered reads, whose number stands: there is none yet.
 #[tactic(auto, using(net_parts::specs::Laws::growing))]
-pub(crate) fn finish_queue(
+fn hold_words(
+    builder: &mut Builder,
+    bits: u8,
+    count: Net,
+    unanswered: Net,
+) -> Result<HeldWords, NetFault>
+    requires some { 1 ≤ bits }
+    requires few { bits ≤ 128 }
+    requires count { IsNet builder.old count }
+    requires unanswered { IsNetOfWidth builder.old unanswered 5 }
+    requires low { StartsLow builder.old unanswered }
+    requires waits { IsWaiting builder.old unanswered.number }
+    ensures held { IfOk result (AreWordsHeld builder.new bits count unanswered) }
+    ensures owned { IfOk result (λ held. (n : ℕ) → owns_words held n → (n ≡ unanswered.number) ⊎ (length builder.old.lines ≤ n)) }
+    ensures owned_memories { IfOk result (λ held. (m : ℕ) → owns_memories held.queue m → length builder.old.memories ≤ m) }
+    ensures grows { GrowsInMemory 4 1 builder.old builder.new }
+    ensures still_wait { StillWait builder.old builder.new }
+    ensures own_wait { IfOk result (λ held. (n : ℕ) → owns_words held n → IsWaiting builder.new n) }
+    ensures newly { IfOk result (λ held. WaitsBeside (owns_words held) builder.old builder.new) }
+    ensures still_wait_for_write { StillWaitForWrite builder.old builder.new }
+    ensures own_wait_for_write { IfOk result (λ held. (m : ℕ) → owns_memories held.queue m → WaitsForWrite builder.new m) }
+    ensures newly_written { IfOk result (λ held. WriteWaitsBeside (owns_memories held.queue) builder.old builder.new) }
+    ensures full { result ≡ Err NetFault.TooManyNets → (2 ^ 20 < length builder.old.lines + 4) ⊎ (2 ^ 16 < length builder.old.memories + 1) }
+{
+    let queue = hold_items(builder, &[count], MOST_READS, unanswered)?;
+    let got = register(builder, bits)?;
+    Ok(HeldWords { queue, got })
+}
+
+/// Lets the queue go on: a read that is taken below comes with its count, and the oldest one goes with its last word.
+#[tactic(auto, using(net_parts::specs::Laws::growing))]
+fn move_words(
+    builder: &mut Builder,
+    bits: u8,
+    count: Net,
+    unanswered: Net,
+    held: HeldWords,
+    taken: Net,
+    valid: Net,
+) -> Result<(), NetFault>
+    requires some { 1 ≤ bits }
+    requires few { bits ≤ 128 }
+    requires count { IsNetOfWidth builder.old count bits }
+    requires unanswered { IsNet builder.old unanswered }
+    requires held { AreWordsHeld builder.old bits count unanswered held }
+    requires taken { IsBit builder.old taken }
+    requires valid { IsBit builder.old valid }
+    requires waits { (n : ℕ) → owns_words held n → IsWaiting builder.old n }
+    requires waits_for_write { (m : ℕ) → owns_memories held.queue m → WaitsForWrite builder.old m }
+    ensures on { OnOk result (WordsGoOn builder.new count unanswered taken valid) }
+    ensures grows { GrowsInMemory 34 0 builder.old builder.new }
+    ensures waits { (n : ℕ) → ¬ owns_words held n → IsWaiting builder.old n → IsWaiting builder.new n }
+    ensures no_more_wait { OnOk result (WaitsWithout (owns_words held) builder.old builder.new) }
+    ensures still_wait_for_write { (m : ℕ) → ¬ owns_memories held.queue m → WaitsForWrite builder.old m → WaitsForWrite builder.new m }
+    ensures no_more_write { OnOk result (WriteWaitsWithout (owns_memories held.queue) builder.old builder.new) }
+    ensures full { result ≡ Err NetFault.TooManyNets → 2 ^ 20 < length builder.old.lines + 34 }
+{
+    let some = builder.any(unanswered)?;
+    let oldest = read_oldest(builder, &held.queue, &[count])?;
+    let beats = only_net(&oldest);
+    let answered = answer_oldest(builder, valid, some, beats, held.got, bits)?;
+    finish_queue(builder, &held.queue, &[count], taken, answered.last)?;
+    take_next(builder, held.got, answered.next);
+    Ok(())
+}
+
+/// Counts the words of reads in bursts: a read that is taken below comes with its count, and the oldest one goes with its last word.
+pub(crate) fn count_words(
     builder: &mut Builder,
     port: &HostPort,
-    read: Net,
     count: Net,
-    shown: Net,
-    held: &HeldQueue,
-    wait: Net,
+    unanswered: Net,
+    taken: Net,
     valid: Net,
-) -> Result<Net, NetFault>
+) -> Result<(), NetFault>
     requires port { IsBoundedHost port.now }
-    requires held { IsQueueMade builder.old port.now read count held.now }
-    requires read { IsBit builder.old read }
     requires count { IsNetOfWidth builder.old count (burst_width port.now.burst_bits) }
-    requires shown { IsBit builder.old shown }
-    requires wait { IsBit builder.old wait }
+    requires unanswered { IsNetOfWidth builder.old unanswered 5 }
+    requires low { StartsLow builder.old unanswered }
+    requires taken { IsBit builder.old taken }
     requires valid { IsBit builder.old valid }
-    requires waits { (n : ℕ) → owns_queue held.now n → IsWaiting builder.old n }
-    ensures told { IfOk result (λ told. IsBit builder.new told) }
-    ensures on { IfOk result (λ told. QueuesOn builder.new read count shown held.now wait valid told) }
-    ensures grows { GrowsBy 163 builder.old builder.new }
-    ensures waits { (n : ℕ) → ¬ owns_queue held.now n → IsWaiting builder.old n → IsWaiting builder.new n }
-    ensures no_more_wait { OnOk result (WaitsWithout (owns_queue held.now) builder.old builder.new) }
-    ensures full { result ≡ Err NetFault.TooManyNets → 2 ^ 20 < length builder.old.lines + 163 }
+    requires waits { IsWaiting builder.old unanswered.number }
+    ensures on { OnOk result (WordsGoOn builder.new count unanswered taken valid) }
+    ensures grows { GrowsInMemory 38 1 builder.old builder.new }
+    ensures waits { (n : ℕ) → ¬ (n ≡ unanswered.number) → IsWaiting builder.old n → IsWaiting builder.new n }
+    ensures no_more_wait { OnOk result (WaitsWithout (λ n. n ≡ unanswered.number) builder.old builder.new) }
+    ensures still_wait_for_write { StillWaitForWrite builder.old builder.new }
+    ensures no_more_wait_for_write { OnOk result (StillWaitForWrite builder.new builder.old) }
+    ensures full { result ≡ Err NetFault.TooManyNets → (2 ^ 20 < length builder.old.lines + 38) ⊎ (2 ^ 16 < length builder.old.memories + 1) }
 {
-    let shut = both(builder, held.ends.full, read)?;
-    let told = either(builder, shut, wait)?;
-    let taken = unless(builder, shown, wait)?;
-    let answered = answer_oldest(builder, valid, &held.ends, held.got, count_bits(port))?;
-    let coming = PlaceNets {
-        full: read,
-        item: [count],
-    };
-    set_places(builder, &held.row, &coming, taken, answered.last)?;
-    take_next(builder, held.got, answered.next);
-    Ok(told)
+    let bits = count_bits(port);
+    match hold_words(builder, bits, count, unanswered) {
+        Ok(held) => move_words(builder, bits, count, unanswered, held, taken, valid),
+        Err(fault) => Err(fault),
+    }
 }

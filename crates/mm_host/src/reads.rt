@@ -1,18 +1,18 @@
 //! How the reads of a host are bounded, by registers alone.
 
-ghost use Rattle.std.specs.Prelude.{◌≡◌, ℕ, ◌+◌, ◌-◌, ◌/◌, ◌%◌, ◌^◌, ◌<◌, true, false, not, ◌&&◌, ◌||◌, ◌==◌, if◌then◌else◌, length, IfOk, OnOk};
+ghost use Rattle.std.specs.Prelude.{◌≡◌, ℕ, ◌+◌, ◌-◌, ◌/◌, ◌%◌, ◌^◌, ◌<◌, ◌⊎◌, true, false, not, ◌&&◌, ◌||◌, ◌==◌, if◌then◌else◌, length, IfOk, OnOk};
 ghost use Rattle.histories.specs.History.{is_raised, one_if};
 ghost use Rattle.iface_roles.specs.Proper.{IsBoundedHost};
-ghost use Rattle.netlist.specs.Nets.{NetValue};
 ghost use Rattle.netlist.specs.Netlists.{IsNet, IsWaiting};
 ghost use Rattle.netlist.specs.Runs.{Always};
 ghost use Rattle.net_parts.specs.Nets.{IsBit, IsNetOfWidth};
-ghost use Rattle.net_parts.specs.Growth.{GrowsBy, AddsNets, StillWait, WaitsBeside, WaitsWithout, AreMadeBetween};
+ghost use Rattle.net_parts.specs.Growth.{GrowsBy, GrowsInMemory, AddsNets, StillWait, WaitsBeside, WaitsWithout, AreMadeBetween, StillWaitForWrite};
 ghost use Rattle.mm_host.specs.Hosts.{reads_words};
-ghost use Rattle.mm_host.specs.Reads.{owns_reads, AreReadsHeld, AsksOn, CountsOn, ReadsGoOn, is_unbounded};
+ghost use Rattle.mm_host.specs.Reads.{owns_reads, AreCounted, AreReadsHeld, AsksOn, CountsOn, ReadsGoOn, is_unbounded};
+ghost use Rattle.mm_host.specs.Queued.{QueuesOn};
 ghost use Rattle.memory_sides.specs.Sides.{burst_width};
 
-use crate::queue::{HeldQueue, finish_queue, make_queue};
+use crate::queue::count_words;
 use command_nets::{both, either, register, take_next, turned, unless};
 use iface_roles::HostPort;
 use net_parts::{choose, fit_bits};
@@ -25,10 +25,10 @@ pub enum HeldReads {
     Never,
     /// A register of one bit: the read that stands was taken below. For a host without `readdatavalid`.
     Asks { asked: Net },
-    /// A register of five bits, the reads that aren't answered, and its highest bit: they are 16.
+    /// A register of five bits, the reads of one word that aren't answered, and its highest bit: they are 16.
     Counts { unanswered: Net, full: Net },
-    /// The registers of reads in bursts that aren't answered.
-    Queues(HeldQueue),
+    /// The same of reads in bursts, whose counts a queue keeps.
+    Queues { unanswered: Net, full: Net },
     /// Nothing here: what stands below never lets 16 of its reads, of one word each, go unanswered.
     Unbounded,
 }
@@ -46,7 +46,7 @@ fn hold_asked(builder: &mut Builder, port: &HostPort, read: Net) -> Result<Shown
     requires kind { port.now.readdatavalid ≡ false }
     requires read { IsBit builder.old read }
     ensures shown { IfOk result (λ made. IsBit builder.new made.shown) }
-    ensures held { IfOk result (λ made. (count : NetValue) → AreReadsHeld builder.new port.now read count made.shown made.held) }
+    ensures held { IfOk result (λ made. AreReadsHeld builder.new port.now read made.shown made.held) }
     ensures unbounded { IfOk result (λ made. is_unbounded made.held ≡ false) }
     ensures owned { IfOk result (λ made. AreMadeBetween (owns_reads made.held) builder.old builder.new) }
     ensures grows { GrowsBy 4 builder.old builder.new }
@@ -73,14 +73,44 @@ fn are_sixteen(builder: &mut Builder, unanswered: Net) -> Result<Net, NetFault>
     builder.slice(unanswered, 4, 4)
 }
 
+/// The read that is shown below, and the count of those that aren't answered.
+#[derive(Clone, Copy)]
+struct CountedRead {
+    shown: Net,
+    unanswered: Net,
+    full: Net,
+}
+
 /// Shows a read while fewer than 16 are unanswered.
 #[tactic(auto, using(net_parts::specs::Laws::growing))]
+fn count_reads(builder: &mut Builder, read: Net) -> Result<CountedRead, NetFault>
+    requires read { IsBit builder.old read }
+    ensures shown { IfOk result (λ made. IsBit builder.new made.shown) }
+    ensures counted { IfOk result (λ made. AreCounted builder.new read made.shown made.unanswered made.full) }
+    ensures owned { IfOk result (λ made. AreMadeBetween (λ n. n ≡ made.unanswered.number) builder.old builder.new) }
+    ensures grows { GrowsBy 4 builder.old builder.new }
+    ensures still_wait { StillWait builder.old builder.new }
+    ensures own_wait { IfOk result (λ made. IsWaiting builder.new made.unanswered.number) }
+    ensures newly { IfOk result (λ made. WaitsBeside (λ n. n ≡ made.unanswered.number) builder.old builder.new) }
+    ensures full { result ≡ Err NetFault.TooManyNets → 2 ^ 20 < length builder.old.lines + 4 }
+{
+    let unanswered = register(builder, 5)?;
+    let full = are_sixteen(builder, unanswered)?;
+    let shown = unless(builder, read, full)?;
+    Ok(CountedRead {
+        shown,
+        unanswered,
+        full,
+    })
+}
+
+/// Shows a read of one word while fewer than 16 are unanswered.
 fn hold_count(builder: &mut Builder, port: &HostPort, read: Net) -> Result<ShownRead, NetFault>
     requires kind { port.now.readdatavalid ≡ true }
     requires words { port.now.burst_bits ≡ 0 }
     requires read { IsBit builder.old read }
     ensures shown { IfOk result (λ made. IsBit builder.new made.shown) }
-    ensures held { IfOk result (λ made. (count : NetValue) → AreReadsHeld builder.new port.now read count made.shown made.held) }
+    ensures held { IfOk result (λ made. AreReadsHeld builder.new port.now read made.shown made.held) }
     ensures unbounded { IfOk result (λ made. is_unbounded made.held ≡ false) }
     ensures owned { IfOk result (λ made. AreMadeBetween (owns_reads made.held) builder.old builder.new) }
     ensures grows { GrowsBy 4 builder.old builder.new }
@@ -89,47 +119,40 @@ fn hold_count(builder: &mut Builder, port: &HostPort, read: Net) -> Result<Shown
     ensures newly { IfOk result (λ made. WaitsBeside (owns_reads made.held) builder.old builder.new) }
     ensures full { result ≡ Err NetFault.TooManyNets → 2 ^ 20 < length builder.old.lines + 4 }
 {
-    let unanswered = register(builder, 5)?;
-    let full = are_sixteen(builder, unanswered)?;
-    let shown = unless(builder, read, full)?;
-    let held = HeldReads::Counts { unanswered, full };
-    Ok(ShownRead { shown, held })
+    let counted = count_reads(builder, read)?;
+    let held = HeldReads::Counts {
+        unanswered: counted.unanswered,
+        full: counted.full,
+    };
+    Ok(ShownRead {
+        shown: counted.shown,
+        held,
+    })
 }
 
-/// Reads that this queue bounds.
-fn by_queue(queue: &HeldQueue) -> HeldReads
-    ensures { result ≡ HeldReads.Queues queue.now }
-{
-    HeldReads::Queues(*queue)
-}
-
-/// Shows a read while there is room for its count.
-#[tactic(auto, using(net_parts::specs::Laws::growing))]
-fn hold_queue(
-    builder: &mut Builder,
-    port: &HostPort,
-    read: Net,
-    count: Net,
-) -> Result<ShownRead, NetFault>
-    requires port { IsBoundedHost port.now }
+/// Shows a read in a burst while fewer than 16 are unanswered.
+fn hold_queue(builder: &mut Builder, port: &HostPort, read: Net) -> Result<ShownRead, NetFault>
     requires kind { port.now.readdatavalid ≡ true }
     requires read { IsBit builder.old read }
-    requires count { IsNetOfWidth builder.old count (burst_width port.now.burst_bits) }
     ensures shown { IfOk result (λ made. IsBit builder.new made.shown) }
-    ensures held { IfOk result (λ made. AreReadsHeld builder.new port.now read count made.shown made.held) }
+    ensures held { IfOk result (λ made. AreReadsHeld builder.new port.now read made.shown made.held) }
     ensures unbounded { IfOk result (λ made. is_unbounded made.held ≡ false) }
     ensures owned { IfOk result (λ made. AreMadeBetween (owns_reads made.held) builder.old builder.new) }
-    ensures grows { GrowsBy 35 builder.old builder.new }
+    ensures grows { GrowsBy 4 builder.old builder.new }
     ensures still_wait { StillWait builder.old builder.new }
     ensures own_wait { IfOk result (λ made. (n : ℕ) → owns_reads made.held n → IsWaiting builder.new n) }
     ensures newly { IfOk result (λ made. WaitsBeside (owns_reads made.held) builder.old builder.new) }
-    ensures full { result ≡ Err NetFault.TooManyNets → 2 ^ 20 < length builder.old.lines + 35 }
+    ensures full { result ≡ Err NetFault.TooManyNets → 2 ^ 20 < length builder.old.lines + 4 }
 {
-    let queue = make_queue(builder, port, read, count)?;
-    let made = &queue;
-    let shown = unless(builder, read, made.ends.full)?;
-    let held = by_queue(made);
-    Ok(ShownRead { shown, held })
+    let counted = count_reads(builder, read)?;
+    let held = HeldReads::Queues {
+        unanswered: counted.unanswered,
+        full: counted.full,
+    };
+    Ok(ShownRead {
+        shown: counted.shown,
+        held,
+    })
 }
 
 /// Shows the reads of a host below, so far as the registers let them. Reads of one word need none where what stands below bounds them.
@@ -137,22 +160,20 @@ pub(crate) fn hold_reads(
     builder: &mut Builder,
     port: &HostPort,
     read: Net,
-    count: Net,
     bounded: bool,
 ) -> Result<ShownRead, NetFault>
     requires port { IsBoundedHost port.now }
     requires read { IsBit builder.old read }
-    requires count { IsNetOfWidth builder.old count (burst_width port.now.burst_bits) }
     requires none { port.now.reads ≡ false → Always builder.old (λ cycle. cycle.net read.number ≡ 0) }
     ensures shown { IfOk result (λ made. IsBit builder.new made.shown) }
-    ensures held { IfOk result (λ made. AreReadsHeld builder.new port.now read count made.shown made.held) }
+    ensures held { IfOk result (λ made. AreReadsHeld builder.new port.now read made.shown made.held) }
     ensures unbounded { IfOk result (λ made. is_unbounded made.held ≡ (reads_words port.now && bounded)) }
     ensures owned { IfOk result (λ made. AreMadeBetween (owns_reads made.held) builder.old builder.new) }
-    ensures grows { GrowsBy 35 builder.old builder.new }
+    ensures grows { GrowsBy 4 builder.old builder.new }
     ensures still_wait { StillWait builder.old builder.new }
     ensures own_wait { IfOk result (λ made. (n : ℕ) → owns_reads made.held n → IsWaiting builder.new n) }
     ensures newly { IfOk result (λ made. WaitsBeside (owns_reads made.held) builder.old builder.new) }
-    ensures full { result ≡ Err NetFault.TooManyNets → 2 ^ 20 < length builder.old.lines + 35 }
+    ensures full { result ≡ Err NetFault.TooManyNets → 2 ^ 20 < length builder.old.lines + 4 }
 {
     if !port.reads {
         let held = HeldReads::Never;
@@ -162,7 +183,7 @@ pub(crate) fn hold_reads(
         return hold_asked(builder, port, read);
     }
     if port.burst_bits != 0 {
-        return hold_queue(builder, port, read, count);
+        return hold_queue(builder, port, read);
     }
     if bounded {
         let held = HeldReads::Unbounded;
@@ -281,6 +302,43 @@ fn finish_count(
     Ok(told)
 }
 
+/// Sets the queue of the counts of unanswered reads, and makes the waitrequest that the host is told.
+#[tactic(auto, using(net_parts::specs::Laws::growing))]
+fn finish_queue(
+    builder: &mut Builder,
+    port: &HostPort,
+    read: Net,
+    count: Net,
+    shown: Net,
+    unanswered: Net,
+    full: Net,
+    wait: Net,
+    valid: Net,
+) -> Result<Net, NetFault>
+    requires port { IsBoundedHost port.now }
+    requires read { IsBit builder.old read }
+    requires count { IsNetOfWidth builder.old count (burst_width port.now.burst_bits) }
+    requires shown { IsBit builder.old shown }
+    requires counted { AreCounted builder.old read shown unanswered full }
+    requires wait { IsBit builder.old wait }
+    requires valid { IsBit builder.old valid }
+    requires waits { IsWaiting builder.old unanswered.number }
+    ensures told { IfOk result (λ told. IsBit builder.new told) }
+    ensures on { IfOk result (λ told. QueuesOn builder.new read count shown unanswered full wait valid told) }
+    ensures grows { GrowsInMemory 42 1 builder.old builder.new }
+    ensures waits { (n : ℕ) → ¬ (n ≡ unanswered.number) → IsWaiting builder.old n → IsWaiting builder.new n }
+    ensures no_more_wait { OnOk result (WaitsWithout (λ n. n ≡ unanswered.number) builder.old builder.new) }
+    ensures still_wait_for_write { StillWaitForWrite builder.old builder.new }
+    ensures no_more_wait_for_write { OnOk result (StillWaitForWrite builder.new builder.old) }
+    ensures full { result ≡ Err NetFault.TooManyNets → (2 ^ 20 < length builder.old.lines + 42) ⊎ (2 ^ 16 < length builder.old.memories + 1) }
+{
+    let shut = both(builder, full, read)?;
+    let told = either(builder, shut, wait)?;
+    let taken = unless(builder, shown, wait)?;
+    count_words(builder, port, count, unanswered, taken, valid)?;
+    Ok(told)
+}
+
 /// Sets what bounds the reads, and makes the waitrequest that the host is told.
 pub(crate) fn finish_reads(
     builder: &mut Builder,
@@ -292,7 +350,7 @@ pub(crate) fn finish_reads(
     valid: Net,
 ) -> Result<Net, NetFault>
     requires port { IsBoundedHost port.now }
-    requires held { AreReadsHeld builder.old port.now read count shown.now.shown shown.now.held }
+    requires held { AreReadsHeld builder.old port.now read shown.now.shown shown.now.held }
     requires read { IsBit builder.old read }
     requires count { IsNetOfWidth builder.old count (burst_width port.now.burst_bits) }
     requires shown { IsBit builder.old shown.now.shown }
@@ -301,10 +359,12 @@ pub(crate) fn finish_reads(
     requires waits { (n : ℕ) → owns_reads shown.now.held n → IsWaiting builder.old n }
     ensures told { IfOk result (λ told. IsBit builder.new told) }
     ensures on { IfOk result (λ told. ReadsGoOn builder.new read count shown.now.shown wait valid told shown.now.held) }
-    ensures grows { GrowsBy 163 builder.old builder.new }
+    ensures grows { GrowsInMemory 42 1 builder.old builder.new }
     ensures waits { (n : ℕ) → ¬ owns_reads shown.now.held n → IsWaiting builder.old n → IsWaiting builder.new n }
     ensures no_more_wait { OnOk result (WaitsWithout (owns_reads shown.now.held) builder.old builder.new) }
-    ensures full { result ≡ Err NetFault.TooManyNets → 2 ^ 20 < length builder.old.lines + 163 }
+    ensures still_wait_for_write { StillWaitForWrite builder.old builder.new }
+    ensures no_more_wait_for_write { OnOk result (StillWaitForWrite builder.new builder.old) }
+    ensures full { result ≡ Err NetFault.TooManyNets → (2 ^ 20 < length builder.old.lines + 42) ⊎ (2 ^ 16 < length builder.old.memories + 1) }
 {
     match shown.held {
         HeldReads::Never | HeldReads::Unbounded => Ok(wait),
@@ -312,8 +372,16 @@ pub(crate) fn finish_reads(
         HeldReads::Counts { unanswered, full } => {
             finish_count(builder, read, shown.shown, unanswered, full, wait, valid)
         }
-        HeldReads::Queues(queue) => {
-            finish_queue(builder, port, read, count, shown.shown, &queue, wait, valid)
-        }
+        HeldReads::Queues { unanswered, full } => finish_queue(
+            builder,
+            port,
+            read,
+            count,
+            shown.shown,
+            unanswered,
+            full,
+            wait,
+            valid,
+        ),
     }
 }

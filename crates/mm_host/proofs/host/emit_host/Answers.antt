@@ -48,7 +48,7 @@ returns-clause-held c =
       more = c.in_ok-writes.ensures.more;
       fields = fields_last _ _ _ _ c.in_ok-fields.ensures.fields all;
       values = λ cycle v. c.in_ok-fields.ensures.value cycle (all.valuations cycle v);
-      reads = reads_last _ _ _ _ _ _ _ c.in_ok-reads.ensures.held more;
+      reads = reads_last _ _ _ _ _ _ c.in_ok-reads.ensures.held more;
       writes = c.in_ok-writes.ensures.held;
       apart = λ n o p. (let first = c.in_ok-reads.ensures.owned n o in let second = c.in_ok-writes.ensures.owned n p in omega (arith, first.1, second.0));
     })
@@ -58,9 +58,6 @@ returns-clause-ignores c = ignores c.args.port.now _ _ (returns-clause-held c)
 
 pub hold_reads-requires-clause-read : goal.hold_reads-requires-clause-read
 hold_reads-requires-clause-read c = c.in_ok-fields.ensures.fields.read
-
-pub hold_reads-requires-clause-count : goal.hold_reads-requires-clause-count
-hold_reads-requires-clause-count c = c.in_ok-fields.ensures.fields.count
 
 pub hold_writes-requires-clause-write : goal.hold_writes-requires-clause-write
 hold_writes-requires-clause-write c = net_lasts _ _ _ _ c.hold_reads.ensures.grows.extends c.in_ok-fields.ensures.fields.write

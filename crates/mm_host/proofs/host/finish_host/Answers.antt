@@ -1,17 +1,19 @@
-use Rattle.std.proofs.Common.{refl, inl, inr, sym, subst, arith}
+use Rattle.std.proofs.Common.{length, refl, inl, inr, sym, subst, ap, arith}
+use Rattle.netlist.specs.declared.line.Memory.{Memory}
 use Rattle.netlist.specs.Nets.{NetValue}
 use Rattle.std.proofs.Common.{Option}
-use Rattle.net_parts.specs.Laws.{extends_twice, net_lasts, adds_grow, grows_fewer, grows_twice}
+use Rattle.net_parts.specs.Laws.{extends_twice, net_lasts, adds_grow, grows_without_memory, memory_grows_twice}
 use Rattle.command_nets.specs.Ports.{HasNet, given}
 use Rattle.mm_host.specs.Reads.{reads_last, reads_go_on}
 use Rattle.mm_host.specs.Writes.{writes_go_on}
 use Rattle.mm_host.specs.Forms.{held_lasts, goes_on_lasts}
 use Rattle.mm_host.proofs.Machine.{machine}
+use Rattle.mm_host.proofs.Memories.{memory_grows_fewer, then_grows, writes_wait_alike}
 use Rattle.net_parts.specs.Refusing.{handed_on}
 use Rattle.mm_host.proofs.host.finish_host.Goals as goal
 
 pub finish_reads-requires-clause-held : goal.finish_reads-requires-clause-held
-finish_reads-requires-clause-held c = reads_last _ _ _ _ _ _ _ c.requires.held.reads c.finish_writes.ensures.grows.extends
+finish_reads-requires-clause-held c = reads_last _ _ _ _ _ _ c.requires.held.reads c.finish_writes.ensures.grows.extends
 
 pub returns-in_err-response-clause-waits : goal.returns-in_err-response-clause-waits
 returns-in_err-response-clause-waits c n apart w =
@@ -84,16 +86,16 @@ pub finish_reads-requires-clause-waits : goal.finish_reads-requires-clause-waits
 finish_reads-requires-clause-waits c n o = c.finish_writes.ensures.waits n (c.requires.held.apart n o) (c.requires.own_wait n (inl o))
 
 pub returns-in_err-finish_writes-clause-grows : goal.returns-in_err-finish_writes-clause-grows
-returns-in_err-finish_writes-clause-grows c = grows_fewer _ _ _ _ (omega arith) c.finish_writes.ensures.grows
+returns-in_err-finish_writes-clause-grows c = memory_grows_fewer _ _ _ _ _ _ (omega arith) (omega arith) (grows_without_memory _ _ _ c.finish_writes.ensures.grows)
 
 pub returns-in_err-finish_writes-clause-waits : goal.returns-in_err-finish_writes-clause-waits
 returns-in_err-finish_writes-clause-waits c n apart w = c.finish_writes.ensures.waits n (λ o. apart (inr o)) w
 
 pub returns-in_err-finish_writes-clause-full : goal.returns-in_err-finish_writes-clause-full
-returns-in_err-finish_writes-clause-full c e = let full = c.finish_writes.ensures.full (handed_on _ _ _ _ c.in_err-finish_writes.was c.from_residual.ensures.1 e) in omega (arith, full)
+returns-in_err-finish_writes-clause-full c e = let full = c.finish_writes.ensures.full (handed_on _ _ _ _ c.in_err-finish_writes.was c.from_residual.ensures.1 e) in inl (omega (arith, full))
 
 pub returns-in_err-waitrequest-clause-grows : goal.returns-in_err-waitrequest-clause-grows
-returns-in_err-waitrequest-clause-grows c = grows_fewer _ _ _ _ (omega arith) (grows_twice _ _ _ _ _ c.finish_writes.ensures.grows c.finish_reads.ensures.grows)
+returns-in_err-waitrequest-clause-grows c = memory_grows_fewer _ _ _ _ _ _ (omega arith) (omega arith) (memory_grows_twice _ _ _ _ _ _ _ (grows_without_memory _ _ _ c.finish_writes.ensures.grows) c.finish_reads.ensures.grows)
 
 pub returns-in_err-waitrequest-clause-waits : goal.returns-in_err-waitrequest-clause-waits
 returns-in_err-waitrequest-clause-waits c n apart w = c.finish_reads.ensures.waits n (λ o. apart (inl o)) (c.finish_writes.ensures.waits n (λ o. apart (inr o)) w)
@@ -101,21 +103,24 @@ returns-in_err-waitrequest-clause-waits c n apart w = c.finish_reads.ensures.wai
 pub returns-in_err-waitrequest-clause-full : goal.returns-in_err-waitrequest-clause-full
 returns-in_err-waitrequest-clause-full c e =
     let most0 = c.finish_writes.ensures.grows.most in
-    let full = c.finish_reads.ensures.full (handed_on _ _ _ _ c.in_err-waitrequest.was c.from_residual-in_err-waitrequest.ensures.1 e) in
-    omega (arith, most0, full)
+    let memories = ap (length {A = Memory}) c.finish_writes.ensures.grows.memories in
+    elim (c.finish_reads.ensures.full (handed_on _ _ _ _ c.in_err-waitrequest.was c.from_residual-in_err-waitrequest.ensures.1 e)) [
+      | inl full ↦ inl (omega (arith, most0, full))
+      | inr full ↦ inr (omega (arith, memories, full))
+    ]
 
 pub returns-in_err-response-clause-grows : goal.returns-in_err-response-clause-grows
-returns-in_err-response-clause-grows c = grows_fewer _ _ _ _ (omega arith) (grows_twice _ _ _ _ _ (grows_twice _ _ _ _ _ c.finish_writes.ensures.grows c.finish_reads.ensures.grows) (adds_grow _ _ _ c.no_response.ensures.adds))
+returns-in_err-response-clause-grows c = then_grows _ _ _ _ _ _ _ _ (memory_grows_twice _ _ _ _ _ _ _ (grows_without_memory _ _ _ c.finish_writes.ensures.grows) c.finish_reads.ensures.grows) (adds_grow _ _ _ c.no_response.ensures.adds) (omega arith) (omega arith)
 
 pub returns-in_err-response-clause-full : goal.returns-in_err-response-clause-full
 returns-in_err-response-clause-full c e =
     let most0 = c.finish_writes.ensures.grows.most in
     let most1 = c.finish_reads.ensures.grows.most in
     let full = c.no_response.ensures.full (handed_on _ _ _ _ c.in_err-response.was c.from_residual-in_err-response.ensures.1 e) in
-    omega (arith, most0, most1, full)
+    inl (omega (arith, most0, most1, full))
 
 pub returns-clause-grows : goal.returns-clause-grows
-returns-clause-grows c = grows_fewer _ _ _ _ (omega arith) (grows_twice _ _ _ _ _ (grows_twice _ _ _ _ _ c.finish_writes.ensures.grows c.finish_reads.ensures.grows) (adds_grow _ _ _ c.no_response.ensures.adds))
+returns-clause-grows c = then_grows _ _ _ _ _ _ _ _ (memory_grows_twice _ _ _ _ _ _ _ (grows_without_memory _ _ _ c.finish_writes.ensures.grows) c.finish_reads.ensures.grows) (adds_grow _ _ _ c.no_response.ensures.adds) (omega arith) (omega arith)
 
 pub returns-clause-full : goal.returns-clause-full
 returns-clause-full c e = cc
@@ -125,3 +130,22 @@ returns-clause-no_more_wait c n w =
     let late = c.in_ok-waitrequest.ensures.no_more_wait n (c.no_response.ensures.adds.grows.no_more_wait n w) in
     let rest = c.in_ok-finish_writes.ensures.no_more_wait n late.0 in
     (rest.0, λ o. elim o [ inl p ↦ late.1 p | inr q ↦ rest.1 q ])
+
+pub returns-in_err-finish_writes-clause-still_wait_for_write : goal.returns-in_err-finish_writes-clause-still_wait_for_write
+returns-in_err-finish_writes-clause-still_wait_for_write c m w = writes_wait_alike _ _ c.finish_writes.ensures.grows.memories m w
+
+pub returns-in_err-waitrequest-clause-still_wait_for_write : goal.returns-in_err-waitrequest-clause-still_wait_for_write
+returns-in_err-waitrequest-clause-still_wait_for_write c m w = c.finish_reads.ensures.still_wait_for_write m (writes_wait_alike _ _ c.finish_writes.ensures.grows.memories m w)
+
+pub returns-in_err-response-clause-still_wait_for_write : goal.returns-in_err-response-clause-still_wait_for_write
+returns-in_err-response-clause-still_wait_for_write c m w =
+    writes_wait_alike _ _ c.no_response.ensures.adds.grows.memories m (c.finish_reads.ensures.still_wait_for_write m (writes_wait_alike _ _ c.finish_writes.ensures.grows.memories m w))
+
+pub returns-clause-still_wait_for_write : goal.returns-clause-still_wait_for_write
+returns-clause-still_wait_for_write c m w =
+    writes_wait_alike _ _ c.no_response.ensures.adds.grows.memories m (c.finish_reads.ensures.still_wait_for_write m (writes_wait_alike _ _ c.finish_writes.ensures.grows.memories m w))
+
+pub returns-clause-no_more_wait_for_write : goal.returns-clause-no_more_wait_for_write
+returns-clause-no_more_wait_for_write c m w =
+    let late = writes_wait_alike _ _ (sym c.no_response.ensures.adds.grows.memories) m w in
+    writes_wait_alike _ _ (sym c.finish_writes.ensures.grows.memories) m (c.in_ok-waitrequest.ensures.no_more_wait_for_write m late)

@@ -30,16 +30,16 @@ returns-clause-value c cycle v6 few =
     let v1 = c.sub.ensures.extends.valuations cycle v2 in
     let v0 = c.both.ensures.adds.grows.extends.valuations cycle v1 in
     let fits = width_fits _ _ _ c.requires.beats cycle v0 in
-    let lacks : cycle.net c.in_ok-lacks.lacks.number ≡ cycle.net c.args.ends.now.beats.number - cycle.net c.args.got.number = difference _ _ (2 ^ c.args.bits) fits few (rw c.requires.beats.has_width at (c.in_ok-lacks.ensures.value cycle v2).1) in
+    let lacks : cycle.net c.in_ok-lacks.lacks.number ≡ cycle.net c.args.beats.number - cycle.net c.args.got.number = difference _ _ (2 ^ c.args.bits) fits few (rw c.requires.beats.has_width at (c.in_ok-lacks.ensures.value cycle v2).1) in
     let goes = c.in_ok-goes.ensures.value cycle v1 in
-    let single : is_raised (cycle.net c.in_ok-single.single.number) ≡ nat_eq (cycle.net c.args.ends.now.beats.number - cycle.net c.args.got.number) 1 =
+    let single : is_raised (cycle.net c.in_ok-single.single.number) ≡ nat_eq (cycle.net c.args.beats.number - cycle.net c.args.got.number) 1 =
     ap is_raised ((c.in_ok-single.ensures.value cycle v4).1 ∙ ap (λ n. if nat_eq (cycle.net c.in_ok-lacks.lacks.number) n then 1 else 0) (c.in_ok-one.ensures.value cycle v3)) ∙ raised_if (nat_eq (cycle.net c.in_ok-lacks.lacks.number) 1) ∙ ap (λ n. nat_eq n 1) lacks in
     let room : cycle.net c.args.got.number + cycle.net c.in_ok-lacks.lacks.number < 2 ^ c.args.bits = omega (arith, lacks, few, fits) in
     record {
-      ends = c.in_ok-last.ensures.value cycle v5 ∙ ap (λ t. t && is_raised (cycle.net c.in_ok-single.single.number)) goes ∙ ap (λ t. (is_raised (cycle.net c.args.valid.number) && is_raised (cycle.net c.args.ends.now.some.number)) && t) single;
+      ends = c.in_ok-last.ensures.value cycle v5 ∙ ap (λ t. t && is_raised (cycle.net c.in_ok-single.single.number)) goes ∙ ap (λ t. (is_raised (cycle.net c.args.valid.number) && is_raised (cycle.net c.args.some.number)) && t) single;
       goes = c.in_ok-next.ensures.value cycle v6 room
           ∙ ap (λ t. if is_raised (cycle.net c.in_ok-last.last.number) then 0 else cycle.net c.args.got.number + one_if (t && not (nat_eq (cycle.net c.in_ok-lacks.lacks.number) 0))) goes
-          ∙ ap (λ n. if is_raised (cycle.net c.in_ok-last.last.number) then 0 else cycle.net c.args.got.number + one_if ((is_raised (cycle.net c.args.valid.number) && is_raised (cycle.net c.args.ends.now.some.number)) && not (nat_eq n 0))) lacks;
+          ∙ ap (λ n. if is_raised (cycle.net c.in_ok-last.last.number) then 0 else cycle.net c.args.got.number + one_if ((is_raised (cycle.net c.args.valid.number) && is_raised (cycle.net c.args.some.number)) && not (nat_eq n 0))) lacks;
     }
 
 pub sub-requires-clause-a_is : goal.sub-requires-clause-a_is

@@ -1,17 +1,14 @@
 use Rattle.net_parts.specs.Laws.{extends_twice, net_lasts, width_fits, adds_twice, adds_grow, grows_fewer, grows_twice}
 use Rattle.mm_host.proofs.Levels.{top_bit}
 use Rattle.net_parts.specs.Refusing.{handed_on}
-use Rattle.std.proofs.Common.{arith, sym, subst}
-use Rattle.netlist.specs.Netlists.{IsWaiting}
-use Rattle.mm_host.proofs.reads.hold_count.Goals as goal
+use Rattle.std.proofs.Common.{arith}
+use Rattle.mm_host.proofs.reads.count_reads.Goals as goal
 
-pub returns-clause-held : goal.returns-clause-held
-returns-clause-held c count =
+pub returns-clause-counted : goal.returns-clause-counted
+returns-clause-counted c =
     let more = c.unless.ensures.adds.grows.extends in
     let all = extends_twice _ _ _ c.are_sixteen.ensures.adds.grows.extends more in
     record {
-      kind = c.requires.kind;
-      words = c.requires.words;
       net = net_lasts _ _ _ _ all c.in_ok-unanswered.ensures.net;
       bit = net_lasts _ _ _ _ more c.in_ok-full.ensures.net;
       starts = λ run cycles r. c.in_ok-unanswered.ensures.starts run cycles (all.runs run cycles r);
@@ -71,7 +68,7 @@ pub returns-clause-still_wait : goal.returns-clause-still_wait
 returns-clause-still_wait c n w = c.unless.ensures.adds.grows.waits n (c.are_sixteen.ensures.adds.grows.waits n (c.register.ensures.still_wait n w))
 
 pub returns-clause-own_wait : goal.returns-clause-own_wait
-returns-clause-own_wait c n o = subst (IsWaiting c.unless.new.builder) (sym o) (c.unless.ensures.adds.grows.waits _ (c.are_sixteen.ensures.adds.grows.waits _ c.in_ok-unanswered.ensures.waits))
+returns-clause-own_wait c = c.unless.ensures.adds.grows.waits _ (c.are_sixteen.ensures.adds.grows.waits _ c.in_ok-unanswered.ensures.waits)
 
 pub returns-clause-owned : goal.returns-clause-owned
 returns-clause-owned c n o =
