@@ -4,10 +4,11 @@ use Rattle.std.proofs.lemmas.List.{take_more, length-take-le}
 use Rattle.std.proofs.Math.Seq.{drop-cons}
 use Rattle.netlist.specs.Netlists.{Netlist, IsWaiting}
 use Rattle.netlist.specs.Longer.{Extends}
-use Rattle.net_parts.specs.Growth.{GrowsBy, WaitsWithout}
-use Rattle.net_parts.specs.Laws.{grows_none, grows_within}
+use Rattle.net_parts.specs.Growth.{GrowsInMemory, WaitsWithout, StillWaitForWrite}
+use Rattle.net_parts.specs.Laws.{grows_none, grows_without_memory}
 use Rattle.memory_sides.specs.declared.route.Route.{Route}
 use Rattle.mm_route.specs.Forward.{forward_lasts}
+use Rattle.mm_agent.specs.Memories.{memory_grows_within}
 use Rattle.mm_fabric.specs.Trunks.{owns, trunk_lasts}
 use Rattle.mm_fabric.specs.declared.begun.BegunHost.{BegunHost}
 use Rattle.mm_fabric.specs.declared.parts.AgentPart.{AgentPart}
@@ -90,11 +91,11 @@ pub may_at : (netlist : Netlist) (parts : List AgentPart) (begun : List BegunHos
 may_at netlist parts begun count first h lt is = (subst (AllMayFinish netlist parts count) (ahead begun count first lt is) h).0
 
 pub none_finished : (old : Netlist) (parts : List AgentPart) (begun : List BegunHost) → AllMayFinish old parts 0 begun → AreFinishedSoFar old old parts begun [] 0
-none_finished old parts begun h = record { made = tt; rest = h; grows = grows_none old; waits = λ n none w. w; no_more_wait = λ n w. (w, λ o. o) }
+none_finished old parts begun h = record { made = tt; rest = h; grows = grows_without_memory 0 old old (grows_none old); waits = λ n none w. w; no_more_wait = λ n w. (w, λ o. o); waits_for_write = λ m w. w; no_more_wait_for_write = λ m w. w }
 
 pub one_more_finished : (old now new : Netlist) (parts : List AgentPart) (begun : List BegunHost) (hosts : List HostPart) (count : ℕ) (first : BegunHost) (host : HostPart) → AreFinishedSoFar old now parts begun hosts count → count < length begun → first ≡ get_or begun count first → AreApart begun →
-    IsFinished new parts count first host → GrowsBy finished_nets now new → ((n : ℕ) → ¬ owns first.trunk n → IsWaiting now n → IsWaiting new n) → WaitsWithout (owns first.trunk) now new → AreFinishedSoFar old new parts begun (hosts ++ host ∷ []) (count + 1)
-one_more_finished old now new parts begun hosts count first host h lt is apart one grows waits no_more =
+    IsFinished new parts count first host → GrowsInMemory finished_nets 1 now new → ((n : ℕ) → ¬ owns first.trunk n → IsWaiting now n → IsWaiting new n) → WaitsWithout (owns first.trunk) now new → StillWaitForWrite now new → StillWaitForWrite new now → AreFinishedSoFar old new parts begun (hosts ++ host ∷ []) (count + 1)
+one_more_finished old now new parts begun hosts count first host h lt is apart one grows waits no_more writes no_more_write =
     let cons = ahead begun count first lt is in
     let next : suc count ≡ count + 1 = omega arith in
     let taken : take (count + 1) begun ≡ take count begun ++ first ∷ [] = take_more begun count first lt ∙ ap (λ (x : BegunHost). take count begun ++ x ∷ []) (sym is) in
@@ -105,11 +106,13 @@ one_more_finished old now new parts begun hosts count first host h lt is apart o
       rest = subst (λ n. AllMayFinish new parts (count + 1) (drop n begun)) next
           (all_may_last now new parts (count + 1) (drop (suc count) begun) (subst (AllMayFinish now parts count) cons h.rest).1 grows.extends
           (λ n o w. waits n (λ own. apart_at begun count first (drop (suc count) begun) n apart cons own o) w));
-      grows = grows_within (finished_nets * count) finished_nets _ old now new h.grows grows (omega arith);
+      grows = memory_grows_within (finished_nets * count) finished_nets _ count 1 _ old now new h.grows grows (omega arith) (omega arith);
       waits = wait_on old now new begun count first lt is h.waits waits;
       no_more_wait = λ n w. (
           let late = no_more n w in
           let early = h.no_more_wait n late.0 in
           (early.0, λ o. elim (of_more (take count begun) first n (subst (λ (bs : List BegunHost). IsOfAny bs n) taken o)) [ inl before ↦ early.1 before | inr own ↦ late.1 own ])
           );
+      waits_for_write = λ m w. writes m (h.waits_for_write m w);
+      no_more_wait_for_write = λ m w. h.no_more_wait_for_write m (no_more_write m w);
     }

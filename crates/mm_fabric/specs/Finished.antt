@@ -3,7 +3,7 @@ use Rattle.std.specs.Prelude.{◌≡◌, ℕ, ◌+◌, ◌*◌, ◌≤◌, true,
 use Rattle.std.specs.List.{AllZip}
 use Rattle.iface_roles.specs.Proper.{IsBoundedHost}
 use Rattle.netlist.specs.Netlists.{Netlist, IsWaiting}
-use Rattle.net_parts.specs.Growth.{GrowsBy, WaitsWithout}
+use Rattle.net_parts.specs.Growth.{GrowsInMemory, WaitsWithout, StillWaitForWrite}
 use Rattle.mm_route.specs.Forward.{RouteForward}
 use Rattle.mm_route.specs.Backward.{backward_nets}
 use Rattle.mm_host.specs.Reads.{is_unbounded}
@@ -55,6 +55,8 @@ finished_nets = backward_nets 32 + 171
 pub record AreFinishedSoFar (old now : Netlist) (parts : List AgentPart) (begun : List BegunHost) (hosts : List HostPart) (count : ℕ) : Type 0 where
   pub made : AreFinished now parts 0 (take count begun) hosts
   pub rest : AllMayFinish now parts count (drop count begun)
-  pub grows : GrowsBy (finished_nets * count) old now
+  pub grows : GrowsInMemory (finished_nets * count) count old now
   pub waits : (n : ℕ) → ¬ IsOfAny begun n → IsWaiting old n → IsWaiting now n
   pub no_more_wait : WaitsWithout (IsOfAny (take count begun)) old now
+  pub waits_for_write : StillWaitForWrite old now
+  pub no_more_wait_for_write : StillWaitForWrite now old

@@ -1,8 +1,9 @@
 //! The hosts of a plan that are finished with what their agents tell.
 
-ghost use Rattle.std.specs.Prelude.{◌≡◌, ℕ, ◌+◌, ◌*◌, ◌^◌, ◌<◌, ◌≤◌, length, IfOk, OnOk};
+ghost use Rattle.std.specs.Prelude.{◌≡◌, ℕ, ◌*◌, ◌≤◌, length, IfOk, OnOk};
 ghost use Rattle.netlist.specs.Netlists.{IsWaiting};
-ghost use Rattle.net_parts.specs.Growth.{GrowsBy, WaitsWithout};
+ghost use Rattle.net_parts.specs.Growth.{GrowsInMemory, WaitsWithout, StillWaitForWrite};
+ghost use Rattle.mm_fabric.specs.Askers.{HasNoRoomFor};
 ghost use Rattle.mm_fabric.specs.Begun.{IsOfAny, AreApart};
 ghost use Rattle.mm_fabric.specs.Finished.{AllMayFinish, AreFinished, finished_nets};
 
@@ -27,12 +28,14 @@ pub fn finish_hosts(
     requires hosts { AllMayFinish builder.old parts.now 0 begun.now }
     requires apart { AreApart begun.now }
     ensures hosts { IfOk result (AreFinished builder.new parts.now 0 begun.now) }
-    ensures grows { GrowsBy (finished_nets * length begun.now) builder.old builder.new }
+    ensures grows { GrowsInMemory (finished_nets * length begun.now) (length begun.now) builder.old builder.new }
     ensures waits { (n : ℕ) → ¬ IsOfAny begun.now n → IsWaiting builder.old n → IsWaiting builder.new n }
     ensures no_more_wait { OnOk result (WaitsWithout (IsOfAny begun.now) builder.old builder.new) }
+    ensures still_wait_for_write { StillWaitForWrite builder.old builder.new }
+    ensures no_more_wait_for_write { OnOk result (StillWaitForWrite builder.new builder.old) }
 
     // Memory may run out at any net.
-    ensures full { result ≡ Err NetFault.TooManyNets → 2 ^ 20 < length builder.old.lines + finished_nets * length begun.now }
+    ensures full { result ≡ Err NetFault.TooManyNets → HasNoRoomFor (finished_nets * length begun.now) (length begun.now) builder.old }
 {
     let mut hosts = List::new(alloc);
     for number in 0..begun.len() {

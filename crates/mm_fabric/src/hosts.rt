@@ -1,12 +1,13 @@
 //! What stands next to a host: the part next to it, and its route.
 
-ghost use Rattle.std.specs.Prelude.{◌≡◌, ℕ, ◌+◌, ◌*◌, ◌^◌, ◌<◌, ◌≤◌, true, length, IfOk, OnOk};
+ghost use Rattle.std.specs.Prelude.{◌≡◌, ℕ, ◌+◌, ◌*◌, ◌≤◌, true, length, IfOk, OnOk};
 ghost use Rattle.iface_roles.specs.Proper.{IsBoundedHost};
 ghost use Rattle.netlist.specs.Netlists.{IsWaiting};
-ghost use Rattle.net_parts.specs.Growth.{GrowsBy, WaitsWithout};
+ghost use Rattle.net_parts.specs.Growth.{GrowsInMemory, WaitsWithout, StillWaitForWrite};
 ghost use Rattle.mm_route.specs.Forward.{RouteForward};
 ghost use Rattle.mm_route.specs.Backward.{AreBackNets, backward_nets};
 ghost use Rattle.mm_host.specs.Reads.{is_unbounded};
+ghost use Rattle.mm_fabric.specs.Askers.{HasNoRoomFor};
 ghost use Rattle.mm_fabric.specs.Trunks.{owns, IsTrunk};
 ghost use Rattle.mm_fabric.specs.Parts.{IsHostPart};
 ghost use Rattle.mm_fabric.specs.Ways.{AreWaysOf};
@@ -72,12 +73,14 @@ pub(crate) fn finish_host_part(
     ensures port { IfOk result (λ part. part.port ≡ port.now) }
     ensures nets { IfOk result (λ part. part.held.nets ≡ trunk.now.host.nets) }
     ensures ways { IfOk result (λ part. AreWaysOf routes.now commands.now backs.now part.ways) }
-    ensures grows { GrowsBy (backward_nets (length backs.now) + 171) builder.old builder.new }
+    ensures grows { GrowsInMemory (backward_nets (length backs.now) + 171) 1 builder.old builder.new }
     ensures waits { (n : ℕ) → ¬ owns trunk.now n → IsWaiting builder.old n → IsWaiting builder.new n }
     ensures no_more_wait { OnOk result (WaitsWithout (owns trunk.now) builder.old builder.new) }
+    ensures still_wait_for_write { StillWaitForWrite builder.old builder.new }
+    ensures no_more_wait_for_write { OnOk result (StillWaitForWrite builder.new builder.old) }
 
     // Memory may run out at any net.
-    ensures full { result ≡ Err NetFault.TooManyNets → 2 ^ 20 < length builder.old.lines + (backward_nets (length backs.now) + 171) }
+    ensures full { result ≡ Err NetFault.TooManyNets → HasNoRoomFor (backward_nets (length backs.now) + 171) 1 builder.old }
 {
     let told = finish_trunk(builder, port, trunk, backs)?;
     let ways = ways_of(alloc, routes, commands, backs)?;

@@ -1,13 +1,14 @@
 //! What the agents of a host tell it.
 
-ghost use Rattle.std.specs.Prelude.{◌≡◌, ℕ, ◌+◌, ◌*◌, ◌^◌, ◌<◌, ◌≤◌, true, length, IfOk, OnOk};
+ghost use Rattle.std.specs.Prelude.{◌≡◌, ℕ, ◌+◌, ◌*◌, ◌≤◌, true, length, IfOk, OnOk};
 ghost use Rattle.std.specs.List.{AllZip};
 ghost use Rattle.iface_roles.specs.Proper.{IsBoundedHost};
 ghost use Rattle.netlist.specs.Netlists.{IsWaiting};
-ghost use Rattle.net_parts.specs.Growth.{GrowsBy, WaitsWithout};
+ghost use Rattle.net_parts.specs.Growth.{GrowsInMemory, WaitsWithout, StillWaitForWrite};
 ghost use Rattle.mm_route.specs.Forward.{RouteForward};
 ghost use Rattle.mm_route.specs.Backward.{backward_nets};
 ghost use Rattle.mm_host.specs.Reads.{is_unbounded};
+ghost use Rattle.mm_fabric.specs.Askers.{HasNoRoomFor};
 ghost use Rattle.mm_fabric.specs.Trunks.{owns, IsTrunk};
 ghost use Rattle.mm_fabric.specs.Parts.{IsHostPart, commands_below, backs_below};
 ghost use Rattle.mm_fabric.specs.Fabrics.{seat_of};
@@ -78,12 +79,14 @@ pub(crate) fn finish_begun(
     ensures nets { IfOk result (λ part. part.held.nets ≡ begun.now.trunk.host.nets) }
     ensures commands { IfOk result (λ part. commands_below part.ways ≡ begun.now.commands.items) }
     ensures backs { IfOk result (λ part. AllZip (IsBackFor number parts.now) begun.now.routes (backs_below part.ways)) }
-    ensures grows { GrowsBy (backward_nets (length begun.now.routes) + 171) builder.old builder.new }
+    ensures grows { GrowsInMemory (backward_nets (length begun.now.routes) + 171) 1 builder.old builder.new }
     ensures waits { (n : ℕ) → ¬ owns begun.now.trunk n → IsWaiting builder.old n → IsWaiting builder.new n }
     ensures no_more_wait { OnOk result (WaitsWithout (owns begun.now.trunk) builder.old builder.new) }
+    ensures still_wait_for_write { StillWaitForWrite builder.old builder.new }
+    ensures no_more_wait_for_write { OnOk result (StillWaitForWrite builder.new builder.old) }
 
     // Memory may run out at any net.
-    ensures full { result ≡ Err NetFault.TooManyNets → 2 ^ 20 < length builder.old.lines + (backward_nets (length begun.now.routes) + 171) }
+    ensures full { result ≡ Err NetFault.TooManyNets → HasNoRoomFor (backward_nets (length begun.now.routes) + 171) 1 builder.old }
 {
     let routes = begun.routes.as_slice();
     let backs = backs_for(alloc, parts, routes, number)?;

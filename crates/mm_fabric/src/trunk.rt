@@ -4,7 +4,7 @@ ghost use Rattle.std.specs.Prelude.{◌≡◌, ℕ, ◌+◌, ◌*◌, ◌^◌, �
 ghost use Rattle.iface_roles.specs.Proper.{IsBoundedHost, range_of};
 ghost use Rattle.netlist.specs.Netlists.{IsWaiting};
 ghost use Rattle.net_parts.specs.Nets.{IsBit, IsRegister};
-ghost use Rattle.net_parts.specs.Growth.{GrowsBy, StillWait, WaitsBeside, WaitsWithout, AreMadeBetween};
+ghost use Rattle.net_parts.specs.Growth.{GrowsBy, GrowsInMemory, StillWait, WaitsBeside, WaitsWithout, AreMadeBetween, StillWaitForWrite};
 ghost use Rattle.memory_sides.specs.declared.route.Route.{Route};
 ghost use Rattle.command_nets.specs.declared.nets.CommandNets.{CommandNets};
 ghost use Rattle.mm_route.specs.Entries.{AreEntries, is_lone};
@@ -16,6 +16,7 @@ ghost use Rattle.mm_route.specs.Machine.{RunsAsMachine};
 ghost use Rattle.mm_host.specs.Hosts.{reads_words, AreHostNets};
 ghost use Rattle.mm_host.specs.Reads.{is_unbounded};
 ghost use Rattle.mm_host.specs.Forms.{AreAnswersTo, RunsAsHostWhile};
+ghost use Rattle.mm_fabric.specs.Askers.{HasNoRoomFor};
 ghost use Rattle.mm_fabric.specs.Trunks.{room_bits};
 ghost use Rattle.mm_fabric.specs.Trunks.{owns, IsTrunk};
 
@@ -124,10 +125,12 @@ pub(crate) fn finish_trunk(
         → RouteForward entries host command commands trunk.now.route builder.old
         → is_lone entries command.address.width ≡ true → RunsAsWire builder.new trunk.now.route command commands backs.now told.wait told.answer) }
     ensures registers { (n : ℕ) → owns trunk.now n → IsRegister builder.new n }
-    ensures grows { GrowsBy (backward_nets (length backs.now) + 171) builder.old builder.new }
+    ensures grows { GrowsInMemory (backward_nets (length backs.now) + 171) 1 builder.old builder.new }
     ensures waits { (n : ℕ) → ¬ owns trunk.now n → IsWaiting builder.old n → IsWaiting builder.new n }
     ensures no_more_wait { OnOk result (WaitsWithout (owns trunk.now) builder.old builder.new) }
-    ensures full { result ≡ Err NetFault.TooManyNets → 2 ^ 20 < length builder.old.lines + (backward_nets (length backs.now) + 171) }
+    ensures still_wait_for_write { StillWaitForWrite builder.old builder.new }
+    ensures no_more_wait_for_write { OnOk result (StillWaitForWrite builder.new builder.old) }
+    ensures full { result ≡ Err NetFault.TooManyNets → HasNoRoomFor (backward_nets (length backs.now) + 171) 1 builder.old }
 {
     builder.well_made();
     let (wait, answer) = finish_route(

@@ -76,14 +76,14 @@ returns-in_err-joined-clause-grows c =
 pub returns-in_err-finished-clause-grows : goal.returns-in_err-finished-clause-grows
 returns-in_err-finished-clause-grows c =
     let as_many = ap (λ (bs : List BegunHost). length bs) c.as_slice-2.ensures ∙ sym (length-map c.in_ok-begun.begun end_of) ∙ ap (λ (es : List HostEnd). length es) c.in_ok-begun.ensures.begun.ends_are in
-    memory_grows_within _ _ _ _ _ _ _ _ _ (memory_grows_twice _ _ _ _ _ _ _ (grows_without_memory _ _ _ c.begin_hosts.ensures.grows) c.join_agents.ensures.grows) (grows_without_memory _ _ _ c.finish_hosts.ensures.grows)
-    (three_phases begun_nets finished_nets most_agent_nets link_nets (length c.args.hosts.now) (length c.args.agents.now) (length (memory_links c.args.plan.now.system)) (length c.as_slice-2.result.now) as_many) (omega arith)
+    memory_grows_within _ _ _ _ _ _ _ _ _ (memory_grows_twice _ _ _ _ _ _ _ (grows_without_memory _ _ _ c.begin_hosts.ensures.grows) c.join_agents.ensures.grows) c.finish_hosts.ensures.grows
+    (three_phases begun_nets finished_nets most_agent_nets link_nets (length c.args.hosts.now) (length c.args.agents.now) (length (memory_links c.args.plan.now.system)) (length c.as_slice-2.result.now) as_many) (omega (arith, as_many))
 
 pub returns-clause-grows : goal.returns-clause-grows
 returns-clause-grows c =
     let as_many = ap (λ (bs : List BegunHost). length bs) c.as_slice-2.ensures ∙ sym (length-map c.in_ok-begun.begun end_of) ∙ ap (λ (es : List HostEnd). length es) c.in_ok-begun.ensures.begun.ends_are in
-    memory_grows_within _ _ _ _ _ _ _ _ _ (memory_grows_twice _ _ _ _ _ _ _ (grows_without_memory _ _ _ c.begin_hosts.ensures.grows) c.join_agents.ensures.grows) (grows_without_memory _ _ _ c.finish_hosts.ensures.grows)
-    (three_phases begun_nets finished_nets most_agent_nets link_nets (length c.args.hosts.now) (length c.args.agents.now) (length (memory_links c.args.plan.now.system)) (length c.as_slice-2.result.now) as_many) (omega arith)
+    memory_grows_within _ _ _ _ _ _ _ _ _ (memory_grows_twice _ _ _ _ _ _ _ (grows_without_memory _ _ _ c.begin_hosts.ensures.grows) c.join_agents.ensures.grows) c.finish_hosts.ensures.grows
+    (three_phases begun_nets finished_nets most_agent_nets link_nets (length c.args.hosts.now) (length c.args.agents.now) (length (memory_links c.args.plan.now.system)) (length c.as_slice-2.result.now) as_many) (omega (arith, as_many))
 
 -- ---- what waits
 
@@ -106,13 +106,13 @@ pub returns-in_err-joined-clause-still_wait_for_write : goal.returns-in_err-join
 returns-in_err-joined-clause-still_wait_for_write c m w = c.join_agents.ensures.still_wait_for_write m (writes_wait_alike c.args.builder.now c.begin_hosts.new.builder c.begin_hosts.ensures.grows.memories m w)
 
 pub returns-in_err-finished-clause-still_wait_for_write : goal.returns-in_err-finished-clause-still_wait_for_write
-returns-in_err-finished-clause-still_wait_for_write c m w = writes_wait_alike c.join_agents.new.builder c.finish_hosts.new.builder c.finish_hosts.ensures.grows.memories m (c.join_agents.ensures.still_wait_for_write m (writes_wait_alike c.args.builder.now c.begin_hosts.new.builder c.begin_hosts.ensures.grows.memories m w))
+returns-in_err-finished-clause-still_wait_for_write c m w = c.finish_hosts.ensures.still_wait_for_write m (c.join_agents.ensures.still_wait_for_write m (writes_wait_alike c.args.builder.now c.begin_hosts.new.builder c.begin_hosts.ensures.grows.memories m w))
 
 pub returns-clause-still_wait_for_write : goal.returns-clause-still_wait_for_write
-returns-clause-still_wait_for_write c m w = writes_wait_alike c.join_agents.new.builder c.finish_hosts.new.builder c.finish_hosts.ensures.grows.memories m (c.join_agents.ensures.still_wait_for_write m (writes_wait_alike c.args.builder.now c.begin_hosts.new.builder c.begin_hosts.ensures.grows.memories m w))
+returns-clause-still_wait_for_write c m w = c.finish_hosts.ensures.still_wait_for_write m (c.join_agents.ensures.still_wait_for_write m (writes_wait_alike c.args.builder.now c.begin_hosts.new.builder c.begin_hosts.ensures.grows.memories m w))
 
 pub returns-clause-no_more_wait_for_write : goal.returns-clause-no_more_wait_for_write
-returns-clause-no_more_wait_for_write c m w = writes_waited_alike c.args.builder.now c.begin_hosts.new.builder c.begin_hosts.ensures.grows.memories m (c.in_ok-joined.ensures.no_more_wait_for_write m (writes_waited_alike c.join_agents.new.builder c.finish_hosts.new.builder c.finish_hosts.ensures.grows.memories m w))
+returns-clause-no_more_wait_for_write c m w = writes_waited_alike c.args.builder.now c.begin_hosts.new.builder c.begin_hosts.ensures.grows.memories m (c.in_ok-joined.ensures.no_more_wait_for_write m (c.in_ok-finished.ensures.no_more_wait_for_write m w))
 
 -- ---- where there is no room
 
@@ -138,5 +138,9 @@ returns-in_err-finished-clause-full c e =
     let most = three_phases begun_nets finished_nets most_agent_nets link_nets (length c.args.hosts.now) (length c.args.agents.now) (length (memory_links c.args.plan.now.system)) (length c.as_slice-2.result.now) as_many in
     let grown = c.begin_hosts.ensures.grows.most in
     let joined = c.join_agents.ensures.grows.most in
-    let full = c.finish_hosts.ensures.full (handed_on _ _ _ _ c.in_err-finished.was c.from_residual-in_err-finished.ensures.1 e) in
-    inl (omega (arith, full, most, grown, joined))
+    let memories = ap (length {A = Memory}) c.begin_hosts.ensures.grows.memories in
+    let more = c.join_agents.ensures.grows.most_memories in
+    elim (c.finish_hosts.ensures.full (handed_on _ _ _ _ c.in_err-finished.was c.from_residual-in_err-finished.ensures.1 e)) [
+      | inl full ↦ inl (omega (arith, full, most, grown, joined))
+      | inr full ↦ inr (omega (arith, full, as_many, memories, more))
+    ]

@@ -1,11 +1,12 @@
-use Rattle.std.proofs.Common.{◌*◌, List, length, sym, subst, ap, ◌∙◌, arith}
+use Rattle.std.proofs.Common.{◌*◌, List, length, sym, subst, ap, ◌∙◌, inl, inr, arith}
 use Rattle.std.specs.List.{AllZip}
 use Rattle.std.proofs.lemmas.Slice.Zip.{AllZip-long}
-use Rattle.net_parts.specs.Laws.{grows_fewer}
+use Rattle.net_parts.specs.Laws.{grows_none, grows_without_memory}
 use Rattle.memory_sides.specs.declared.route.Route.{Route}
 use Rattle.command_nets.specs.declared.nets.CommandNets.{CommandNets}
 use Rattle.mm_route.specs.declared.back.BackNets.{BackNets}
 use Rattle.mm_route.specs.Backward.{AreBackNets}
+use Rattle.mm_agent.specs.Memories.{memory_grows_fewer}
 use Rattle.mm_fabric.specs.Trunks.{IsTrunk}
 use Rattle.mm_fabric.specs.Tells.{IsBackFor, AllHaveSeats}
 use Rattle.mm_fabric.specs.Lone.{IsBoundedRoute}
@@ -37,16 +38,18 @@ finish_host_part-requires-clause-backs c =
     subst (λ (bs : List BackNets). AreBackNets c.args.builder.now bits bs) (sym c.deref-2.ensures.value)
     (backs_stand c.args.builder.now bits c.args.number c.args.parts.now c.args.begun.now.routes c.in_ok-backs.backs.items c.requires.tell zipped)
 
+pub returns-in_err-backs-clause-grows : goal.returns-in_err-backs-clause-grows
+returns-in_err-backs-clause-grows c = memory_grows_fewer _ _ _ _ _ _ (omega arith) (omega arith) (grows_without_memory _ _ _ (grows_none _))
+
 pub returns-clause-grows : goal.returns-clause-grows
 returns-clause-grows c =
     let many = ap (λ (bs : List BackNets). length bs) c.deref-2.ensures.value ∙ AllZip-long _ _ _ c.in_ok-backs.ensures.backs ∙ ap (λ (rs : List Route). length rs) c.as_slice-routes.ensures in
-    grows_fewer _ _ _ _ (omega (arith, many)) c.finish_host_part.ensures.grows
+    memory_grows_fewer _ _ _ _ _ _ (omega (arith, many)) (omega arith) c.finish_host_part.ensures.grows
 
 pub returns-clause-full : goal.returns-clause-full
 returns-clause-full c e =
     let many = ap (λ (bs : List BackNets). length bs) c.deref-2.ensures.value ∙ AllZip-long _ _ _ c.in_ok-backs.ensures.backs ∙ ap (λ (rs : List Route). length rs) c.as_slice-routes.ensures in
-    let full = c.finish_host_part.ensures.full e in
-    omega (arith, many, full)
+    elim (c.finish_host_part.ensures.full e) [ inl full ↦ inl (omega (arith, many, full)) | inr full ↦ inr full ]
 
 pub finish_host_part-requires-clause-bounded : goal.finish_host_part-requires-clause-bounded
 finish_host_part-requires-clause-bounded c free =
