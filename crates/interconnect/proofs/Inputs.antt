@@ -238,9 +238,10 @@ pub path_memory_room : (plan : PlanTable) (number : ℕ) (netlist : Netlist) →
     → length netlist.memories + most_memories ≤ 2 ^ 16
 path_memory_room plan number netlist h inside upto =
     let few = upto.few_memories in
+    let hosts = h.planned.few_hosts in
     let agents = h.planned.few_agents in
     let streams = h.planned.few_streams in
-    omega (arith, few, agents, streams, inside)
+    omega (arith, few, hosts, agents, streams, inside)
 
 -- ---- what was added
 

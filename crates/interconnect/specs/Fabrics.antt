@@ -1,5 +1,5 @@
 -- What stands between the hosts and agents of a plan, and drives the outputs at them.
-use Rattle.std.specs.Prelude.{◌≡◌, ℕ, length, Some, slice_get}
+use Rattle.std.specs.Prelude.{◌≡◌, ℕ, ◌+◌, length, Some, slice_get}
 use Rattle.system_tables.specs.Tables.{SystemTable}
 use Rattle.address_map.specs.Maps.{hosts_of, agents_of}
 use Rattle.link_rules.specs.PlanLinks.{memory_links}
@@ -29,7 +29,7 @@ pub record ArePartsOf (system : SystemTable) (parts : FabricParts) : Type 0 wher
 pub record AddsFabric (plan : PlanTable) (old new : Netlist) (parts : FabricParts) : Type 0 where
   pub of : ArePartsOf plan.system parts
   pub stands : AreParts plan new parts
-  pub grows : GrowsInMemory (memory_nets plan.system) (length (agents_of plan.system)) old new
+  pub grows : GrowsInMemory (memory_nets plan.system) (length (hosts_of plan.system) + length (agents_of plan.system)) old new
   pub no_more_wait : StillWait new old
   pub no_more_wait_for_write : StillWaitForWrite new old
 

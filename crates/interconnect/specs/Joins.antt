@@ -176,4 +176,4 @@ pub record IsJoinedUpTo (plan : PlanTable) (streams : ℕ) (netlist : Netlist) :
   pub clocked : IsClocked netlist
   pub written : IsWritten netlist
   pub few : length netlist.lines ≤ input_count (ports_of plan.system) + length (streams_of plan.system) + memory_nets plan.system + streams * most_nets
-  pub few_memories : length netlist.memories ≤ length (agents_of plan.system) + streams * most_memories
+  pub few_memories : length netlist.memories ≤ length (hosts_of plan.system) + length (agents_of plan.system) + streams * most_memories
