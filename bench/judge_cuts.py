@@ -1,10 +1,10 @@
 #!/usr/bin/env python3
-"""What crates/script_rows must print of its rows of a file cut at each byte: judge_cuts.py <ROWS.
+"""What crates/script_rows must print of its rows of a file cut at each byte, and of a read that fails: judge_cuts.py <ROWS.
 
 Each beginning of a text is judged by judge_texts, and each of the system of a wire here, which has three commands and two
-components. Written from docs/RULES.md.
+components. Written from docs/RULES.md. A file is read 4,096 bytes at a time, until a read finds its end.
 
-    python3 bench/judge_cuts.py <crates/script_rows/stdin | diff - <(grep '^any cut' crates/script_rows/stdout)
+    python3 bench/judge_cuts.py <crates/script_rows/stdin | diff - <(grep '^any [cr]' crates/script_rows/stdout)
 """
 import re
 import sys
@@ -12,6 +12,7 @@ import sys
 from judge_simulated_rows import files_of
 from judge_texts import judged
 
+CHUNK = 4096
 ENDS = {"gen": "out", "chk": "st"}
 MOST_WORDS = {"create_system": 1, "add_instance": 2, "add_connection": 2}
 FEWEST_WORDS = {"create_system": 0, "add_instance": 2, "add_connection": 1}
@@ -49,17 +50,28 @@ def fault_of_text(text):
     return int(found[1]) if found else None
 
 
+def told_of_cuts(parts, rest):
+    command, rest = rest.split("\n", 1)
+    whole = files_of(parts, rest)[0][0]
+    fault = {":generate": fault_of_script, ":replay": fault_of_text}[command]
+    faults = [fault(whole[:cut]) for cut in range(len(whole))]
+    return f"{len(whole)} beginnings, done {faults.count(None)}, sum of bytes {sum(at or 0 for at in faults)}"
+
+
+def told_of_reads(parts, rest):
+    reads = [-(-len(file) // CHUNK) + 1 for file in files_of(parts, rest)[0]]
+    return "read faults of files" + "".join(f" {number}" * count for number, count in enumerate(reads, 1))
+
+
 def main():
     heads, *rows = sys.stdin.read().split("\n:row ")
     parts = dict(part.split("\n", 1) for part in heads.split(":part ")[1:])
     for row in rows:
-        if not row.startswith("any cut "):
-            continue
-        title, command, rest = row.split("\n", 2)
-        whole = files_of(parts, rest)[0][0]
-        fault = {":generate": fault_of_script, ":replay": fault_of_text}[command]
-        faults = [fault(whole[:cut]) for cut in range(len(whole))]
-        print(f"{title}: {len(whole)} beginnings, done {faults.count(None)}, sum of bytes {sum(at or 0 for at in faults)}")
+        title, rest = row.split("\n", 1)
+        if title.startswith("any cut "):
+            print(f"{title}: {told_of_cuts(parts, rest)}")
+        elif title.startswith("any read "):
+            print(f"{title}: {told_of_reads(parts, rest)}")
 
 
 if __name__ == "__main__":
