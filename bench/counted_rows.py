@@ -1,13 +1,13 @@
 #!/usr/bin/env python3
 """Writes a row for each number of hosts at one agent, 1 to 16, and of agents below one host, 1 to 32: counted_rows.py bus|scripts.
 
-`bus` writes them as crates/bus_rows/stdin has them. Each host writes a byte of its own and reads it, all at once; the one host writes each
-agent and then reads each, in order. `scripts` writes them as crates/script_rows/stdin has them, where the module that is simulated is
-compared with the one that is generated.
+`bus` writes them as crates/bus_rows/stdin has them, up to 23 agents, the most that its program takes. Each host writes a byte of its
+own and reads it, all at once; the one host writes each agent and then reads each, in order. `scripts` writes them as
+crates/script_rows/stdin has them, where the module that is simulated is compared with the one that is generated.
 """
 import sys
 
-HOSTS, AGENTS = range(1, 17), range(1, 33)
+HOSTS, AGENTS, FEW_AGENTS = range(1, 17), range(1, 33), range(1, 24)
 
 
 def host_accesses(number):
@@ -33,7 +33,7 @@ def bus_rows():
     yield "# each number of hosts at one agent"
     yield from map(hosts_row, HOSTS)
     yield "# each number of agents below one host"
-    yield from map(agents_row, AGENTS)
+    yield from map(agents_row, FEW_AGENTS)
 
 
 SYSTEM = """:simulate
