@@ -15,7 +15,7 @@ use Rattle.mm_runs.specs.Plan.{FitsPorts}
 use Rattle.mm_machines.specs.Link.{Port, takes, is_nonempty}
 use Rattle.mm_machines.specs.Lines.{Sent, HavePlacedLanes, sent_by}
 use Rattle.mm_machines.specs.Machines.{Raw, raw_at}
-use Rattle.mm_links.specs.Cutters.{CutterState, Rest, RunsAsCutter, IsCutPlan, is_sending, behind_burst, first_burst, read_burst_of, whole_read, write_of_burst}
+use Rattle.mm_links.specs.Cutters.{Reach, CutterState, Rest, RunsAsCutter, IsCutPlan, is_sending, behind_burst, first_burst, read_burst_of, whole_read, write_of_burst}
 use Rattle.mm_links.specs.Selects.{EnablesFit, takes_read}
 use Rattle.mm_awake.specs.Rows.{CutsBursts, CutsBursts.cutter, CutsBursts.no_cutter}
 use Rattle.mm_awake.proofs.Bits.{no_true, takes_shows}
@@ -24,12 +24,12 @@ use Rattle.mm_awake.proofs.FairWaiting.{some_lanes}
 -- ---- below a cutter of bursts
 
 -- what it shows has the byte enables of what stands above, or of the read that it sends by itself
-module _ (longest : ℕ) (up down : Port) (state : CutterState) (end : ℕ) (plan : IsCutPlan longest up.shape down.shape) (run : RunsAsCutter longest up down state) (fit : EnablesFit up end) where
+module _ (reach : Reach) (longest : ℕ) (up down : Port) (state : CutterState) (end : ℕ) (plan : IsCutPlan reach longest up.shape down.shape) (run : RunsAsCutter reach longest up down state) (fit : EnablesFit up end) where
   abbrev Fits : Rest → Type 0
   Fits rest = IsTrue (nat_lt 0 rest.left) → rest.command.levels.enables < 2 ^ up.shape.word_bytes
 
   abbrev later : Rest → Rest
-  later rest = behind_burst longest up.shape.word_bytes rest
+  later rest = behind_burst reach up.shape.word_bytes rest
 
   rest_fits : (c : ℕ) → c ≤ end → Fits (state.rest c)
   rest_fits zero h = λ some. absurd (no_true (sym (ap (nat_lt 0) run.rest_begins) ∙ some))
@@ -53,12 +53,12 @@ module _ (longest : ℕ) (up down : Port) (state : CutterState) (end : ℕ) (pla
       enables_of : Raw → ℕ
       enables_of raw = raw.levels.enables
 
-      by_write : (w : Bool) → enables_of (if w then write_of_burst longest up.shape (state.place c) (raw_at up c) else read_burst_of longest (whole_read up.shape (raw_at up c))) ≡ up.commands.enables c
+      by_write : (w : Bool) → enables_of (if w then write_of_burst longest up.shape (state.place c) (raw_at up c) else read_burst_of reach (whole_read up.shape (raw_at up c))) ≡ up.commands.enables c
       by_write true = refl
       by_write false = refl
 
-      enables_are : (b : Bool) → is_sending state c ≡ b → down.commands.enables c ≡ enables_of (if b then read_burst_of longest (state.rest c) else first_burst longest up.shape (state.place c) (raw_at up c))
-      enables_are b e = ap enables_of (run.beat c shown) ∙ ap (λ b. enables_of (if b then read_burst_of longest (state.rest c) else first_burst longest up.shape (state.place c) (raw_at up c))) e
+      enables_are : (b : Bool) → is_sending state c ≡ b → down.commands.enables c ≡ enables_of (if b then read_burst_of reach (state.rest c) else first_burst reach longest up.shape (state.place c) (raw_at up c))
+      enables_are b e = ap enables_of (run.beat c shown) ∙ ap (λ b. enables_of (if b then read_burst_of reach (state.rest c) else first_burst reach longest up.shape (state.place c) (raw_at up c))) e
 
       by_sending : (b : Bool) → is_sending state c ≡ b → down.commands.enables c < 2 ^ up.shape.word_bytes
       by_sending true e = let same = enables_are true e in let few = rest_fits c (omega (arith, h)) e in omega (arith, same, few)
@@ -70,7 +70,7 @@ module _ (longest : ℕ) (up down : Port) (state : CutterState) (end : ℕ) (pla
 
 -- byte enables that fit above a cutter of bursts, or a wire, fit below it
 pub enables_below : {up down : Port} (end : ℕ) → CutsBursts up down → EnablesFit up end → EnablesFit down end
-enables_below {up} {down} end (cutter longest state plan run) fit = below_fits longest up down state end plan run fit
+enables_below {up} {down} end (cutter reach longest state plan run) fit = below_fits reach longest up down state end plan run fit
 enables_below {up} {down} end (no_cutter wired) fit = subst (λ p. EnablesFit p end) wired.wire.same fit
 
 -- ---- a host without byte enables

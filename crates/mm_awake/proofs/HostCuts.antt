@@ -1,22 +1,22 @@
 -- A cutter of bursts: a command comes to no more steps below than it has beats.
 use Rattle.std.proofs.Common.{◌≡◌, ℕ, zero, suc, ◌+◌, ◌-◌, ◌<◌, ◌≤◌, Bool, true, false, not, ◌&&◌, ◌||◌, nat_lt, if◌then◌else◌, arith, refl, sym, ap, ◌∙◌, subst, IsTrue, IsFalse, tests, ltb-true, ltb-false}
 use Rattle.histories.specs.History.{is_raised}
-use Rattle.mm_runs.specs.Commands.{shows}
+use Rattle.mm_runs.specs.Commands.{shows, byte_address}
 use Rattle.mm_machines.specs.Link.{Port, takes, taken_at, marked_at, closes, is_last_joined}
 use Rattle.mm_machines.specs.Machines.{Raw, raw_at}
-use Rattle.mm_links.specs.Cutters.{Rest, CutterState, RunsAsCutter, is_sending, read_burst_of, behind_burst, whole_read, first_burst, write_of_burst}
+use Rattle.mm_links.specs.Cutters.{Rest, Reach, CutterState, RunsAsCutter, is_sending, read_burst_of, behind_burst, whole_read, first_burst, write_of_burst}
 use Rattle.mm_awake.proofs.Bits.{no_true, takes_shows, not_shown, last_joined_end, none_taken, one_taken}
 use Rattle.mm_awake.specs.Steps.{HasStepsLeft, HasSingleReads}
 use Rattle.mm_awake.proofs.HostGrants.{no_both}
 
-module _ (longest : ℕ) (up down : Port) (state : CutterState) (end : ℕ) (runs : RunsAsCutter longest up down state) (least : 1 ≤ longest) (joined : (c : ℕ) → c < end → IsTrue (shows down.commands.signals c) → IsTrue ((marked_at down c).transfer.ends || is_raised (down.commands.more c))) (good : ℕ → Bool) (most : ℕ) (rest : ℕ → ℕ) (above : HasStepsLeft up good most rest end) (reads : HasSingleReads up rest end) where
+module _ (reach : Reach) (longest : ℕ) (up down : Port) (state : CutterState) (end : ℕ) (runs : RunsAsCutter reach longest up down state) (least : (address : ℕ) → 0 < reach address) (joined : (c : ℕ) → c < end → IsTrue (shows down.commands.signals c) → IsTrue ((marked_at down c).transfer.ends || is_raised (down.commands.more c))) (good : ℕ → Bool) (most : ℕ) (rest : ℕ → ℕ) (above : HasStepsLeft up good most rest end) (reads : HasSingleReads up rest end) where
   abbrev pub cut_left : ℕ → ℕ
   cut_left c = if is_sending state c then (state.rest c).left else rest c
 
   abbrev next_by : Bool → Bool → Bool → ℕ → Rest
   next_by sending down_took read_took c =
-      if sending then (if down_took then behind_burst longest up.shape.word_bytes (state.rest c) else state.rest c)
-      else if read_took then behind_burst longest up.shape.word_bytes (whole_read up.shape (raw_at up c)) else state.rest c
+      if sending then (if down_took then behind_burst reach up.shape.word_bytes (state.rest c) else state.rest c)
+      else if read_took then behind_burst reach up.shape.word_bytes (whole_read up.shape (raw_at up c)) else state.rest c
 
   rest_is : (c : ℕ) (s d t w : Bool) → is_sending state c ≡ s → takes down c ≡ d → takes up c ≡ t → is_raised (up.commands.write c) ≡ w → state.rest (suc c) ≡ next_by s d (t && not w) c
   rest_is c s d t w es ed et ew = runs.rest_next c ∙ (rw (es, ed, et, ew) refl)
@@ -60,21 +60,21 @@ module _ (longest : ℕ) (up down : Port) (state : CutterState) (end : ℕ) (run
   not_closed true false h = absurd (no_true h)
 
   -- whether the beat that is shown below is joined to the next one
-  sending_more : (c : ℕ) → IsTrue (shows down.commands.signals c) → is_sending state c ≡ true → down.commands.more c ≡ (if nat_lt longest (state.rest c).left then 1 else (state.rest c).command.more)
-  sending_more c shown es = ap (λ (r : Raw). r.more) (runs.beat c shown ∙ ap (λ b. if b then read_burst_of longest (state.rest c) else first_burst longest up.shape (state.place c) (raw_at up c)) es)
+  sending_more : (c : ℕ) → IsTrue (shows down.commands.signals c) → is_sending state c ≡ true → down.commands.more c ≡ (if nat_lt (reach (state.rest c).address) (state.rest c).left then 1 else (state.rest c).command.more)
+  sending_more c shown es = ap (λ (r : Raw). r.more) (runs.beat c shown ∙ ap (λ b. if b then read_burst_of reach (state.rest c) else first_burst reach longest up.shape (state.place c) (raw_at up c)) es)
 
   write_more : (c : ℕ) → IsTrue (shows down.commands.signals c) → is_sending state c ≡ false → is_raised (up.commands.write c) ≡ true → down.commands.more c ≡ up.commands.more c
-  write_more c shown es ew = ap (λ (r : Raw). r.more) (runs.beat c shown ∙ ap (λ b. if b then read_burst_of longest (state.rest c) else first_burst longest up.shape (state.place c) (raw_at up c)) es ∙ ap (λ b. if b then write_of_burst longest up.shape (state.place c) (raw_at up c) else read_burst_of longest (whole_read up.shape (raw_at up c))) ew)
+  write_more c shown es ew = ap (λ (r : Raw). r.more) (runs.beat c shown ∙ ap (λ b. if b then read_burst_of reach (state.rest c) else first_burst reach longest up.shape (state.place c) (raw_at up c)) es ∙ ap (λ b. if b then write_of_burst longest up.shape (state.place c) (raw_at up c) else read_burst_of reach (whole_read up.shape (raw_at up c))) ew)
 
-  read_more : (c : ℕ) → IsTrue (shows down.commands.signals c) → is_sending state c ≡ false → is_raised (up.commands.write c) ≡ false → down.commands.more c ≡ (if nat_lt longest (up.commands.count c) then 1 else up.commands.more c)
-  read_more c shown es ew = ap (λ (r : Raw). r.more) (runs.beat c shown ∙ ap (λ b. if b then read_burst_of longest (state.rest c) else first_burst longest up.shape (state.place c) (raw_at up c)) es ∙ ap (λ b. if b then write_of_burst longest up.shape (state.place c) (raw_at up c) else read_burst_of longest (whole_read up.shape (raw_at up c))) ew)
+  read_more : (c : ℕ) → IsTrue (shows down.commands.signals c) → is_sending state c ≡ false → is_raised (up.commands.write c) ≡ false → down.commands.more c ≡ (if nat_lt (reach (byte_address up.shape (up.commands.address c))) (up.commands.count c) then 1 else up.commands.more c)
+  read_more c shown es ew = ap (λ (r : Raw). r.more) (runs.beat c shown ∙ ap (λ b. if b then read_burst_of reach (state.rest c) else first_burst reach longest up.shape (state.place c) (raw_at up c)) es ∙ ap (λ b. if b then write_of_burst longest up.shape (state.place c) (raw_at up c) else read_burst_of reach (whole_read up.shape (raw_at up c))) ew)
 
   -- where only more beats are joined, more are left
-  more_left : (n m : ℕ) → IsFalse (is_raised m) → IsTrue (is_raised (if nat_lt longest n then 1 else m)) → longest < n
-  more_left n m none h = by_less (nat_lt longest n) refl h
+  more_left : (far n m : ℕ) → IsFalse (is_raised m) → IsTrue (is_raised (if nat_lt far n then 1 else m)) → far < n
+  more_left far n m none h = by_less (nat_lt far n) refl h
     where
-      by_less : (b : Bool) → nat_lt longest n ≡ b → IsTrue (is_raised (if b then 1 else m)) → longest < n
-      by_less true e h = ltb-true longest n e
+      by_less : (b : Bool) → nat_lt far n ≡ b → IsTrue (is_raised (if b then 1 else m)) → far < n
+      by_less true e h = ltb-true far n e
       by_less false e h = absurd (no_both _ h none)
 
   sends : (c n : ℕ) → (state.rest c).left ≡ n → 1 ≤ n → cut_left c ≡ n
@@ -96,14 +96,14 @@ module _ (longest : ℕ) (up down : Port) (state : CutterState) (end : ℕ) (run
       above_is : takes up c ≡ true → is_last_joined (taken_at up (suc c)) ≡ is_raised (up.commands.more c)
       above_is et = ap is_last_joined (one_taken up c et) ∙ last_joined_end (taken_at up c) (marked_at up c)
 
-      past : (n : ℕ) → IsFalse (nat_lt 0 (n - longest)) → longest < n → ⊥
-      past n f less = let t = ltb-false 0 (n - longest) f in omega (arith, t, less)
+      past : (far n : ℕ) → IsFalse (nat_lt 0 (n - far)) → far < n → ⊥
+      past far n f less = let t = ltb-false 0 (n - far) f in omega (arith, t, less)
 
       by_all : (s d w : Bool) → is_sending state c ≡ s → takes down c ≡ d → is_raised (up.commands.write c) ≡ w → (is_sending state c ≡ false → IsTrue (is_last_joined (taken_at down c)) → IsTrue (is_last_joined (taken_at up c))) → IsTrue (is_last_joined (taken_at up (suc c)))
       by_all true true w es ed ew more =
           let shown = takes_shows down c ed in
           let raised = subst (λ n. IsTrue (is_raised n)) (sending_more c shown es) (below_is ed) in
-          absurd (past (state.rest c).left (none_left _ (rest_is c true true false w es ed (above_takes c true true es ed) ew)) (more_left (state.rest c).left (state.rest c).command.more ((left c (omega (arith, fit))).single es) raised))
+          absurd (past (reach (state.rest c).address) (state.rest c).left (none_left _ (rest_is c true true false w es ed (above_takes c true true es ed) ew)) (more_left (reach (state.rest c).address) (state.rest c).left (state.rest c).command.more ((left c (omega (arith, fit))).single es) raised))
       by_all true false w es ed ew more =
           let same = none_left _ (rest_is c true false false w es ed (above_takes c true false es ed) ew) in absurd (no_both _ es same)
       by_all false false w es ed ew more =
@@ -113,7 +113,7 @@ module _ (longest : ℕ) (up down : Port) (state : CutterState) (end : ℕ) (run
           let took = above_takes c false true es ed in
           let shown = takes_shows down c ed in
           let raised = subst (λ n. IsTrue (is_raised n)) (read_more c shown es ew) (below_is ed) in
-          absurd (past (up.commands.count c) (none_left _ (rest_is c false true true false es ed took ew)) (more_left (up.commands.count c) (up.commands.more c) (reads.single c fit (takes_shows up c took) ew) raised))
+          absurd (past (reach (byte_address up.shape (up.commands.address c))) (up.commands.count c) (none_left _ (rest_is c false true true false es ed took ew)) (more_left (reach (byte_address up.shape (up.commands.address c))) (up.commands.count c) (up.commands.more c) (reads.single c fit (takes_shows up c took) ew) raised))
 
   pub cut_has_steps_left : HasStepsLeft down good most cut_left end
   cut_has_steps_left = record {
@@ -163,11 +163,12 @@ module _ (longest : ℕ) (up down : Port) (state : CutterState) (end : ℕ) (run
           by_all : (s w : Bool) → is_sending state c ≡ s → is_raised (up.commands.write c) ≡ w → cut_left (suc c) + 1 ≤ cut_left c
           by_all true w es ew =
               let raised = subst (λ n. IsTrue (is_raised n)) (sending_more c shown es) more in
-              let less = more_left (state.rest c).left (state.rest c).command.more ((left c (omega (arith, fit))).single es) raised in
+              let less = more_left (reach (state.rest c).address) (state.rest c).left (state.rest c).command.more ((left c (omega (arith, fit))).single es) raised in
               let next = ap (λ (r : Rest). r.left) (rest_is c true true false w es took (above_takes c true true es took) ew) in
               let now = sends c (state.rest c).left refl (omega (arith, less)) in
-              let later = sends (suc c) ((state.rest c).left - longest) next (omega (arith, less)) in
-              omega (arith, now, later, less, least)
+              let later = sends (suc c) ((state.rest c).left - reach (state.rest c).address) next (omega (arith, less)) in
+              let some = least (state.rest c).address in
+              omega (arith, now, later, less, some)
           by_all false true es ew =
               let above_took = above_takes c false true es took in
               let next = rest_is c false true true true es took above_took ew in
@@ -180,12 +181,13 @@ module _ (longest : ℕ) (up down : Port) (state : CutterState) (end : ℕ) (run
               let above_took = above_takes c false true es took in
               let above_shown = takes_shows up c above_took in
               let raised = subst (λ n. IsTrue (is_raised n)) (read_more c shown es ew) more in
-              let less = more_left (up.commands.count c) (up.commands.more c) (reads.single c fit above_shown ew) raised in
+              let less = more_left (reach (byte_address up.shape (up.commands.address c))) (up.commands.count c) (up.commands.more c) (reads.single c fit above_shown ew) raised in
               let next = ap (λ (r : Rest). r.left) (rest_is c false true true false es took above_took ew) in
               let now_is = rests c es in
-              let later = sends (suc c) (up.commands.count c - longest) next (omega (arith, less)) in
+              let later = sends (suc c) (up.commands.count c - reach (byte_address up.shape (up.commands.address c))) next (omega (arith, less)) in
               let count = reads.few c fit above_shown ew in
-              omega (arith, now_is, later, less, count, least)
+              let some = least (byte_address up.shape (up.commands.address c)) in
+              omega (arith, now_is, later, less, count, some)
 
       gaps : (c : ℕ) → c < end → IsTrue (is_last_joined (taken_at down c)) → IsFalse (shows down.commands.signals c) → IsTrue (good c) → cut_left (suc c) + 1 ≤ cut_left c
       gaps c fit opened quiet well = by_sending (is_sending state c) refl

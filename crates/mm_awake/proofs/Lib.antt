@@ -55,6 +55,7 @@ pub mod Stirred
 pub mod Pieces
 pub mod RowOfThree
 pub mod Enables
+pub mod FitsBelow
 pub mod Widened
 pub mod RowLine
 pub mod RowLeads

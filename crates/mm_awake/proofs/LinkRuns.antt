@@ -23,11 +23,11 @@ use Rattle.mm_parts.specs.SystemRun.{Outside}
 use Rattle.mm_links.specs.Driven.{Inputs}
 use Rattle.mm_awake.specs.RowRun.{Cutter, Fitter, RowPlan, RowRegisters, Cutter.Uncut, Fitter.Unfitted, SuitsRow, SuitsDropper, row_registers, row_step, row_top, row_middle, row_low, row_bottom}
 use Rattle.mm_awake.specs.RowSystem.{AreRows, boundaries_of}
-use Rattle.mm_awake.specs.Rows.{IsWired, CutsBursts, FitsWords, DropsBeats, drops_some}
+use Rattle.mm_awake.specs.Rows.{IsWired, CutsBursts, FitsWords, DropsBeats, GathersBelowCut, drops_some}
 use Rattle.mm_awake.specs.LinkSystem.{LinkPlan, SuitsLinks, AreFitHosts, Registers, row_of, agent_inner, linked_registers, to_host, to_route, to_row, to_arbiter, to_agent, after_host, before_arbiter, after_route, before_agent, linked_run, linked_ports, linked_states}
 use Rattle.mm_awake.specs.Theorem.{Boundaries, States, ArePlanned, AreMachines}
 use Rattle.mm_awake.specs.Wires.{IsWire, HandsAllOn}
-use Rattle.mm_awake.proofs.RowRuns.{Links, wire, cuts_run, fits_run, drops_run, drops_some_are}
+use Rattle.mm_awake.proofs.RowRuns.{Links, wire, cuts_run, fits_run, gathers_run, drops_run, drops_some_are}
 use Rattle.mm_awake.proofs.Widened.{wire_chain}
 
 pub record Laws : Type 0 where
@@ -211,14 +211,28 @@ module _ (laws : Laws) (responses : Responses) (plan : LinkPlan) (outside : Outs
         subst (λ (r : ℕ → RowRegisters). (d : DropsBeats (target_of system a) (row_low (row_of plan h a) (to_row responses plan outside all h a) r) (row_bottom (row_of plan h a) (to_row responses plan outside all h a) r)) × (drops_some d ≡ plan.drops h a)) (fun_ext (same_row h a))
         (drops_run laws.links (to_row responses plan outside all h a) (plan.drops h a) (row_of plan h a) (target_of system a) row.dropper row.room, drops_some_are laws.links (to_row responses plan outside all h a) (plan.drops h a) (row_of plan h a) (target_of system a) row.dropper row.room)
 
+    -- what fits words, with the cutter above it
+    fitted : (h a : ℕ) → h < system.hosts → a < system.agents → IsFalse (suits.idle h a) →
+        (k : CutsBursts (row_top (row_of plan h a) (to_row responses plan outside all h a) (λ c. (all c).row h a)) (row_middle (row_of plan h a) (to_row responses plan outside all h a) (λ c. (all c).row h a)))
+        × (f : FitsWords (target_of system a) (row_middle (row_of plan h a) (to_row responses plan outside all h a) (λ c. (all c).row h a)) (row_low (row_of plan h a) (to_row responses plan outside all h a) (λ c. (all c).row h a)))
+        × GathersBelowCut k f
+    fitted h a low there joined =
+        let row = suits.rows h a low there joined in
+        let into = to_row responses plan outside all h a in
+        subst (λ (r : ℕ → RowRegisters). (k : CutsBursts (row_top (row_of plan h a) into r) (row_middle (row_of plan h a) into r))
+        × (f : FitsWords (target_of system a) (row_middle (row_of plan h a) into r) (row_low (row_of plan h a) into r)) × GathersBelowCut k f) (fun_ext (same_row h a)) (
+          cuts_run laws.links into (plan.cutter h a) (row_of plan h a) row.cutter,
+          fits_run laws.links into (plan.fitter h a) (row_of plan h a) (target_of system a) row.fitter row.room,
+          gathers_run laws.links into (plan.cutter h a) (plan.fitter h a) (row_of plan h a) (target_of system a) row.cutter row.fitter row.room row.gathering,
+        )
+
     pub are_rows : AreFitHosts system outside end → AreRows system run (linked_ports responses plan outside all) end
     are_rows fit = record {
       idle = suits.idle;
       views = fit.ports;
-      cuts = λ h a low there joined. subst (λ (r : ℕ → RowRegisters). CutsBursts (row_top (row_of plan h a) (to_row responses plan outside all h a) r) (row_middle (row_of plan h a) (to_row responses plan outside all h a) r)) (fun_ext (same_row h a))
-          (cuts_run laws.links (to_row responses plan outside all h a) (plan.cutter h a) (row_of plan h a) (suits.rows h a low there joined).cutter);
-      fits = λ h a low there joined. subst (λ (r : ℕ → RowRegisters). FitsWords (target_of system a) (row_middle (row_of plan h a) (to_row responses plan outside all h a) r) (row_low (row_of plan h a) (to_row responses plan outside all h a) r)) (fun_ext (same_row h a))
-          (fits_run laws.links (to_row responses plan outside all h a) (plan.fitter h a) (row_of plan h a) (target_of system a) (suits.rows h a low there joined).fitter (suits.rows h a low there joined).room);
+      cuts = λ h a low there joined. (fitted h a low there joined).0;
+      fits = λ h a low there joined. (fitted h a low there joined).1;
+      gathers = λ h a low there joined. (fitted h a low there joined).2;
       drops = λ h a low there joined. (dropped h a low there joined).0;
       lanes = λ h a low there joined none. suits.lanes h a low there joined (sym (dropped h a low there joined).1 ∙ none);
       wired = λ h a low there joined has alike.

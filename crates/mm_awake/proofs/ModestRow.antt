@@ -3,16 +3,17 @@ use Rattle.std.proofs.Common.{ℕ, zero, suc, ◌<◌, ◌≤◌, List, arith, l
 use Rattle.mm_machines.specs.Link.{Target, Port, AreLegalAt, AnswersAreOwed}
 use Rattle.mm_machines.specs.Machines.{MaySplit}
 use Rattle.mm_machines.specs.PartRanks.{JoinsAlike}
-use Rattle.mm_links.specs.Cutters.{CutterState, RunsAsCutter, IsCutPlan}
+use Rattle.mm_links.specs.Cutters.{Reach, CutterState, RunsAsCutter, IsCutPlan}
 use Rattle.mm_links.specs.Drops.{DropState, RunsAsDrop, IsDropPlan}
+use Rattle.mm_links.specs.Gathers.{GatherState, RunsAsGather, IsGatherPlan, LieInWords}
 use Rattle.mm_links.specs.Going.{KeepsGoing}
 use Rattle.mm_links.specs.Selects.{RunsAsSelect, IsSelectPlan, EnablesFit}
 use Rattle.mm_links.specs.Splits.{SplitState, RunsAsSplit}
-use Rattle.mm_awake.specs.Rows.{IsModestRow, IsWired, CutsBursts, CutsBursts.cutter, CutsBursts.no_cutter, FitsWords, FitsWords.selector, FitsWords.splitter, FitsWords.no_width, DropsBeats, DropsBeats.dropper, DropsBeats.no_dropper, by_number, ports_of_three, one_beat_lowest}
+use Rattle.mm_awake.specs.Rows.{IsModestRow, IsWired, CutsBursts, CutsBursts.cutter, CutsBursts.no_cutter, FitsWords, FitsWords.selector, FitsWords.gatherer, FitsWords.splitter, FitsWords.no_width, DropsBeats, DropsBeats.dropper, DropsBeats.no_dropper, GathersBelowCut, by_number, ports_of_three, one_beat_lowest}
 use Rattle.mm_awake.specs.Slack.{PassesWhileStill}
 use Rattle.mm_awake.specs.Still.{StirsAbove, SpentStirs}
 use Rattle.mm_awake.specs.Ways.{Standing}
-use Rattle.mm_awake.proofs.Enables.{enables_below}
+use Rattle.mm_awake.proofs.FitsBelow.{Suits, suits_below}
 use Rattle.mm_awake.proofs.LinksPass.{on_while_still}
 use Rattle.mm_awake.proofs.Passing.{wire_passes}
 use Rattle.mm_awake.proofs.RowLine.{LinkLaws, carries_of}
@@ -32,14 +33,19 @@ WhenSettled target up down end Kept = AreLegalAt up end → AnswersAreOwed down 
 pub record Laws : Type 0 where
   pub links : LinkLaws
   pub wire_goes : (target : Target) (port : Port) (end : ℕ) → AreLegalAt port end → KeepsGoing target port port (λ c. 0) 0 end
-  pub cut_goes : (target : Target) (longest : ℕ) (up down : Port) (state : CutterState) (end : ℕ) → IsCutPlan longest up.shape down.shape → RunsAsCutter longest up down state →
+  pub cut_goes : (target : Target) (reach : Reach) (longest : ℕ) (up down : Port) (state : CutterState) (end : ℕ) → IsCutPlan reach longest up.shape down.shape → RunsAsCutter reach longest up down state →
       WhenSettled target up down end ((rank : ℕ → ℕ) × KeepsGoing target up down rank 0 end)
-  pub cut_stirs : (longest : ℕ) (up down : Port) (state : CutterState) → RunsAsCutter longest up down state → (end : ℕ) → StirsAbove up down end
-  pub cut_passes : (longest : ℕ) (top up down : Port) (state : CutterState) → RunsAsCutter longest up down state → (end : ℕ) → PassesWhileStill (record { hold = 0; kept = 0 }) top up down end
+  pub cut_stirs : (reach : Reach) (longest : ℕ) (up down : Port) (state : CutterState) → RunsAsCutter reach longest up down state → (end : ℕ) → StirsAbove up down end
+  pub cut_passes : (reach : Reach) (longest : ℕ) (top up down : Port) (state : CutterState) → RunsAsCutter reach longest up down state → (end : ℕ) → PassesWhileStill (record { hold = 0; kept = 0 }) top up down end
   pub select_goes : (target : Target) (up down : Port) (many room : ℕ) (offsets : ℕ → List ℕ) (end : ℕ) → IsSelectPlan target up.shape down.shape many → 1 < room → RunsAsSelect room up down offsets → EnablesFit up end →
       WhenSettled target up down end ((rank : ℕ → ℕ) × KeepsGoing target up down rank 0 end)
   pub select_stirs : (room : ℕ) (up down : Port) (offsets : ℕ → List ℕ) → RunsAsSelect room up down offsets → (end : ℕ) → StirsAbove up down end
   pub select_passes : (target : Target) (top up down : Port) (many room : ℕ) (offsets : ℕ → List ℕ) → IsSelectPlan target up.shape down.shape many → 1 < room → RunsAsSelect room up down offsets → (end : ℕ) →
+      PassesWhileStill (record { hold = 0; kept = 0 }) top up down end
+  pub gather_goes : (target : Target) (up down : Port) (many room : ℕ) (state : GatherState) (end : ℕ) → IsGatherPlan target up.shape down.shape many → 1 < room → RunsAsGather room up down state → LieInWords up down.shape end →
+      WhenSettled target up down end ((rank : ℕ → ℕ) × KeepsGoing target up down rank 0 end)
+  pub gather_spent : (target : Target) (up down : Port) (many room : ℕ) (state : GatherState) → IsGatherPlan target up.shape down.shape many → RunsAsGather room up down state → (end : ℕ) → SpentStirs up down end
+  pub gather_passes : (target : Target) (top up down : Port) (many room : ℕ) (state : GatherState) → IsGatherPlan target up.shape down.shape many → RunsAsGather room up down state → (end : ℕ) → StirsAbove top up end →
       PassesWhileStill (record { hold = 0; kept = 0 }) top up down end
   pub split_goes : (target : Target) (room count : ℕ) (up down : Port) (state : SplitState) (end : ℕ) → MaySplit target up.shape down.shape count → 0 < room → RunsAsSplit room up down state →
       WhenSettled target up down end ((rank : ℕ → ℕ) × KeepsGoing target up down rank 1 end)
@@ -78,11 +84,11 @@ module _ (laws : Laws) (target : Target) (end : ℕ) where
     pub passes : PassesWhileStill (record { hold = 0; kept = 0 }) top top middle end
 
   high_of : (top middle : Port) → CutsBursts top middle → High top middle
-  high_of top middle (cutter longest state plan run) = record {
-    carries = carries_of (laws.links.cut target longest top middle state end plan run);
-    goes = λ legal owed alike. ranked 0 (laws.cut_goes target longest top middle state end plan run legal owed alike);
-    stirs_so = laws.cut_stirs longest top middle state run end;
-    passes = laws.cut_passes longest top top middle state run end;
+  high_of top middle (cutter reach longest state plan run) = record {
+    carries = carries_of (laws.links.cut target reach longest top middle state end plan run);
+    goes = λ legal owed alike. ranked 0 (laws.cut_goes target reach longest top middle state end plan run legal owed alike);
+    stirs_so = laws.cut_stirs reach longest top middle state run end;
+    passes = laws.cut_passes reach longest top top middle state run end;
   }
   high_of top middle (no_cutter wired) = record {
     carries = wire_carries top middle wired;
@@ -101,12 +107,18 @@ module _ (laws : Laws) (target : Target) (end : ℕ) where
   larger : {up down : Port} → Goes 0 target up down end → Goes 1 target up down end
   larger goes = record { standing = goes.standing; few = (let few = goes.few in omega (arith, few)); going = goes.going }
 
-  mid_of : (top middle low : Port) → FitsWords target middle low → EnablesFit middle end → Mid top middle low
+  mid_of : (top middle low : Port) (fits : FitsWords target middle low) → Suits fits end → Mid top middle low
   mid_of top middle low (selector many room offsets plan deep run) fit = record {
     carries = carries_of (laws.links.select target middle low many room offsets end plan deep run fit);
     goes = λ legal owed alike. larger (ranked 0 (laws.select_goes target middle low many room offsets end plan deep run fit legal owed alike));
     spent = λ legal owed. laws.above middle low end (laws.select_stirs room middle low offsets run end);
     passes = λ above. laws.select_passes target top middle low many room offsets plan deep run end;
+  }
+  mid_of top middle low (gatherer many room state plan deep run) lie = record {
+    carries = carries_of (laws.links.gather target middle low many room state end plan deep run lie);
+    goes = λ legal owed alike. larger (ranked 0 (laws.gather_goes target middle low many room state end plan deep run lie legal owed alike));
+    spent = λ legal owed. laws.gather_spent target middle low many room state plan run end;
+    passes = λ above. laws.gather_passes target top middle low many room state plan run end above;
   }
   mid_of top middle low (splitter count room state may some run) fit = record {
     carries = carries_of (laws.links.split target room count middle low state end may some run);
@@ -167,11 +179,11 @@ low_carries : (laws : Laws) (target : Target) (low down : Port) → DropsBeats t
 low_carries laws target low down (dropper room state plan some run) c alike = carries_of (laws.links.drop target room low down state c plan some run alike)
 low_carries laws target low down (no_dropper wired) c alike = wire_carries laws target c low down wired
 
-pub row_is_modest : Laws → (target : Target) (top middle low down : Port) (end : ℕ) → CutsBursts top middle → FitsWords target middle low → DropsBeats target low down →
+pub row_is_modest : Laws → (target : Target) (top middle low down : Port) (end : ℕ) (cuts : CutsBursts top middle) (fits : FitsWords target middle low) → DropsBeats target low down → GathersBelowCut cuts fits →
     EnablesFit top end → AreLegalAt top end → AnswersAreOwed down end → JoinsAlike target top end → (standing : ℕ → Standing) × IsModestRow target 3 (ports_of_three down low middle top) standing one_beat_lowest end
-row_is_modest laws target top middle low down end cuts fits drops enables legal owed alike =
+row_is_modest laws target top middle low down end cuts fits drops gathers enables legal owed alike =
     let high = high_of laws target end top middle cuts in
-    let mid = mid_of laws target end top middle low fits (enables_below end cuts enables) in
+    let mid = mid_of laws target end top middle low fits (suits_below laws.links.lie end cuts fits gathers enables legal) in
     let lowest = low_of laws target end top low down drops in
     let between = settled target top middle low down end legal owed alike high.carries mid.carries (low_carries laws target low down drops) end (le_refl end) in
     let high_goes = high.goes legal between.owed_middle alike in

@@ -49,6 +49,7 @@ module _ (responses : Responses) (plan : PlainPlan) (outside : Outside) (end : �
       views = views.hosts;
       cuts = λ h a low there links. no_cutter (wired h a low there);
       fits = λ h a low there links. no_width (wired h a low there);
+      gathers = λ h a low there links. tt;
       drops = λ h a low there links. no_dropper (wired h a low there);
       lanes = λ h a low there links none. or_left plan.agent.has_enables _ shape.lanes;
       wired = λ h a low there joined has alike. wire_self _;

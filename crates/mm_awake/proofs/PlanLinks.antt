@@ -1,5 +1,5 @@
 -- Every plan without stages has links that suit it.
-use Rattle.std.proofs.Common.{ℕ, zero, suc, ◌<◌, ◌≤◌, ◌≡◌, ◌-◌, ◌+◌, ◌*◌, ◌^◌, ◌&&◌, ◌||◌, Bool, true, false, not, if◌then◌else◌, nat_lt, nat_eq, arith, tests, refl, sym, ap, ◌∙◌, subst, le_refl, le-ltb, IsTrue, IsFalse}
+use Rattle.std.proofs.Common.{ℕ, zero, suc, ◌<◌, ◌≤◌, ◌≡◌, ◌-◌, ◌+◌, ◌*◌, ◌^◌, ◌&&◌, ◌||◌, Bool, true, false, not, nat_lt, nat_eq, arith, tests, refl, sym, ap, ◌∙◌, subst, le_refl, le-ltb, IsTrue, IsFalse}
 use Rattle.std.proofs.lemmas.Bool.{ltb-true, ltb-false, eqb-true}
 use Rattle.std.proofs.lemmas.Nat.{pow_pos, pow-add}
 use Rattle.std.proofs.Math.Pow.{pow-lt}
@@ -7,9 +7,10 @@ use Rattle.mm_runs.specs.Views.{System, HostSide, AgentSide}
 use Rattle.mm_runs.specs.Awake.{is_alike}
 use Rattle.mm_runs.specs.Order.{is_joined}
 use Rattle.mm_runs.specs.Plan.{IsMemoryPlan, IsPowerOfTwo}
+use Rattle.mm_links.specs.Cutters.{reach_longest}
 use Rattle.mm_machines.specs.Link.{Target}
 use Rattle.mm_machines.specs.Lines.{target_of}
-use Rattle.mm_awake.specs.RowRun.{Cutter, Fitter, Cutter.Uncut, Cutter.Cuts, Fitter.Unfitted, Fitter.Selects, Fitter.Splits, RowPlan, SuitsRow, SuitsDropper, SuitsFitter, by_cutter, by_fitter}
+use Rattle.mm_awake.specs.RowRun.{Cutter, Fitter, Cutter.Uncut, Cutter.Cuts, Fitter.Unfitted, Fitter.Selects, Fitter.Splits, RowPlan, SuitsRow, SuitsDropper, SuitsFitter, SuitsGathering, by_cutter, by_fitter}
 use Rattle.mm_awake.specs.LinkSystem.{LinkPlan, SuitsLinks, IsWireRow, links_for, fitter_for, row_of, inner_shape}
 
 bits_below : (small large : ℕ) → 2 ^ small ≤ 2 ^ large → small ≤ large
@@ -87,15 +88,15 @@ row_by host agent cutter fitter drops = record {
   fitter = fitter;
   drops = drops;
   top = inner_shape host.word_bytes host.burst_bits;
-  middle = inner_shape host.word_bytes (by_cutter cutter host.burst_bits (λ longest. if nat_eq longest 1 then 1 else agent.burst_bits));
-  low = inner_shape agent.word_bytes (by_fitter fitter (by_cutter cutter host.burst_bits (λ longest. if nat_eq longest 1 then 1 else agent.burst_bits)) 1 1);
+  middle = inner_shape host.word_bytes (by_cutter cutter host.burst_bits (λ reach longest bits. bits));
+  low = inner_shape agent.word_bytes (by_fitter fitter (by_cutter cutter host.burst_bits (λ reach longest bits. bits)) 1 1 1);
   bottom = inner_shape agent.word_bytes agent.burst_bits;
   room = 2;
 }
 
 -- below what fits words bursts are single beats, as above it
 abbrev single_bits : Fitter → ℕ
-single_bits fitter = by_fitter fitter 1 1 1
+single_bits fitter = by_fitter fitter 1 1 1 1
 
 module _ (system : System) (is_plan : IsMemoryPlan system) where
   abbrev links : LinkPlan
@@ -133,7 +134,7 @@ module _ (system : System) (is_plan : IsMemoryPlan system) where
     cut_alike : IsTrue (is_alike host agent) → links.cutter h a ≡ Uncut
     cut_alike alike = rw (joined, alike) refl
 
-    cut_other : IsFalse (is_alike host agent) → links.cutter h a ≡ Cuts 1
+    cut_other : IsFalse (is_alike host agent) → links.cutter h a ≡ Cuts (reach_longest 1) 1 1
     cut_other other = rw (joined, other) refl
 
     dropper : (drops : Bool) → (host.has_enables && not agent.has_enables) ≡ drops → SuitsDropper drops target (inner_shape agent.word_bytes 1) (inner_shape agent.word_bytes agent.burst_bits)
@@ -141,37 +142,39 @@ module _ (system : System) (is_plan : IsMemoryPlan system) where
     dropper false is = (refl, some_burst, some_agent)
 
     -- a row of which single beats go down
-    cut_row : (fitter : Fitter) → fitter_for host.word_bytes agent.word_bytes ≡ fitter → SuitsFitter fitter target (inner_shape host.word_bytes 1) (inner_shape agent.word_bytes (single_bits fitter)) → single_bits fitter ≡ 1 →
-        SuitsRow target (row_by host agent (Cuts 1) fitter (host.has_enables && not agent.has_enables))
-    cut_row fitter is fits one = record {
-      cutter = record { some = some_host; same = refl; bytes = refl; least = omega arith; most = omega arith };
+    cut_row : (fitter : Fitter) → fitter_for host.word_bytes agent.word_bytes ≡ fitter → SuitsFitter fitter target (inner_shape host.word_bytes 1) (inner_shape agent.word_bytes (single_bits fitter)) → single_bits fitter ≡ 1 → SuitsGathering (Cuts (reach_longest 1) 1 1) fitter (inner_shape host.word_bytes host.burst_bits) (inner_shape host.word_bytes 1) →
+        SuitsRow target (row_by host agent (Cuts (reach_longest 1) 1 1) fitter (host.has_enables && not agent.has_enables))
+    cut_row fitter is fits one gathering = record {
+      cutter = record { some = some_host; same = refl; bytes = refl; least = omega arith; most = omega arith; goes = λ address. omega arith; allowed = λ address. omega arith };
       fitter = fits;
+      gathering = gathering;
       dropper = subst (λ n. SuitsDropper (host.has_enables && not agent.has_enables) target (inner_shape agent.word_bytes n) (inner_shape agent.word_bytes agent.burst_bits)) (sym one) (dropper _ refl);
       room = omega arith;
     }
 
     by_words : (wider narrower : Bool) → nat_lt agent.word_bytes host.word_bytes ≡ wider → nat_lt host.word_bytes agent.word_bytes ≡ narrower →
-        (fitter : Fitter) × (fitter_for host.word_bytes agent.word_bytes ≡ fitter) × SuitsFitter fitter target (inner_shape host.word_bytes 1) (inner_shape agent.word_bytes (single_bits fitter)) × (single_bits fitter ≡ 1)
+        (fitter : Fitter) × (fitter_for host.word_bytes agent.word_bytes ≡ fitter) × SuitsFitter fitter target (inner_shape host.word_bytes 1) (inner_shape agent.word_bytes (single_bits fitter)) × (single_bits fitter ≡ 1) × SuitsGathering (Cuts (reach_longest 1) 1 1) fitter (inner_shape host.word_bytes host.burst_bits) (inner_shape host.word_bytes 1)
     by_words true narrower w n =
         let less = ltb-true agent.word_bytes host.word_bytes w in
         let times = times_smaller agent.word_bytes host.word_bytes (is_plan.agents a there).word (is_plan.hosts h low).word less in
         let more = more_than_once times.0 agent.word_bytes host.word_bytes less times.1 in
-        (Splits, rw w refl, (times.0, record { bytes = refl; some = some_agent; same = refl; one = omega (arith, more); whole = times.1; one_beat = refl }), refl)
+        (Splits, rw w refl, (times.0, record { bytes = refl; some = some_agent; same = refl; one = omega (arith, more); whole = times.1; one_beat = refl }), refl, tt)
     by_words false true w n =
         let less = ltb-true host.word_bytes agent.word_bytes n in
         let times = times_smaller host.word_bytes agent.word_bytes (is_plan.hosts h low).word (is_plan.agents a there).word less in
         let more = more_than_once times.0 host.word_bytes agent.word_bytes less times.1 in
-        (Selects, rw (w, n) refl, (times.0, record { some = some_host; more = more; whole = times.1; same = refl; bytes = refl; enables = is_plan.wider a h joined less; one_beat = refl; one_beat_below = refl }), refl)
+        (Selects, rw (w, n) refl, (times.0, record { some = some_host; more = more; whole = times.1; same = refl; bytes = refl; enables = is_plan.wider a h joined less; one_beat = refl; one_beat_below = refl }), refl, tt)
     by_words false false w n =
         let least = ltb-false agent.word_bytes host.word_bytes w in
         let most = ltb-false host.word_bytes agent.word_bytes n in
         let same : host.word_bytes ≡ agent.word_bytes = omega (arith, least, most) in
-        (Unfitted, rw (w, n) refl, (ap (λ w. inner_shape w 1) same, le_refl 1, some_host), refl)
+        (Unfitted, rw (w, n) refl, (ap (λ w. inner_shape w 1) same, le_refl 1, some_host), refl, tt)
 
     wire_row : IsAlikeTo host agent → SuitsRow target (row_by host agent Uncut Unfitted false)
     wire_row is = record {
       cutter = (refl, le_refl host.burst_bits, some_host);
       fitter = (ap (λ w. inner_shape w host.burst_bits) is.words, le_refl host.burst_bits, some_host);
+      gathering = tt;
       dropper = (refl, (let one = is_plan.plain h low is.plain in let some = some_burst in omega (arith, one, some)), some_agent);
       room = omega arith;
     }
@@ -191,7 +194,7 @@ module _ (system : System) (is_plan : IsMemoryPlan system) where
             place_in Uncut Unfitted false (cut_alike e) (fitter_is ∙ unfitted_at parts.words) (drops_are ∙ none_dropped host.has_enables agent.has_enables parts.enables) (wire_row parts)
         by_alike false e =
             let found = by_words (nat_lt agent.word_bytes host.word_bytes) (nat_lt host.word_bytes agent.word_bytes) refl refl in
-            place_in (Cuts 1) found.0 (host.has_enables && not agent.has_enables) (cut_other e) (fitter_is ∙ found.1) drops_are (cut_row found.0 found.1 found.2 found.3)
+            place_in (Cuts (reach_longest 1) 1 1) found.0 (host.has_enables && not agent.has_enables) (cut_other e) (fitter_is ∙ found.1) drops_are (cut_row found.0 found.1 found.2 found.3 found.4)
 
   idle_row : (h a : ℕ) → IsFalse (is_joined system a h) → IsWireRow (row_of links h a)
   idle_row h a none = record { uncut = rw none refl; unfitted = rw none refl; undropped = rw none refl }

@@ -12,7 +12,7 @@ use Rattle.mm_machines.specs.Settled.{IsSettled}
 use Rattle.mm_parts.specs.Agent.{AgentState, IsAgentMachine, IsAgentPlan}
 use Rattle.mm_links.specs.Selects.{EnablesFit}
 use Rattle.mm_awake.specs.RowSystem.{RowPorts, AreRows, boundaries_of}
-use Rattle.mm_awake.specs.Rows.{IsModestRow, CutsBursts, FitsWords, DropsBeats, ports_of_three, one_beat_lowest}
+use Rattle.mm_awake.specs.Rows.{IsModestRow, CutsBursts, FitsWords, DropsBeats, GathersBelowCut, ports_of_three, one_beat_lowest}
 use Rattle.mm_awake.specs.Slack.{Slacks, host_allows, toll}
 use Rattle.mm_awake.specs.Theorem.{Boundaries, States, LinkRanks, ArePlanned, KeepLines, AreMachines, AreLinks, IsBuilt, inside_of, ways_of, standings_of, slacks_of}
 use Rattle.mm_awake.specs.Ways.{Ways, Standing, Standings}
@@ -30,7 +30,7 @@ pub record Laws : Type 0 where
   pub tags : (responses : Responses) (system : System) (run : Run) (agent : ℕ) (up : TaggedPort) (state : AgentState) (end : ℕ) → IsAgentPlan (system.agent agent) → IsFit system agent up.port end → IsLegalAgent (system.agent agent) (run.at_agent agent) end →
       IsAgentMachine responses (system.agent agent) (run.at_agent agent) up state end → AreTaggedInOrder up end
   pub stages : StageLaws
-  pub modest : (target : Target) (top middle low down : Port) (end : ℕ) → CutsBursts top middle → FitsWords target middle low → DropsBeats target low down → EnablesFit top end → AreLegalAt top end → AnswersAreOwed down end → JoinsAlike target top end →
+  pub modest : (target : Target) (top middle low down : Port) (end : ℕ) (cuts : CutsBursts top middle) (fits : FitsWords target middle low) → DropsBeats target low down → GathersBelowCut cuts fits → EnablesFit top end → AreLegalAt top end → AnswersAreOwed down end → JoinsAlike target top end →
       (standing : ℕ → Standing) × IsModestRow target 3 (ports_of_three down low middle top) standing one_beat_lowest end
   pub fit : (system : System) (ways : Ways) (standings : Standings) (slacks : Slacks) (target : Target) (h end : ℕ) → IsModestRow target (ways.above h) (ways.upper h) (standings.upper h) (slacks.upper h) end →
       (host_allows system ways standings slacks h ≤ 15) × (toll ways standings h ≤ 5)
@@ -87,7 +87,7 @@ module _ (laws : Laws) (responses : Responses) (system : System) (run : Run) (po
           let there = ltb-true a system.agents f in
           by_idle rows h a
           (λ joined.
-          let found = laws.modest (target_of system a) (ports.after_route h a) (ports.below_cutter h a) (ports.above_dropper h a) (ports.before_arbiter h a) end (rows.cuts h a low there joined) (rows.fits h a low there joined) (rows.drops h a low there joined) (enables_top h a low there)
+          let found = laws.modest (target_of system a) (ports.after_route h a) (ports.below_cutter h a) (ports.above_dropper h a) (ports.before_arbiter h a) end (rows.cuts h a low there joined) (rows.fits h a low there joined) (rows.drops h a low there joined) (rows.gathers h a low there joined) (enables_top h a low there)
           (legal_top h a low there) (owed_down h a low there) (alike h a low there) in
           record { standing = found.0; modest = λ low there. found.1 })
           (λ wires.

@@ -34,6 +34,7 @@ front_rows {responses} {system} {run} {ports} {states} {end} front views = recor
   views = views.hosts;
   cuts = λ h a low there links. front.cuts h a low there (joined_if (is_joined system a h) links);
   fits = λ h a low there links. front.fits h a low there (joined_if (is_joined system a h) links);
+  gathers = λ h a low there links. front.gathers h a low there (joined_if (is_joined system a h) links);
   drops = λ h a low there links. front.drops h a low there (joined_if (is_joined system a h) links);
   lanes = λ h a low there links none. front.lanes h a low there (joined_if (is_joined system a h) links) none;
   wired = front.wired;

@@ -7,14 +7,15 @@ use Rattle.mm_machines.specs.Machines.{MaySplit}
 use Rattle.mm_machines.specs.PartRanks.{JoinsAlike}
 use Rattle.mm_machines.specs.Straight.{GoesStraightThrough, IsShownPromptly, shows_plain, may_be_prompt}
 use Rattle.mm_links.specs.Begins.{BeginsBelow}
-use Rattle.mm_links.specs.Cutters.{CutterState, RunsAsCutter, IsCutPlan, cut_form}
+use Rattle.mm_links.specs.Cutters.{Reach, CutterState, RunsAsCutter, IsCutPlan, cut_form}
 use Rattle.mm_links.specs.Drops.{DropState, RunsAsDrop, IsDropPlan, drop_form}
+use Rattle.mm_links.specs.Gathers.{GatherState, RunsAsGather, IsGatherPlan, LieInWords}
 use Rattle.mm_links.specs.InStep.{GoesInStep, AreInStep}
 use Rattle.mm_links.specs.Links.{LinkForm, IsLink, IsStraightLink, chain_form, pass_form}
 use Rattle.mm_links.specs.Selects.{RunsAsSelect, IsSelectPlan, EnablesFit}
 use Rattle.mm_links.specs.Splits.{SplitState, RunsAsSplit, split_form}
-use Rattle.mm_awake.specs.Rows.{IsWired, CutsBursts, CutsBursts.cutter, CutsBursts.no_cutter, FitsWords, FitsWords.selector, FitsWords.splitter, FitsWords.no_width, DropsBeats, DropsBeats.dropper, DropsBeats.no_dropper}
-use Rattle.mm_awake.proofs.Enables.{enables_below}
+use Rattle.mm_awake.specs.Rows.{IsWired, CutsBursts, CutsBursts.cutter, CutsBursts.no_cutter, FitsWords, FitsWords.selector, FitsWords.gatherer, FitsWords.splitter, FitsWords.no_width, DropsBeats, DropsBeats.dropper, DropsBeats.no_dropper, GathersBelowCut}
+use Rattle.mm_awake.proofs.FitsBelow.{Suits, suits_below}
 use Rattle.mm_awake.proofs.RowOfThree.{Carries, IsSettled, settled}
 use Rattle.mm_awake.proofs.RowLine.{RowLaws, cut_linked, fit_linked, drop_linked, linked_carries, cut_words, drop_words, same_below}
 use Rattle.mm_awake.proofs.Widened.{wire_link, wire_chain, owed_above_wire, straight_behind_wire, steps_behind_wire, begins_behind_wire, begins_before_wire}
@@ -25,8 +26,8 @@ pub record LeadLaws : Type 0 where
   -- straight and in step
   pub wire : (target : Target) (port : Port) (end : ℕ) → IsStraightLink 0 false false target port port end
   pub wire_steps : (ahead : Bool) (target : Target) (port : Port) (end : ℕ) → GoesInStep ahead target port port end
-  pub cut : (target : Target) (longest : ℕ) (up down : Port) (state : CutterState) (end : ℕ) → IsCutPlan longest up.shape down.shape → RunsAsCutter longest up down state → (few : ℕ) (may_burst : Bool) → IsStraightLink few false may_burst target up down end
-  pub cut_steps : (target : Target) (longest : ℕ) (up down : Port) (state : CutterState) (end : ℕ) → IsCutPlan longest up.shape down.shape → RunsAsCutter longest up down state → AreLegalAt up end → AnswersAreOwed down end → GoesInStep false target up down end
+  pub cut : (target : Target) (reach : Reach) (longest : ℕ) (up down : Port) (state : CutterState) (end : ℕ) → IsCutPlan reach longest up.shape down.shape → RunsAsCutter reach longest up down state → (few : ℕ) (may_burst : Bool) → IsStraightLink few false may_burst target up down end
+  pub cut_steps : (target : Target) (reach : Reach) (longest : ℕ) (up down : Port) (state : CutterState) (end : ℕ) → IsCutPlan reach longest up.shape down.shape → RunsAsCutter reach longest up down state → AreLegalAt up end → AnswersAreOwed down end → GoesInStep false target up down end
   pub drop : (target : Target) (room : ℕ) (up down : Port) (state : DropState) (end : ℕ) → IsDropPlan target up.shape down.shape → 0 < room → RunsAsDrop room up down state → JoinsAlike target up end → (few : ℕ) → IsStraightLink few false false target up down end
   pub drop_steps : (target : Target) (room : ℕ) (up down : Port) (state : DropState) (end : ℕ) → IsDropPlan target up.shape down.shape → 0 < room → RunsAsDrop room up down state → JoinsAlike target up end → AreLegalAt up end → AnswersAreOwed down end → GoesInStep false target up down end
   pub split : (target : Target) (room : ℕ) (up down : Port) (state : SplitState) (end : ℕ) → MaySplit target up.shape down.shape 1 → 0 < room → RunsAsSplit room up down state → AreLegalAt up end → AnswersAreOwed down end → GoesStraightThrough (λ c. false) target up down end
@@ -42,12 +43,14 @@ pub record LeadLaws : Type 0 where
   pub pass_begins : (few : ℕ) (may_burst : Bool) (target : Target) (port : Port) (end : ℕ) → AreLegalAt port end → BeginsBelow few may_burst target port port end
   pub select_begins : (target : Target) (up down : Port) (many room : ℕ) (offsets : ℕ → List ℕ) (end : ℕ) → IsSelectPlan target up.shape down.shape many → 1 < room → RunsAsSelect room up down offsets → EnablesFit up end → AreLegalAt up end → AnswersAreOwed down end →
       (few : ℕ) (may_burst : Bool) → BeginsBelow few may_burst target up down end
+  pub gather_begins : (target : Target) (up down : Port) (many room : ℕ) (state : GatherState) (end : ℕ) → IsGatherPlan target up.shape down.shape many → 0 < room → RunsAsGather room up down state → LieInWords up down.shape end → AreLegalAt up end → AnswersAreOwed down end →
+      (few : ℕ) (may_burst : Bool) → BeginsBelow few may_burst target up down end
   pub split_begins : (target : Target) (room count : ℕ) (up down : Port) (state : SplitState) (end : ℕ) → MaySplit target up.shape down.shape count → 0 < room → RunsAsSplit room up down state → AreLegalAt up end → AnswersAreOwed down end →
       (few : ℕ) (may_burst : Bool) → BeginsBelow few may_burst target up down end
   pub drop_begins : (target : Target) (room : ℕ) (up down : Port) (state : DropState) (end : ℕ) → IsDropPlan target up.shape down.shape → 0 < room → RunsAsDrop room up down state → JoinsAlike target up end → AreLegalAt up end → AnswersAreOwed down end → (few : ℕ) → BeginsBelow few false target up down end
   pub split_over_drop : (target : Target) (deep room count : ℕ) (up middle down : Port) (splits : SplitState) (drops : DropState) (end : ℕ) → MaySplit target up.shape middle.shape count → 0 < deep → RunsAsSplit deep up middle splits → IsDropPlan target middle.shape down.shape → 0 < room →
       RunsAsDrop room middle down drops → JoinsAlike target up end → AreLegalAt up end → AnswersAreOwed down end → (few : ℕ) → 0 < few → BeginsBelow few false target up down end
-  pub cut_over : (target : Target) (longest : ℕ) (up middle down : Port) (state : CutterState) (end few : ℕ) (may_burst : Bool) → IsCutPlan longest up.shape middle.shape → RunsAsCutter longest up middle state → AreLegalAt up end → AnswersAreOwed middle end →
+  pub cut_over : (target : Target) (reach : Reach) (longest : ℕ) (up middle down : Port) (state : CutterState) (end few : ℕ) (may_burst : Bool) → IsCutPlan reach longest up.shape middle.shape → RunsAsCutter reach longest up middle state → AreLegalAt up end → AnswersAreOwed middle end →
       BeginsBelow few may_burst target middle down end → BeginsBelow few may_burst target up down end
 
 -- an agent before which beats are dropped has no byte enables, so where write bursts to it are counted the host has none either
@@ -140,12 +143,12 @@ module _ (laws : LeadLaws) (target : Target) (end : ℕ) where
   }
 
   cut_led : (top middle : Port) → CutsBursts top middle → Led top middle
-  cut_led top middle (cutter longest state plan run) = record {
+  cut_led top middle (cutter reach longest state plan run) = record {
     form = cut_form target;
-    link = laws.rows.links.cut target longest top middle state end plan run;
+    link = laws.rows.links.cut target reach longest top middle state end plan run;
     some = plan.some;
     same = plan.same;
-    leads = λ legal owed. record { straight = (laws.cut target longest top middle state end plan run 0 false).straight legal owed; step = laws.cut_steps target longest top middle state end plan run legal owed };
+    leads = λ legal owed. record { straight = (laws.cut target reach longest top middle state end plan run 0 false).straight legal owed; step = laws.cut_steps target reach longest top middle state end plan run legal owed };
   }
   cut_led top middle (no_cutter wired) = wire_led top middle wired
 
@@ -175,6 +178,10 @@ module _ (laws : LeadLaws) (target : Target) (end : ℕ) where
       let more = plan.more in
       let one = count_is_one many middle.shape.word_bytes (omega (arith, more)) plan.some (sym (same ∙ plan.whole)) in
       absurd (omega (arith, more, one))
+  lower_led middle low down (gatherer many room state plan deep run) drops same alike legal owed =
+      let more = plan.more in
+      let one = count_is_one many middle.shape.word_bytes (omega (arith, more)) plan.some (sym (same ∙ plan.whole)) in
+      absurd (omega (arith, more, one))
   lower_led middle low down (no_width wired) (no_dropper below) same alike legal owed = inl (record { wire = wire_chain middle low down wired.wire below.wire; some = wired.some })
   lower_led middle low down (no_width wired) (dropper room state plan some run) same alike legal owed =
       let last = drop_led low down room state plan some run alike in
@@ -198,9 +205,9 @@ module _ (laws : LeadLaws) (target : Target) (end : ℕ) where
 
   -- ---- the row
 
-  module _ (top middle low down : Port) (cuts : CutsBursts top middle) (fits : FitsWords target middle low) (drops : DropsBeats target low down) (enables : EnablesFit top end) (legal : AreLegalAt top end) (owed : AnswersAreOwed down end) (alike : JoinsAlike target top end) where
-    fit_middle : EnablesFit middle end
-    fit_middle = enables_below end cuts enables
+  module _ (top middle low down : Port) (cuts : CutsBursts top middle) (fits : FitsWords target middle low) (drops : DropsBeats target low down) (gathers : GathersBelowCut cuts fits) (enables : EnablesFit top end) (legal : AreLegalAt top end) (owed : AnswersAreOwed down end) (alike : JoinsAlike target top end) where
+    fit_middle : Suits fits end
+    fit_middle = suits_below laws.rows.links.lie end cuts fits gathers enables legal
 
     high : Carries target top middle end
     high = linked_carries (cut_linked laws.rows target top middle cuts end)
@@ -230,13 +237,15 @@ module _ (laws : LeadLaws) (target : Target) (end : ℕ) where
     row_is_in_step same = (row_leads same).step
 
     module _ (few : ℕ) (may_burst : Bool) (later : 0 < few) where
-      fit_begins : FitsWords target middle low → BeginsBelow few may_burst target middle low end
-      fit_begins (selector many room offsets plan deep run) = laws.select_begins target middle low many room offsets end plan deep run fit_middle between.legal_middle between.owed_low few may_burst
-      fit_begins (splitter count room state may some run) = laws.split_begins target room count middle low state end may some run between.legal_middle between.owed_low few may_burst
-      fit_begins (no_width wired) = begins_behind_wire middle low wired.wire target end middle few may_burst (laws.pass_begins few may_burst target middle end between.legal_middle)
+      fit_begins : (fits : FitsWords target middle low) → Suits fits end → BeginsBelow few may_burst target middle low end
+      fit_begins (selector many room offsets plan deep run) fit = laws.select_begins target middle low many room offsets end plan deep run fit between.legal_middle between.owed_low few may_burst
+      fit_begins (gatherer many room state plan deep run) lie = laws.gather_begins target middle low many room state end plan (omega (arith, deep)) run lie between.legal_middle between.owed_low few may_burst
+      fit_begins (splitter count room state may some run) fit = laws.split_begins target room count middle low state end may some run between.legal_middle between.owed_low few may_burst
+      fit_begins (no_width wired) fit = begins_behind_wire middle low wired.wire target end middle few may_burst (laws.pass_begins few may_burst target middle end between.legal_middle)
 
       single_begins : FitsWords target middle low → (room : ℕ) (state : DropState) → IsDropPlan target low.shape down.shape → 0 < room → RunsAsDrop room low down state → BeginsBelow few false target middle down end
       single_begins (selector many deep offsets above some_deep select) room state plan some run = absurd (both_ways target.shape.has_enables plan.enables above.enables)
+      single_begins (gatherer many deep gather above some_deep gather_run) room state plan some run = absurd (both_ways target.shape.has_enables plan.enables above.enables)
       single_begins (splitter count deep splits may some_deep split) room state plan some run =
           laws.split_over_drop target deep room count middle low down splits state end may some_deep split plan some run between.alike_middle between.legal_middle owed few later
       single_begins (no_width wired) room state plan some run =
@@ -246,7 +255,7 @@ module _ (laws : LeadLaws) (target : Target) (end : ℕ) where
       lower_begins single = by_burst may_burst refl drops
         where
           wired_below : IsWired low down → BeginsBelow few may_burst target middle down end
-          wired_below wired = begins_behind_wire low down wired.wire target end middle few may_burst (fit_begins fits)
+          wired_below wired = begins_behind_wire low down wired.wire target end middle few may_burst (fit_begins fits fit_middle)
 
           by_burst : (b : Bool) → may_burst ≡ b → DropsBeats target low down → BeginsBelow few may_burst target middle down end
           by_burst true e any = wired_below (single e)
@@ -254,7 +263,7 @@ module _ (laws : LeadLaws) (target : Target) (end : ℕ) where
           by_burst false e (dropper room state plan some run) = subst (λ b. BeginsBelow few b target middle down end) (sym e) (single_begins fits room state plan some run)
 
       upper_begins : CutsBursts top middle → BeginsBelow few may_burst target middle down end → BeginsBelow few may_burst target top down end
-      upper_begins (cutter longest state plan run) below = laws.cut_over target longest top middle down state end few may_burst plan run legal between.owed_middle below
+      upper_begins (cutter reach longest state plan run) below = laws.cut_over target reach longest top middle down state end few may_burst plan run legal between.owed_middle below
       upper_begins (no_cutter wired) below = begins_before_wire top middle wired.wire target end down few may_burst below
 
       legal_below : AreLegalAt down end

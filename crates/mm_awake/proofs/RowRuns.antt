@@ -3,21 +3,24 @@ use Rattle.std.proofs.Common.{◌≡◌, ℕ, zero, suc, ◌<◌, Bool, true, fa
 use Rattle.std.proofs.Math.Path.{fun_ext}
 use Rattle.mm_runs.specs.Views.{Shape}
 use Rattle.mm_machines.specs.Link.{Target, Port}
-use Rattle.mm_links.specs.Cutters.{RunsAsCutter}
+use Rattle.mm_links.specs.Cutters.{Reach, RunsAsCutter}
 use Rattle.mm_links.specs.Drops.{RunsAsDrop}
+use Rattle.mm_links.specs.Gathers.{RunsAsGather}
+use Rattle.mm_links.specs.DrivenGather.{GatherInputs, GatherRegisters, gather_step, gather_registers, gather_above, gather_below, gather_state, gather_above_with, gather_below_with, gather_state_with}
 use Rattle.mm_links.specs.Selects.{RunsAsSelect}
 use Rattle.mm_links.specs.Splits.{RunsAsSplit}
 use Rattle.mm_links.specs.Driven.{Inputs, SelectInputs, SplitInputs, CutInputs, DropInputs, SplitRegisters, CutRegisters, DropRegisters}
 use Rattle.mm_links.specs.Driven.{select_step, select_queue, select_above, select_below, select_above_with, select_below_with, split_step, split_registers, split_above, split_below, split_state, split_above_with, split_below_with, split_state_with}
 use Rattle.mm_links.specs.Driven.{cut_step, cut_registers, cut_above, cut_below, cut_state, cut_above_with, cut_below_with, cut_state_with}
 use Rattle.mm_links.specs.Driven.{drop_step, drop_registers, drop_above, drop_below, drop_state, drop_above_with, drop_below_with, drop_state_with}
-use Rattle.mm_awake.specs.Rows.{IsWired, CutsBursts, FitsWords, DropsBeats, CutsBursts.cutter, CutsBursts.no_cutter, FitsWords.selector, FitsWords.splitter, FitsWords.no_width, DropsBeats.dropper, DropsBeats.no_dropper, drops_some}
-use Rattle.mm_awake.specs.RowRun.{Cutter, Fitter, RowPlan, SuitsWire, SuitsCutter, SuitsFitter, SuitsDropper, Cutter.Uncut, Cutter.Cuts, Fitter.Unfitted, Fitter.Selects, Fitter.Splits}
-use Rattle.mm_awake.specs.RowRun.{row_registers, row_top, row_middle, row_low, row_bottom, cut_shown, fit_shown, drop_shown, cuts_given, selects_given, splits_given, drops_given}
+use Rattle.mm_awake.specs.Rows.{IsWired, CutsBursts, FitsWords, DropsBeats, CutsBursts.cutter, CutsBursts.no_cutter, FitsWords.selector, FitsWords.splitter, FitsWords.gatherer, FitsWords.no_width, DropsBeats.dropper, DropsBeats.no_dropper, GathersBelowCut, drops_some}
+use Rattle.mm_awake.specs.RowRun.{Cutter, Fitter, RowPlan, SuitsWire, SuitsCutter, SuitsFitter, SuitsDropper, Cutter.Uncut, Cutter.Cuts, Fitter.Unfitted, Fitter.Selects, Fitter.Splits, Fitter.Gathers, SuitsGathering}
+use Rattle.mm_awake.specs.RowRun.{row_registers, row_top, row_middle, row_low, row_bottom, cut_shown, fit_shown, drop_shown, cuts_given, selects_given, splits_given, gathers_given, drops_given}
 
 pub record Links : Type 0 where
-  pub cut : (given : CutInputs) → RunsAsCutter given.longest (cut_above given) (cut_below given) (cut_state given)
+  pub cut : (given : CutInputs) → RunsAsCutter given.reach given.longest (cut_above given) (cut_below given) (cut_state given)
   pub select : (given : SelectInputs) → RunsAsSelect given.room (select_above given) (select_below given) (select_queue given)
+  pub gather : (given : GatherInputs) → RunsAsGather given.room (gather_above given) (gather_below given) (gather_state given)
   pub split : (given : SplitInputs) → RunsAsSplit given.room (split_above given) (split_below given) (split_state given)
   pub drop : (given : DropInputs) → RunsAsDrop given.room (drop_above given) (drop_below given) (drop_state given)
 
@@ -37,18 +40,20 @@ module _ (links : Links) (inputs : Inputs) where
   abbrev cut_inputs : RowPlan → Inputs
   cut_inputs plan = cut_shown plan inputs (row_registers plan inputs)
 
-  same_cuts : (longest : ℕ) (rest : RowPlan) (c : ℕ) → let plan = cut_plan (Cuts longest) rest in cut_registers (cuts_given plan longest (cut_inputs plan)) c ≡ (row_registers plan inputs c).cut
-  same_cuts longest rest zero = refl
-  same_cuts longest rest (suc c) = let plan = cut_plan (Cuts longest) rest in ap (λ (now : CutRegisters). cut_step (cuts_given plan longest (cut_inputs plan)) now c) (same_cuts longest rest c)
+  same_cuts : (reach : Reach) (longest bits : ℕ) (rest : RowPlan) (c : ℕ) →
+      let plan = cut_plan (Cuts reach longest bits) rest in cut_registers (cuts_given plan reach longest (cut_inputs plan)) c ≡ (row_registers plan inputs c).cut
+  same_cuts reach longest bits rest zero = refl
+  same_cuts reach longest bits rest (suc c) =
+      let plan = cut_plan (Cuts reach longest bits) rest in ap (λ (now : CutRegisters). cut_step (cuts_given plan reach longest (cut_inputs plan)) now c) (same_cuts reach longest bits rest c)
 
   pub cuts_run : (kind : Cutter) (rest : RowPlan) → SuitsCutter kind rest.top rest.middle →
       let plan = cut_plan kind rest in CutsBursts (row_top plan inputs (row_registers plan inputs)) (row_middle plan inputs (row_registers plan inputs))
   cuts_run Uncut rest suits = let plan = cut_plan Uncut rest in no_cutter (wire (row_middle plan inputs (row_registers plan inputs)) rest.top rest.middle suits)
-  cuts_run (Cuts longest) rest suits =
-      let plan = cut_plan (Cuts longest) rest in
-      let given = cuts_given plan longest (cut_inputs plan) in
-      cutter longest (cut_state_with given (λ c. (row_registers plan inputs c).cut)) suits
-      (subst (λ (r : ℕ → CutRegisters). RunsAsCutter longest (cut_above_with given r) (cut_below_with given r) (cut_state_with given r)) (fun_ext (same_cuts longest rest)) (links.cut given))
+  cuts_run (Cuts reach longest bits) rest suits =
+      let plan = cut_plan (Cuts reach longest bits) rest in
+      let given = cuts_given plan reach longest (cut_inputs plan) in
+      cutter reach longest (cut_state_with given (λ c. (row_registers plan inputs c).cut)) suits
+      (subst (λ (r : ℕ → CutRegisters). RunsAsCutter reach longest (cut_above_with given r) (cut_below_with given r) (cut_state_with given r)) (fun_ext (same_cuts reach longest bits rest)) (links.cut given))
 
   -- ---- what fits words
 
@@ -66,6 +71,11 @@ module _ (links : Links) (inputs : Inputs) where
   same_pieces rest zero = refl
   same_pieces rest (suc c) = let plan = fit_plan Splits rest in ap (λ (now : SplitRegisters). split_step (splits_given plan (fit_inputs plan)) now c) (same_pieces rest c)
 
+  same_entries : (many : ℕ) (rest : RowPlan) (c : ℕ) → let plan = fit_plan (Gathers many) rest in gather_registers (gathers_given plan (fit_inputs plan)) c ≡ (row_registers plan inputs c).gather
+  same_entries many rest zero = refl
+  same_entries many rest (suc c) =
+      let plan = fit_plan (Gathers many) rest in ap (λ (now : GatherRegisters). gather_step (gathers_given plan (fit_inputs plan)) now c) (same_entries many rest c)
+
   pub fits_run : (fitter : Fitter) (rest : RowPlan) (target : Target) → SuitsFitter fitter target rest.middle rest.low → 1 < rest.room →
       let plan = fit_plan fitter rest in FitsWords target (row_middle plan inputs (row_registers plan inputs)) (row_low plan inputs (row_registers plan inputs))
   fits_run Unfitted rest target suits room = let plan = fit_plan Unfitted rest in no_width (wire (row_low plan inputs (row_registers plan inputs)) rest.middle rest.low suits)
@@ -79,6 +89,21 @@ module _ (links : Links) (inputs : Inputs) where
       let given = splits_given plan (fit_inputs plan) in
       splitter suits.0 rest.room (split_state_with (λ c. (row_registers plan inputs c).split)) suits.1 (omega (arith, room))
       (subst (λ (r : ℕ → SplitRegisters). RunsAsSplit rest.room (split_above_with given r) (split_below_with given r) (split_state_with r)) (fun_ext (same_pieces rest)) (links.split given))
+  fits_run (Gathers many) rest target suits room =
+      let plan = fit_plan (Gathers many) rest in
+      let given = gathers_given plan (fit_inputs plan) in
+      gatherer many rest.room (gather_state_with (λ c. (row_registers plan inputs c).gather)) suits room
+      (subst (λ (r : ℕ → GatherRegisters). RunsAsGather rest.room (gather_above_with given r) (gather_below_with given r) (gather_state_with r)) (fun_ext (same_entries many rest)) (links.gather given))
+
+  -- what gathers stands below such a cutter
+  pub gathers_run : (kind : Cutter) (fitter : Fitter) (rest : RowPlan) (target : Target) (cuts : SuitsCutter kind rest.top rest.middle) (fits : SuitsFitter fitter target rest.middle rest.low) (room : 1 < rest.room) →
+      SuitsGathering kind fitter rest.top rest.middle → GathersBelowCut (cuts_run kind (fit_plan fitter rest) cuts) (fits_run fitter (cut_plan kind rest) target fits room)
+  unfolding cuts_run fits_run
+  gathers_run kind Unfitted rest target cuts fits room gathering = tt
+  gathers_run kind Selects rest target cuts fits room gathering = tt
+  gathers_run kind Splits rest target cuts fits room gathering = tt
+  gathers_run Uncut (Gathers many) rest target cuts fits room gathering = gathering
+  gathers_run (Cuts reach longest bits) (Gathers many) rest target cuts fits room gathering = gathering
 
   -- ---- what drops beats
 

@@ -18,7 +18,7 @@ use Rattle.mm_parts.specs.Route.{RouteState, IsRouteMachine, IsRoutePlan}
 use Rattle.mm_parts.specs.Steps.{IsRoutePart}
 use Rattle.mm_links.specs.Selects.{EnablesFit}
 use Rattle.mm_awake.specs.RowSystem.{RowPorts, AreRows, boundaries_of}
-use Rattle.mm_awake.specs.Rows.{CutsBursts, FitsWords, DropsBeats, drops_some}
+use Rattle.mm_awake.specs.Rows.{CutsBursts, FitsWords, DropsBeats, GathersBelowCut, drops_some}
 use Rattle.mm_awake.specs.Theorem.{Boundaries, States, ArePlanned, KeepLines, KeepRows, IsStageBetween, inside_of}
 use Rattle.mm_awake.proofs.Enables.{lanes_placed}
 use Rattle.mm_awake.proofs.RowLine.{cut_words}
@@ -30,8 +30,8 @@ pub record Laws : Type 0 where
   pub settle : (responses : Responses) (system : System) (run : Run) (inside : Inside) (holds : Holds) (end : ℕ) (wired : Wired responses system run inside holds end) → IsLegalRun system run end → IsSettled system run inside wired.room end
   pub route : (responses : Responses) (system : System) (host room : ℕ) (up : Port) (down : ℕ → Port) (state : RouteState) (end : ℕ) → IsRoutePlan system host up.shape → AreLegalAt up end → AreSingle up end → OwesBelow room up end →
       ((a : ℕ) → a < system.agents → AnswersAreOwed (down a) end) → IsRouteMachine responses system host room up down state end → IsRoutePart system host up down end
-  pub row : (target : Target) (top middle low down : Port) (end : ℕ) → CutsBursts top middle → FitsWords target middle low → DropsBeats target low down → EnablesFit top end → JoinsAlike target top end → KeepsRow target 2 top down end
-  pub lanes : (system : System) (run : Run) (host agent : ℕ) (top middle low down : Port) (end : ℕ) → CutsBursts top middle → FitsWords (target_of system agent) middle low → (drops : DropsBeats (target_of system agent) low down) → EnablesFit top end → JoinsAlike (target_of system agent) top end →
+  pub row : (target : Target) (top middle low down : Port) (end : ℕ) (cuts : CutsBursts top middle) (fits : FitsWords target middle low) → DropsBeats target low down → GathersBelowCut cuts fits → EnablesFit top end → JoinsAlike target top end → KeepsRow target 2 top down end
+  pub lanes : (system : System) (run : Run) (host agent : ℕ) (top middle low down : Port) (end : ℕ) (cuts : CutsBursts top middle) (fits : FitsWords (target_of system agent) middle low) (drops : DropsBeats (target_of system agent) low down) → GathersBelowCut cuts fits → EnablesFit top end → JoinsAlike (target_of system agent) top end →
       (IsFalse (drops_some drops) → (c : ℕ) → c ≤ end → HavePlacedLanes system host agent (sent_by (host_transfers system run host c))) → BringsLanes system run host agent top down end
   pub alike : (target : Target) (port : Port) (tag end : ℕ) → AreLegalAt port end → AreSingle port end → ((c : ℕ) → c < end → port.commands.tag c ≡ tag) → JoinsAlike target port end
   pub pipes : PipeLaws
@@ -128,14 +128,14 @@ module _ (laws : Laws) (responses : Responses) (system : System) (run : Run) (po
 
   row_line : (c : ℕ) → c ≤ end → Alike c → (h a : ℕ) → h < system.hosts → a < system.agents → KeepsRow (target_of system a) 2 (ports.after_route h a) (ports.before_arbiter h a) c
   row_line c fit alike h a low there = by_idle rows h a
-      (λ joined. laws.row (target_of system a) (ports.after_route h a) (ports.below_cutter h a) (ports.above_dropper h a) (ports.before_arbiter h a) c (rows.cuts h a low there joined) (rows.fits h a low there joined) (rows.drops h a low there joined) (enables_before c fit h a low there) (alike h a low there).alike)
+      (λ joined. laws.row (target_of system a) (ports.after_route h a) (ports.below_cutter h a) (ports.above_dropper h a) (ports.before_arbiter h a) c (rows.cuts h a low there joined) (rows.fits h a low there joined) (rows.drops h a low there joined) (rows.gathers h a low there joined) (enables_before c fit h a low there) (alike h a low there).alike)
       (λ wires. let apart = rows.apart h a low there wires in
       let idle = apart.1 in
       silent_keeps (target_of system a) (ports.after_route h a) (ports.below_cutter h a) (ports.above_dropper h a) (ports.before_arbiter h a) c idle.high idle.mid idle.low (quiet_top h a c (alike h a low there) apart.0))
 
   row_lanes : (c : ℕ) → c ≤ end → Alike c → (h a : ℕ) → h < system.hosts → a < system.agents → BringsLanes system run h a (ports.after_route h a) (ports.before_arbiter h a) c
   row_lanes c fit alike h a low there = by_idle rows h a
-      (λ joined. laws.lanes system run h a (ports.after_route h a) (ports.below_cutter h a) (ports.above_dropper h a) (ports.before_arbiter h a) c (rows.cuts h a low there joined) (rows.fits h a low there joined) (rows.drops h a low there joined) (enables_before c fit h a low there) (alike h a low there).alike
+      (λ joined. laws.lanes system run h a (ports.after_route h a) (ports.below_cutter h a) (ports.above_dropper h a) (ports.before_arbiter h a) c (rows.cuts h a low there joined) (rows.fits h a low there joined) (rows.drops h a low there joined) (rows.gathers h a low there joined) (enables_before c fit h a low there) (alike h a low there).alike
       (λ none k less. lanes_placed system run h a c (host_word h a low there joined) (plan.agents a there).word (views_before c fit h low) (rows.lanes h a low there joined none) k less))
       (λ wires. let apart = rows.apart h a low there wires in
       let idle = apart.1 in

@@ -6,9 +6,9 @@ use Rattle.mm_runs.specs.Views.{Levels}
 use Rattle.mm_runs.specs.Commands.{shows}
 use Rattle.mm_machines.specs.Link.{Port, takes}
 use Rattle.mm_machines.specs.Machines.{Raw, raw_at}
-use Rattle.mm_links.specs.Cutters.{CutterState, RunsAsCutter, is_sending, read_burst_of, first_burst, write_of_burst, whole_read}
+use Rattle.mm_links.specs.Cutters.{Reach, CutterState, RunsAsCutter, is_sending, read_burst_of, first_burst, write_of_burst, whole_read}
 use Rattle.mm_links.specs.Drops.{any_lane}
-use Rattle.mm_links.specs.Selects.{RunsAsSelect, is_shut}
+use Rattle.mm_links.specs.Selects.{RunsAsSelect, is_shut, takes_read}
 use Rattle.mm_awake.specs.Slack.{stirs, brings_next}
 use Rattle.mm_awake.specs.Still.{StirsAbove, SpentStirs}
 use Rattle.mm_awake.proofs.Bits.{no_true, takes_shows, either_part}
@@ -41,22 +41,41 @@ select_stirs room up down offsets run = stirs_above up down written (λ c. ap is
         let ready = (and_parts (shows down.commands.signals c) (not (is_raised (down.commands.waitrequest c))) taken).1 in
         (ap₂ (λ x y. x && y) (or_right (is_raised (up.commands.read c)) (is_raised (up.commands.write c)) above) (ap not (run.waitrequest c ∙ ap (λ b. b || is_raised (down.commands.waitrequest c)) open_now) ∙ ready), above)
 
-pub cut_stirs : (longest : ℕ) (up down : Port) (state : CutterState) → RunsAsCutter longest up down state → (end : ℕ) → StirsAbove up down end
-cut_stirs longest up down state run = stirs_above up down written (λ c. ap is_raised (run.valid c))
+-- what gathers gives the word of a read that it has taken, or an earlier one, where one comes
+module _ (up down : Port) (takes_same : (c : ℕ) → takes down c ≡ takes up c) (gives : (c : ℕ) → takes_read up c ≡ true → is_raised (down.answers.valid (suc c)) ≡ true → is_raised (up.answers.valid (suc c)) ≡ true)
+    (writes : (c : ℕ) → is_raised (down.commands.write c) ≡ is_raised (up.commands.write c)) where
+  pub gather_spent : (end : ℕ) → SpentStirs up down end
+  gather_spent end c h spent = by_write (is_raised (up.commands.write c)) refl
+    where
+      parts : IsTrue (takes down c && not (any_lane down.shape (down.commands.enables c))) × IsTrue (stirs down c)
+      parts = and_parts (takes down c && not (any_lane down.shape (down.commands.enables c))) (stirs down c) spent
+
+      taken : takes up c ≡ true
+      taken = sym (takes_same c) ∙ (and_parts (takes down c) (not (any_lane down.shape (down.commands.enables c))) parts.0).0
+
+      by_write : (w : Bool) → is_raised (up.commands.write c) ≡ w → IsTrue (stirs up c)
+      by_write true e = write_stirs up c taken e
+      by_write false e = elim (either_part (takes down c && is_raised (down.commands.write c)) (brings_next down c) parts.1) [
+        | inl write ↦ absurd (no_true (sym e ∙ sym (writes c) ∙ (and_parts (takes down c) (is_raised (down.commands.write c)) write).1))
+        | inr comes ↦ word_stirs up c (gives c (ap₂ (λ t w. t && not w) taken e) comes)
+      ]
+
+pub cut_stirs : (reach : Reach) (longest : ℕ) (up down : Port) (state : CutterState) → RunsAsCutter reach longest up down state → (end : ℕ) → StirsAbove up down end
+cut_stirs reach longest up down state run = stirs_above up down written (λ c. ap is_raised (run.valid c))
   where
     written : (c : ℕ) → IsTrue (takes down c) → IsTrue (is_raised (down.commands.write c)) → IsTrue (takes up c) × IsTrue (is_raised (up.commands.write c))
     written c taken write = by_sending (is_sending state c) refl (is_raised (up.commands.write c)) refl
       where
-        beat : (b : Bool) → is_sending state c ≡ b → IsTrue (is_raised (if b then read_burst_of longest (state.rest c) else first_burst longest up.shape (state.place c) (raw_at up c)).levels.write)
+        beat : (b : Bool) → is_sending state c ≡ b → IsTrue (is_raised (if b then read_burst_of reach (state.rest c) else first_burst reach longest up.shape (state.place c) (raw_at up c)).levels.write)
         beat b e =
-            ap (λ b. is_raised (if b then read_burst_of longest (state.rest c) else first_burst longest up.shape (state.place c) (raw_at up c)).levels.write) (sym e)
+            ap (λ b. is_raised (if b then read_burst_of reach (state.rest c) else first_burst reach longest up.shape (state.place c) (raw_at up c)).levels.write) (sym e)
             ∙ sym (ap (λ (r : Raw). is_raised r.levels.write) (run.beat c (takes_shows down c taken))) ∙ write
 
         by_sending : (b : Bool) → is_sending state c ≡ b → (w : Bool) → is_raised (up.commands.write c) ≡ w → IsTrue (takes up c) × IsTrue (is_raised (up.commands.write c))
         by_sending true e w f = absurd (no_true (beat true e))
         by_sending false e true f = (run.accepts c ∙ ap₂ (λ x y. not x && y) e taken, f)
         by_sending false e false f =
-            absurd (no_true (ap (λ b. is_raised (if b then write_of_burst longest up.shape (state.place c) (raw_at up c) else read_burst_of longest (whole_read up.shape (raw_at up c))).levels.write) (sym f) ∙ beat false e))
+            absurd (no_true (ap (λ b. is_raised (if b then write_of_burst longest up.shape (state.place c) (raw_at up c) else read_burst_of reach (whole_read up.shape (raw_at up c))).levels.write) (sym f) ∙ beat false e))
 
 pub spent_above : (up down : Port) (end : ℕ) → StirsAbove up down end → SpentStirs up down end
 spent_above up down end above c h spent = above c h (and_parts (takes down c && not (any_lane down.shape (down.commands.enables c))) (stirs down c) spent).1

@@ -1,5 +1,5 @@
 -- A system of machines with a row of links between each host's route and each agent's arbiter, without stages, run on whatever its hosts and agents give.
-use Rattle.std.specs.Prelude.{◌≡◌, ℕ, zero, suc, ◌+◌, ◌*◌, ◌<◌, ◌≤◌, Bool, true, false, not, ◌&&◌, ◌||◌, [], if◌then◌else◌, nat_lt, nat_eq, IsTrue, IsFalse}
+use Rattle.std.specs.Prelude.{◌≡◌, ℕ, zero, suc, ◌+◌, ◌*◌, ◌<◌, ◌≤◌, Bool, true, false, not, ◌&&◌, ◌||◌, [], if◌then◌else◌, nat_lt, IsTrue, IsFalse}
 use Rattle.histories.specs.History.{is_raised}
 use Rattle.mm_runs.specs.Views.{Shape, Responses, System, Run}
 use Rattle.mm_runs.specs.Commands.{longest_burst, shows}
@@ -16,6 +16,7 @@ use Rattle.mm_parts.specs.RouteRun.{RouteInputs, RouteRegisters, route_at_rest, 
 use Rattle.mm_parts.specs.ArbiterRun.{ArbiterInputs, ArbiterRegisters, arbiter_at_rest, arbiter_upper, arbiter_lower, arbiter_step}
 use Rattle.mm_parts.specs.AgentRun.{AgentInputs, AgentRegisters, agent_at_rest, agent_state, agent_view, agent_upper, agent_step}
 use Rattle.mm_parts.specs.SystemRun.{Outside, no_words, commands_of}
+use Rattle.mm_links.specs.Cutters.{reach_longest}
 use Rattle.mm_links.specs.Driven.{Inputs}
 use Rattle.mm_awake.specs.RowRun.{Cutter, Fitter, Cutter.Uncut, Cutter.Cuts, Fitter.Unfitted, Fitter.Selects, Fitter.Splits, RowPlan, RowRegisters, SuitsRow, row_at_rest, row_step, by_cutter, by_fitter, row_top, row_middle, row_low, drop_raw, commands_by, shown_with}
 use Rattle.mm_awake.specs.RowSystem.{RowPorts}
@@ -38,12 +39,12 @@ host_inner plan h = inner_shape (plan.system.host h).word_bytes (plan.system.hos
 abbrev pub agent_inner : LinkPlan → ℕ → Shape
 agent_inner plan a = inner_shape (plan.system.agent a).word_bytes (plan.system.agent a).burst_bits
 
--- below a cutter into single beats, and below what fits words, there are single beats, and below another cutter bursts of the agent; a wire before the arbiter leads to those
+-- below a cutter its bursts are counted by its bits, and below what fits words there are single beats; a wire before the arbiter leads to bursts of the agent
 abbrev pub bits_below_cutter : LinkPlan → ℕ → ℕ → ℕ
-bits_below_cutter plan h a = by_cutter (plan.cutter h a) (plan.system.host h).burst_bits (λ longest. if nat_eq longest 1 then 1 else (plan.system.agent a).burst_bits)
+bits_below_cutter plan h a = by_cutter (plan.cutter h a) (plan.system.host h).burst_bits (λ reach longest bits. bits)
 
 abbrev pub bits_above_dropper : LinkPlan → ℕ → ℕ → ℕ
-bits_above_dropper plan h a = by_fitter (plan.fitter h a) (bits_below_cutter plan h a) 1 1
+bits_above_dropper plan h a = by_fitter (plan.fitter h a) (bits_below_cutter plan h a) 1 1 1
 
 abbrev pub row_of : LinkPlan → ℕ → ℕ → RowPlan
 row_of plan h a = record {
@@ -84,7 +85,7 @@ fitter_for host agent = if nat_lt agent host then Splits else if nat_lt host age
 abbrev pub links_for : System → LinkPlan
 links_for system = record {
   system = system;
-  cutter = λ h a. if is_joined system a h && not (is_alike (system.host h) (system.agent a)) then Cuts 1 else Uncut;
+  cutter = λ h a. if is_joined system a h && not (is_alike (system.host h) (system.agent a)) then Cuts (reach_longest 1) 1 1 else Uncut;
   fitter = λ h a. if is_joined system a h then fitter_for (system.host h).word_bytes (system.agent a).word_bytes else Unfitted;
   drops = λ h a. is_joined system a h && ((system.host h).has_enables && not (system.agent a).has_enables);
   room = 2;

@@ -11,7 +11,7 @@ use Rattle.mm_parts.specs.Arbiter.{IsArbiterMachine}
 use Rattle.mm_parts.specs.Host.{IsHostMachine}
 use Rattle.mm_parts.specs.Route.{IsRouteMachine}
 use Rattle.mm_parts.specs.Steps.{AreSilentPast}
-use Rattle.mm_awake.specs.Rows.{CutsBursts, FitsWords, DropsBeats, drops_some}
+use Rattle.mm_awake.specs.Rows.{CutsBursts, FitsWords, DropsBeats, GathersBelowCut, drops_some}
 use Rattle.mm_awake.specs.RowSystem.{RowPorts, AreIdleWires}
 use Rattle.mm_awake.specs.Theorem.{States, IsStageBetween}
 use Rattle.mm_awake.specs.Wires.{IsWire}
@@ -26,6 +26,7 @@ pub record IsRowFront (responses : Responses) (system : System) (run : Run) (por
   pub stage : (a i : ℕ) → a < system.agents → i < system.stages → IsStageBetween (states.stage a i) (ports.lower a (suc i)) (ports.lower a i)
   pub cuts : (h a : ℕ) → h < system.hosts → a < system.agents → IsTrue (is_joined system a h) → CutsBursts (ports.after_route h a) (ports.below_cutter h a)
   pub fits : (h a : ℕ) → h < system.hosts → a < system.agents → IsTrue (is_joined system a h) → FitsWords (target_of system a) (ports.below_cutter h a) (ports.above_dropper h a)
+  pub gathers : (h a : ℕ) (low : h < system.hosts) (there : a < system.agents) (joined : IsTrue (is_joined system a h)) → GathersBelowCut (cuts h a low there joined) (fits h a low there joined)
   pub drops : (h a : ℕ) → h < system.hosts → a < system.agents → IsTrue (is_joined system a h) → DropsBeats (target_of system a) (ports.above_dropper h a) (ports.before_arbiter h a)
   -- where no beats are dropped, the agent has byte enables or the host has none
   pub lanes : (h a : ℕ) (low : h < system.hosts) (there : a < system.agents) (joined : IsTrue (is_joined system a h)) → IsFalse (drops_some (drops h a low there joined)) → IsTrue ((system.agent a).has_enables || not (system.host h).has_enables)

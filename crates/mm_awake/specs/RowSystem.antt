@@ -6,7 +6,7 @@ use Rattle.mm_runs.specs.Order.{is_joined}
 use Rattle.mm_runs.specs.Plan.{FitsPorts}
 use Rattle.mm_machines.specs.Link.{Port}
 use Rattle.mm_machines.specs.Lines.{TaggedPort, target_of}
-use Rattle.mm_awake.specs.Rows.{IsWired, CutsBursts, FitsWords, DropsBeats, drops_some, ports_of_three}
+use Rattle.mm_awake.specs.Rows.{IsWired, CutsBursts, FitsWords, DropsBeats, GathersBelowCut, drops_some, ports_of_three}
 use Rattle.mm_awake.specs.Theorem.{Boundaries}
 use Rattle.mm_awake.specs.Wires.{IsWire, HandsAllOn}
 
@@ -40,6 +40,7 @@ pub record AreRows (system : System) (run : Run) (ports : RowPorts) (end : ℕ) 
   pub views : (h : ℕ) → h < system.hosts → FitsPorts (system.host h).shape (system.host h).has_burst (run.at_host h).signals end
   pub cuts : (h a : ℕ) → h < system.hosts → a < system.agents → IsFalse (idle h a) → CutsBursts (ports.after_route h a) (ports.below_cutter h a)
   pub fits : (h a : ℕ) → h < system.hosts → a < system.agents → IsFalse (idle h a) → FitsWords (target_of system a) (ports.below_cutter h a) (ports.above_dropper h a)
+  pub gathers : (h a : ℕ) (low : h < system.hosts) (there : a < system.agents) (links : IsFalse (idle h a)) → GathersBelowCut (cuts h a low there links) (fits h a low there links)
   pub drops : (h a : ℕ) → h < system.hosts → a < system.agents → IsFalse (idle h a) → DropsBeats (target_of system a) (ports.above_dropper h a) (ports.before_arbiter h a)
   -- where no beats are dropped, the agent has byte enables or the host has none
   pub lanes : (h a : ℕ) (low : h < system.hosts) (there : a < system.agents) (links : IsFalse (idle h a)) → IsFalse (drops_some (drops h a low there links)) → IsTrue ((system.agent a).has_enables || not (system.host h).has_enables)

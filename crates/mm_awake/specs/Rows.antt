@@ -1,9 +1,10 @@
 -- How the links in a row between a host's route and an agent's arbiter keep going and hold little back, and the rows that do.
-use Rattle.std.specs.Prelude.{ℕ, zero, suc, ◌<◌, ◌≤◌, Bool, true, false, List}
+use Rattle.std.specs.Prelude.{◌≡◌, ℕ, zero, suc, ◌<◌, ◌≤◌, Bool, true, false, List}
 use Rattle.mm_machines.specs.Link.{Target, Port}
 use Rattle.mm_machines.specs.Machines.{MaySplit}
-use Rattle.mm_links.specs.Cutters.{CutterState, RunsAsCutter, IsCutPlan}
+use Rattle.mm_links.specs.Cutters.{Reach, CutterState, RunsAsCutter, IsCutPlan, IsTouchPlan, reach_words}
 use Rattle.mm_links.specs.Drops.{DropState, RunsAsDrop, IsDropPlan}
+use Rattle.mm_links.specs.Gathers.{GatherState, RunsAsGather, IsGatherPlan}
 use Rattle.mm_links.specs.Going.{KeepsGoing}
 use Rattle.mm_links.specs.Selects.{RunsAsSelect, IsSelectPlan}
 use Rattle.mm_links.specs.Splits.{SplitState, RunsAsSplit}
@@ -27,14 +28,27 @@ pub record IsWired (up down : Port) : Type 0 where
 
 -- below the route bursts are cut into those that the agent takes, or into single beats, or stay
 pub data CutsBursts (up down : Port) : Type 0 where
-  cutter : (longest : ℕ) (state : CutterState) → IsCutPlan longest up.shape down.shape → RunsAsCutter longest up down state → CutsBursts up down
+  cutter : (reach : Reach) (longest : ℕ) (state : CutterState) → IsCutPlan reach longest up.shape down.shape → RunsAsCutter reach longest up down state → CutsBursts up down
   no_cutter : IsWired up down → CutsBursts up down
 
 -- below that words are made those of the agent
 pub data FitsWords (target : Target) (up down : Port) : Type 0 where
   selector : (many room : ℕ) (offsets : ℕ → List ℕ) → IsSelectPlan target up.shape down.shape many → 1 < room → RunsAsSelect room up down offsets → FitsWords target up down
+  gatherer : (many room : ℕ) (state : GatherState) → IsGatherPlan target up.shape down.shape many → 1 < room → RunsAsGather room up down state → FitsWords target up down
   splitter : (count room : ℕ) (state : SplitState) → MaySplit target up.shape down.shape count → 0 < room → RunsAsSplit room up down state → FitsWords target up down
   no_width : IsWired up down → FitsWords target up down
+
+-- reads are cut at the ends of wide words, each of which is as wide as `many` words there, and writes into single beats
+abbrev pub CutsAtWords : {up down : Port} → ℕ → CutsBursts up down → Type 0
+CutsAtWords {up} {down} many (cutter reach longest state plan run) = IsTouchPlan many up.shape down.shape × (reach ≡ reach_words up.shape.word_bytes many) × (longest ≡ 1)
+CutsAtWords {up} {down} many (no_cutter wired) = ⊥
+
+-- what gathers stands below such a cutter
+abbrev pub GathersBelowCut : {target : Target} {top middle low : Port} → CutsBursts top middle → FitsWords target middle low → Type 0
+GathersBelowCut cuts (selector many room offsets plan deep run) = Unit {0}
+GathersBelowCut cuts (gatherer many room state plan deep run) = CutsAtWords many cuts
+GathersBelowCut cuts (splitter count room state may some run) = Unit {0}
+GathersBelowCut cuts (no_width wired) = Unit {0}
 
 -- and before the arbiter beats without a lane are dropped, or stay
 pub data DropsBeats (target : Target) (up down : Port) : Type 0 where

@@ -8,7 +8,7 @@ ghost use Rattle.mm_runs.specs.Order.{is_joined};
 ghost use Rattle.mm_machines.specs.Link.{Port, takes, AreLegalAt};
 ghost use Rattle.mm_runs.specs.Commands.{shows};
 ghost use Rattle.mm_runs.specs.Operations.{pieces};
-ghost use Rattle.mm_links.specs.Cutters.{CutterState, RunsAsCutter};
+ghost use Rattle.mm_links.specs.Cutters.{CutterState, Reach, RunsAsCutter};
 ghost use Rattle.mm_awake.specs.Rows.{CutsBursts};
 ghost use Rattle.mm_links.specs.Selects.{RunsAsSelect, is_shut};
 ghost use Rattle.mm_links.specs.Splits.{SplitState, RunsAsSplit, opens};
@@ -88,7 +88,7 @@ pub fn routes_take_few_steps()
 /// From link to link: a wire, a cutter of bursts and a lane selector keep the number of steps, and a splitter multiplies it by the pieces of a beat, where selector and splitter hold no read back in a good cycle.
 pub fn links_take_few_steps()
     ensures wire { (up down : Port) (good : ℕ → Bool) (longest : ℕ) (rest : ℕ → ℕ) (end : ℕ) → IsWire up down → HasStepsLeft up good longest rest end → HasStepsLeft down good longest rest end }
-    ensures cutter { (longest : ℕ) (up down : Port) (state : CutterState) (good : ℕ → Bool) (most : ℕ) (rest : ℕ → ℕ) (end : ℕ) → RunsAsCutter longest up down state → 1 ≤ longest → AreLegalAt down end
+    ensures cutter { (reach : Reach) (longest : ℕ) (up down : Port) (state : CutterState) (good : ℕ → Bool) (most : ℕ) (rest : ℕ → ℕ) (end : ℕ) → RunsAsCutter reach longest up down state → ((address : ℕ) → 0 < reach address) → AreLegalAt down end
         → HasSingleReads up rest end → HasStepsLeft up good most rest end → (below : ℕ → ℕ) × HasStepsLeft down good most below end }
     ensures selector { (room : ℕ) (up down : Port) (offsets : ℕ → List ℕ) (good : ℕ → Bool) (longest : ℕ) (rest : ℕ → ℕ) (end : ℕ) → RunsAsSelect room up down offsets
         → ((c : ℕ) → c < end → IsTrue (good c) → IsFalse (is_shut room up offsets c)) → HasStepsLeft up good longest rest end → HasStepsLeft down good longest rest end }

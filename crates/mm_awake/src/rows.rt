@@ -12,7 +12,7 @@ ghost use Rattle.mm_machines.specs.PartRanks.{JoinsAlike};
 ghost use Rattle.mm_links.specs.Driven.{Inputs};
 ghost use Rattle.mm_links.specs.Selects.{EnablesFit};
 ghost use Rattle.mm_awake.specs.Fair.{are_apart};
-ghost use Rattle.mm_awake.specs.Rows.{CutsBursts, FitsWords, DropsBeats};
+ghost use Rattle.mm_awake.specs.Rows.{CutsBursts, FitsWords, DropsBeats, GathersBelowCut};
 ghost use Rattle.mm_awake.specs.RowRun.{RowPlan, SuitsRow, row_registers, row_top, row_middle, row_low, row_bottom};
 ghost use Rattle.mm_awake.specs.LinkSystem.{LinkPlan, SuitsLinks, AreFitHosts, links_for, linked_registers, linked_run, linked_ports, linked_states};
 ghost use Rattle.mm_awake.specs.PlainSystem.{AreQuietPast, wired_ports, wired_states};
@@ -113,17 +113,19 @@ pub fn plain_systems_have_rows()
     crate::built::memory_plans_are_planned()
 }
 
-/// A row of links has a run for all commands from above, and all waits and answers from below, whatever stands in it: a cutter of bursts, a lane selector or a splitter, what drops beats, and wires.
+/// A row of links has a run for all commands from above, and all waits and answers from below, whatever stands in it: a cutter of bursts, a lane selector, a splitter or what gathers, what drops beats, and wires.
 pub fn rows_run()
     ensures { (plan : RowPlan) (inputs : Inputs) (target : Target)
         → let registers = row_registers plan inputs in
         SuitsRow target plan
-        → CutsBursts (row_top plan inputs registers) (row_middle plan inputs registers)
-        × FitsWords target (row_middle plan inputs registers) (row_low plan inputs registers)
-        × DropsBeats target (row_low plan inputs registers) (row_bottom plan inputs registers) }
+        → (cuts : CutsBursts (row_top plan inputs registers) (row_middle plan inputs registers))
+        × (fits : FitsWords target (row_middle plan inputs registers) (row_low plan inputs registers))
+        × DropsBeats target (row_low plan inputs registers) (row_bottom plan inputs registers)
+        × GathersBelowCut cuts fits }
 {
     mm_links::runs::cut_runs();
     mm_links::runs::select_runs();
+    mm_links::runs::gather_runs();
     mm_links::runs::split_runs();
     mm_links::runs::drop_runs()
 }
@@ -141,6 +143,7 @@ pub fn linked_systems_run()
 {
     mm_links::runs::cut_runs();
     mm_links::runs::select_runs();
+    mm_links::runs::gather_runs();
     mm_links::runs::split_runs();
     mm_links::runs::drop_runs();
     mm_parts::runs::host_machine_runs();

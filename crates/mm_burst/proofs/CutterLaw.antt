@@ -17,7 +17,7 @@ use Rattle.mm_machines.specs.Link.{Port, takes}
 use Rattle.mm_machines.specs.Machines.{Raw, IsFitBeat, ShowsFitBeats}
 use Rattle.mm_links.specs.Links.{LinkForm, IsLink}
 use Rattle.mm_links.specs.Selects.{takes_read}
-use Rattle.mm_links.specs.Cutters.{Rest, CutterState, IsPlaceIn, RunsAsCutter, behind_burst, whole_read, read_burst_of, first_burst, cut_form}
+use Rattle.mm_links.specs.Cutters.{Rest, CutterState, IsPlaceIn, RunsAsCutter, behind_burst, whole_read, read_burst_of, first_burst, reach_longest, cut_form}
 use Rattle.command_nets.specs.declared.nets.CommandNets.{CommandNets}
 use Rattle.command_nets.specs.declared.nets.AnswerNets.{AnswerNets}
 use Rattle.command_nets.specs.Nets.{raw_in, port_in, ShowSame}
@@ -178,8 +178,8 @@ module _ (s : Cutter) (from to : CommandNets) (kept : CutterKept) (wait up : Net
 
   abbrev rest_by : Rest → Bool → Bool → Bool → Raw → Rest
   rest_by rest sending takes reads raw =
-      if sending then (if takes then behind_burst longest above.word_bytes rest else rest)
-      else if reads then behind_burst longest above.word_bytes (whole_read above raw) else rest
+      if sending then (if takes then behind_burst (reach_longest longest) above.word_bytes rest else rest)
+      else if reads then behind_burst (reach_longest longest) above.word_bytes (whole_read above raw) else rest
 
   pub rest_at : ℕ → Rest
   rest_at zero = record { left = 0; address = 0; command = nothing_shown }
@@ -218,7 +218,7 @@ module _ (s : Cutter) (from to : CommandNets) (kept : CutterKept) (wait up : Net
   abbrev state : CutterState
   state = record { place = λ c. place_of (held c); rest = rest_at }
 
-  pub is_cutter_run : RunsAsCutter longest up_port down_port state
+  pub is_cutter_run : RunsAsCutter (reach_longest longest) longest up_port down_port state
   unfolding rest_at
   is_cutter_run = record {
     shown = λ c. below_shown c ∙ ap (λ t. if t then true else shown c) (sym (matches c).sends);
@@ -226,7 +226,7 @@ module _ (s : Cutter) (from to : CommandNets) (kept : CutterKept) (wait up : Net
         let m = matches c in
         shows_piece c
         ∙ beat_is longest above (raw c) (held c) (rest_at c) (sends c) (nat_lt 0 (held c).left) (writes c) (shown c) refl refl (λ e. m.kept (m.sends ∙ e)) (sym (or_where (sends c) (shown c)) ∙ sym (below_shown c) ∙ stands)
-        ∙ ap (λ t. if t then read_burst_of longest (rest_at c) else first_burst longest above (place_of (held c)) (raw c)) (sym m.sends));
+        ∙ ap (λ t. if t then read_burst_of (reach_longest longest) (rest_at c) else first_burst (reach_longest longest) longest above (place_of (held c)) (raw c)) (sym m.sends));
     accepts = λ c. up_taken c ∙ ap₂ (λ t k. not t && k) (sym (matches c).sends) (sym (down_taken c));
     place = place_at;
     rest_begins = refl;

@@ -9,7 +9,7 @@ use Rattle.netlist.specs.Longer.{Extends}
 use Rattle.net_parts.specs.Groups.{AreWaiting, InGroup, StartAllLow, TakeAllNext}
 use Rattle.mm_runs.specs.Commands.{longest_burst}
 use Rattle.mm_machines.specs.Link.{Target, Port}
-use Rattle.mm_links.specs.Cutters.{CutterState, RunsAsCutter, IsCutPlan, cut_form}
+use Rattle.mm_links.specs.Cutters.{CutterState, RunsAsCutter, IsCutPlan, reach_longest, cut_form}
 use Rattle.command_nets.specs.declared.nets.CommandNets.{CommandNets}
 use Rattle.command_nets.specs.declared.nets.AnswerNets.{AnswerNets}
 use Rattle.command_nets.specs.Nets.{Widths, AreCommandNets, raw_in}
@@ -29,16 +29,16 @@ pub record IsCutter (s : Cutter) : Type 0 where
 
 -- words of so many bytes, whose bursts are cut into those that the lower count tells
 pub record IsCutterForm (s : Cutter) (form : Form) : Type 0 where
-  pub plan : IsCutPlan (longest_burst s.below_bits) form.up form.down
+  pub plan : IsCutPlan (reach_longest (longest_burst s.below_bits)) (longest_burst s.below_bits) form.up form.down
   pub words : form.up.word_bytes ≡ s.word_bytes
   pub bytes : form.up.unit_bytes ≡ 1
   pub is : form.link ≡ cut_form form.link.target
 
 -- the machine, with its state
 pub record CutterRuns (s : Cutter) (target : Target) (up down : Port) : Type 0 where
-  pub plan : IsCutPlan (longest_burst s.below_bits) up.shape down.shape
+  pub plan : IsCutPlan (reach_longest (longest_burst s.below_bits)) (longest_burst s.below_bits) up.shape down.shape
   pub state : CutterState
-  pub run : RunsAsCutter (longest_burst s.below_bits) up down state
+  pub run : RunsAsCutter (reach_longest (longest_burst s.below_bits)) (longest_burst s.below_bits) up down state
 
 -- the nets of a command, whose address reaches all bytes of a word
 pub record TakesWidths (s : Cutter) (widths : Widths) : Type 0 where

@@ -8,7 +8,7 @@ use Rattle.mm_runs.specs.Order.{is_joined}
 use Rattle.mm_runs.specs.Whole.{IsLegalRun}
 use Rattle.mm_machines.specs.Lines.{target_of}
 use Rattle.mm_links.specs.Driven.{CutInputs, DropInputs, PipeInputs, cut_above, cut_below, cut_state, drop_above, drop_below, drop_state, pipe_run}
-use Rattle.mm_links.specs.Cutters.{RunsAsCutter}
+use Rattle.mm_links.specs.Cutters.{RunsAsCutter, reach_longest}
 use Rattle.mm_links.specs.Drops.{RunsAsDrop}
 use Rattle.mm_links.specs.Pipes.{RunsAsPipe}
 use Rattle.mm_awake.specs.RowSystem.{AreRows, IsFairRow, boundaries_of}
@@ -120,7 +120,7 @@ agents = record {
 }
 
 pub record Links : Type 0 where
-  pub cut : (given : CutInputs) → RunsAsCutter given.longest (cut_above given) (cut_below given) (cut_state given)
+  pub cut : (given : CutInputs) → RunsAsCutter given.reach given.longest (cut_above given) (cut_below given) (cut_state given)
   pub drop : (given : DropInputs) → RunsAsDrop given.room (drop_above given) (drop_below given) (drop_state given)
   pub pipe : (given : PipeInputs) → RunsAsPipe given.stages (pipe_run given)
 
@@ -190,10 +190,11 @@ rows links = record {
   idle = λ h a. false;
   views = host_views burst_system burst_run 12 (record { enables = record { holds = refl }; all_lanes = record { holds = refl }; word = record { holds = refl }; one_beat = record { holds = refl } });
   cuts = λ h a is there joined. two (λ h. CutsBursts (after_route h a) (below_cutter h a))
-      (cutter 1 (cut_state (cutting a)) (record { some = omega arith; same = refl; bytes = refl; least = omega arith; most = omega arith }) (links.cut (cutting a)))
+      (cutter (reach_longest 1) 1 (cut_state (cutting a)) (record { some = omega arith; same = refl; bytes = refl; least = omega arith; most = omega arith; goes = λ address. omega arith; allowed = λ address. omega arith }) (links.cut (cutting a)))
       (no_cutter (wire 1 a (omega arith) there))
       h is;
   fits = λ h a is there joined. no_width (wire_below h a is there);
+  gathers = λ h a is there joined. tt;
   drops = λ h a is there joined. drops links h a is there;
   lanes = λ h a is there joined none. lanes links h a is there none;
   apart = λ h a is there idle. absurd (both_ways false refl idle);

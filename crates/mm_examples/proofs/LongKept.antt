@@ -7,6 +7,7 @@ use Rattle.mm_runs.specs.Order.{is_joined}
 use Rattle.mm_runs.specs.Commands.{shows}
 use Rattle.mm_runs.specs.Plan.{IsMemoryPlan, IsShape, IsPowerOfTwo}
 use Rattle.mm_runs.specs.Whole.{IsLegalRun}
+use Rattle.mm_links.specs.Cutters.{reach_longest}
 use Rattle.mm_machines.specs.Lines.{target_of}
 use Rattle.mm_awake.specs.RowRun.{SuitsRow, Cutter.Uncut, Cutter.Cuts, Fitter.Unfitted, Fitter.Selects, Fitter.Splits}
 use Rattle.mm_awake.specs.RowSystem.{IsFairRow}
@@ -39,26 +40,30 @@ suits = record {
   stages = refl;
   rows = λ h a is there links. pairs (λ h a. SuitsRow (target_of long_plan.system a) (row_of long_plan h a))
       (record {
-        cutter = record { some = omega arith; same = refl; bytes = refl; least = omega arith; most = omega arith };
+        cutter = record { some = omega arith; same = refl; bytes = refl; least = omega arith; most = omega arith; goes = λ address. omega arith; allowed = λ address. omega arith };
         fitter = (2, record { some = omega arith; more = omega arith; whole = refl; same = refl; bytes = refl; enables = refl; one_beat = refl; one_beat_below = refl });
+        gathering = tt;
         dropper = (refl, omega arith, omega arith);
         room = omega arith;
       })
       (record {
-        cutter = record { some = omega arith; same = refl; bytes = refl; least = omega arith; most = omega arith };
+        cutter = record { some = omega arith; same = refl; bytes = refl; least = omega arith; most = omega arith; goes = λ address. omega arith; allowed = λ address. omega arith };
         fitter = (2, record { bytes = refl; some = omega arith; same = refl; one = omega arith; whole = refl; one_beat = refl });
+        gathering = tt;
         dropper = record { some = omega arith; same = refl; units = refl; agent = refl; enables = refl; one_beat = refl };
         room = omega arith;
       })
       (record {
         cutter = (refl, omega arith, omega arith);
         fitter = (4, record { some = omega arith; more = omega arith; whole = refl; same = refl; bytes = refl; enables = refl; one_beat = refl; one_beat_below = refl });
+        gathering = tt;
         dropper = (refl, omega arith, omega arith);
         room = omega arith;
       })
       (record {
         cutter = (refl, omega arith, omega arith);
         fitter = (refl, omega arith, omega arith);
+        gathering = tt;
         dropper = record { some = omega arith; same = refl; units = refl; agent = refl; enables = refl; one_beat = refl };
         room = omega arith;
       })
@@ -72,7 +77,7 @@ suits = record {
       h a is there;
   apart = λ h a is there idle. absurd (both_ways false refl idle);
   past = λ h a past. record {
-    uncut = none_past (Cuts 1) Uncut Uncut h past;
+    uncut = none_past (Cuts (reach_longest 1) 1 1) Uncut Uncut h past;
     unfitted = none_past (first_or Selects Splits a) (first_or Selects Unfitted a) Unfitted h past;
     undropped = none_past (first_or false true a) (first_or false true a) false h past;
   };

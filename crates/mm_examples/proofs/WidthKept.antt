@@ -5,6 +5,7 @@ use Rattle.mm_runs.specs.Views.Responses.{AreZero}
 use Rattle.mm_runs.specs.Awake.{is_alike}
 use Rattle.mm_runs.specs.Order.{is_joined}
 use Rattle.mm_runs.specs.Whole.{IsLegalRun}
+use Rattle.mm_machines.specs.Link.{Port}
 use Rattle.mm_machines.specs.Lines.{target_of}
 use Rattle.mm_parts.specs.Agent.{IsAgentPlan}
 use Rattle.mm_parts.specs.Queue.{QueuesReads}
@@ -12,7 +13,7 @@ use Rattle.mm_links.specs.Driven.{SelectInputs, SplitInputs, select_above, selec
 use Rattle.mm_links.specs.Selects.{RunsAsSelect}
 use Rattle.mm_links.specs.Splits.{RunsAsSplit}
 use Rattle.mm_awake.specs.RowSystem.{AreRows, IsFairRow, boundaries_of}
-use Rattle.mm_awake.specs.Rows.{IsWired, FitsWords, CutsBursts.no_cutter, FitsWords.no_width, FitsWords.selector, FitsWords.splitter, DropsBeats.no_dropper}
+use Rattle.mm_awake.specs.Rows.{IsWired, CutsBursts, FitsWords, GathersBelowCut, CutsBursts.no_cutter, FitsWords.no_width, FitsWords.selector, FitsWords.splitter, DropsBeats.no_dropper}
 use Rattle.mm_awake.specs.Theorem.{ArePlanned, AreMachines}
 use Rattle.mm_awake.specs.Wires.{IsWire}
 use Rattle.mm_examples.specs.WidthSystem.{width_system, width_run, width_ports, width_states, swapped_run, unmoved_run, bytes_of, no_port, after_host, after_route, above_dropper, before_arbiter, before_agent, splitting, selecting}
@@ -186,17 +187,32 @@ pub record Links : Type 0 where
   pub split : (given : SplitInputs) → RunsAsSplit given.room (split_above given) (split_below given) (split_state given)
   pub select : (given : SelectInputs) → RunsAsSelect given.room (select_above given) (select_below given) (select_queue given)
 
+-- what fits words, and doesn't gather
+record Fitted (h a : ℕ) : Type 0 where
+  fits : FitsWords (target_of width_system a) (after_route h a) (above_dropper h a)
+  none : (top : Port) (cuts : CutsBursts top (after_route h a)) → GathersBelowCut cuts fits
+
+fitted : Links → (h a : ℕ) → h < 2 → a < 2 → Fitted h a
+fitted links h a is there = pairs Fitted
+    (record { fits = no_width (wire 0 0 (omega arith) (omega arith)); none = λ top cuts. tt })
+    (record {
+      fits = splitter 2 2 (split_state splitting) (record { bytes = refl; some = omega arith; same = refl; one = omega arith; whole = refl; one_beat = refl }) (omega arith) (links.split splitting);
+      none = λ top cuts. tt;
+    })
+    (record {
+      fits = selector 2 2 (select_queue selecting) (record { some = omega arith; more = omega arith; whole = refl; same = refl; bytes = refl; enables = refl; one_beat = refl; one_beat_below = refl }) (omega arith) (links.select selecting);
+      none = λ top cuts. tt;
+    })
+    (record { fits = no_width (wire 1 1 (omega arith) (omega arith)); none = λ top cuts. tt })
+    h a is there
+
 pub rows : Links → AreRows width_system width_run width_ports 8
 rows links = record {
   idle = λ h a. false;
   views = host_views width_system width_run 8 (record { enables = record { holds = refl }; all_lanes = record { holds = refl }; word = record { holds = refl }; one_beat = record { holds = refl } });
   cuts = λ h a is there joined. no_cutter (wire h a is there);
-  fits = λ h a is there joined. pairs (λ h a. FitsWords (target_of width_system a) (after_route h a) (above_dropper h a))
-      (no_width (wire 0 0 (omega arith) (omega arith)))
-      (splitter 2 2 (split_state splitting) (record { bytes = refl; some = omega arith; same = refl; one = omega arith; whole = refl; one_beat = refl }) (omega arith) (links.split splitting))
-      (selector 2 2 (select_queue selecting) (record { some = omega arith; more = omega arith; whole = refl; same = refl; bytes = refl; enables = refl; one_beat = refl; one_beat_below = refl }) (omega arith) (links.select selecting))
-      (no_width (wire 1 1 (omega arith) (omega arith)))
-      h a is there;
+  fits = λ h a is there joined. (fitted links h a is there).fits;
+  gathers = λ h a is there joined. (fitted links h a is there).none (after_route h a) (no_cutter (wire h a is there));
   drops = λ h a is there joined. no_dropper (wire_below h a is there);
   lanes = λ h a is there joined none. refl;
   apart = λ h a is there idle. absurd (both_ways false refl idle);

@@ -10,6 +10,7 @@ use Rattle.mm_machines.specs.Lines.{TaggedPort}
 use Rattle.mm_machines.specs.Machines.{Stage}
 use Rattle.mm_machines.specs.Turns.{grant_before, seats_of}
 use Rattle.mm_parts.specs.Route.{kind_at}
+use Rattle.mm_links.specs.Cutters.{reach_longest}
 use Rattle.mm_links.specs.Driven.{CutInputs, DropInputs, PipeInputs, cut_above, cut_below, drop_above, drop_below, pipe_run}
 use Rattle.mm_links.specs.Pipes.{PipeSides, tagged_side}
 use Rattle.mm_awake.specs.RowSystem.{RowPorts}
@@ -95,6 +96,7 @@ given_to a valid = record { valid = signal valid; word = (after_arbiter a).answe
 -- host 0 to an agent
 abbrev pub cutting : ℕ → CutInputs
 cutting a = record {
+  reach = reach_longest 1;
   longest = 1;
   shape = host_shape 0;
   below = plain_shape 4;

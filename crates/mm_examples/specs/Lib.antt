@@ -22,3 +22,4 @@ pub mod WidthSystem
 pub mod BurstSystem
 pub mod LongRows
 pub mod HostRuns
+pub mod PackedReads

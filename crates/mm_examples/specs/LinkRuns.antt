@@ -3,6 +3,7 @@ use Rattle.std.specs.Prelude.{ℕ, true, List, [], ◌∷◌}
 use Rattle.mm_runs.specs.Views.{Shape}
 use Rattle.mm_machines.specs.Link.{Port, Target}
 use Rattle.mm_machines.specs.Lines.{TaggedPort}
+use Rattle.mm_links.specs.Cutters.{reach_longest}
 use Rattle.mm_links.specs.Driven.{Inputs, SelectInputs, PipeInputs, SplitInputs, CutInputs, DropInputs}
 use Rattle.mm_examples.specs.Examples.{signal, always}
 use Rattle.mm_examples.specs.MoreExamples.{write_port}
@@ -168,6 +169,7 @@ burst_shape bytes = record { word_bytes = bytes; unit_bytes = 1; burst_bits = 3;
 -- a read of three words at address 8, then a write of two words at address 32, which waits until the read has gone
 abbrev pub cutting : CutInputs
 cutting = record {
+  reach = reach_longest 1;
   longest = 1;
   shape = burst_shape 4;
   below = lane_shape 4;
@@ -216,6 +218,7 @@ two_beats more = record {
 -- a read of two bytes without an enabled lane, and behind it a plain write, which comes while the second beat of the read is sent
 abbrev pub behind_empty : CutInputs
 behind_empty = record {
+  reach = reach_longest 1;
   longest = 1;
   shape = burst_shape 1;
   below = lane_shape 1;
@@ -236,6 +239,7 @@ pair_shape bytes = record { word_bytes = bytes; unit_bytes = 1; burst_bits = 2; 
 -- a read of five words at address 8, then a write of three words at address 32, which waits until the read has gone
 abbrev pub pairing : CutInputs
 pairing = record {
+  reach = reach_longest 2;
   longest = 2;
   shape = record (burst_shape 4) { burst_bits = 4 };
   below = pair_shape 4;
@@ -307,6 +311,7 @@ near_pairs = record {
 -- a read of four bytes without an enabled lane, and behind it a plain write, which comes while the second burst of the read is sent
 abbrev pub behind_pairs : CutInputs
 behind_pairs = record {
+  reach = reach_longest 2;
   longest = 2;
   shape = behind_empty.shape;
   below = pair_shape 1;

@@ -3,6 +3,7 @@
 use Rattle.std.specs.Prelude.{true, false, [], ◌∷◌, nat_lt, if◌then◌else◌}
 use Rattle.mm_runs.specs.Views.{Signals, Run}
 use Rattle.mm_runs.specs.Views.Responses.{AreZero}
+use Rattle.mm_links.specs.Cutters.{reach_longest}
 use Rattle.mm_parts.specs.SystemRun.{Outside}
 use Rattle.mm_awake.specs.RowRun.{Cutter.Uncut, Cutter.Cuts, Fitter.Unfitted, Fitter.Selects, Fitter.Splits}
 use Rattle.mm_awake.specs.RowSystem.{RowPorts}
@@ -16,7 +17,7 @@ long_plan = record {
   system = two_by_two
       (λ h. record { shape = record { word_bytes = first_or 4 2 h; unit_bytes = 1; burst_bits = first_or 2 1 h; has_enables = true }; has_burst = first_or true false h; has_readdatavalid = true; has_response = false })
       (λ a. small_agent (first_or 8 2 a) (first_or true false a)) 0;
-  cutter = λ h a. of_two (Cuts 1) Uncut Uncut h;
+  cutter = λ h a. of_two (Cuts (reach_longest 1) 1 1) Uncut Uncut h;
   fitter = λ h a. of_two (first_or Selects Splits a) (first_or Selects Unfitted a) Unfitted h;
   drops = λ h a. of_two (first_or false true a) (first_or false true a) false h;
   room = 2;

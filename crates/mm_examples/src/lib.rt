@@ -4,6 +4,7 @@
 pub mod awake;
 pub mod hosts;
 pub mod links;
+pub mod packs;
 pub mod parts;
 pub mod rows;
 

@@ -229,6 +229,7 @@ module _ (plan : PlanTable) (planned : IsMemoryPlan (memory_system plan)) (disti
     stage = λ a i there few. (piped a there).stage i few;
     cuts = λ h a low there has. ((stands h low a there).leads has).cuts;
     fits = λ h a low there has. ((stands h low a there).leads has).fits;
+    gathers = λ h a low there has. ((stands h low a there).leads has).gathers;
     drops = λ h a low there has. ((stands h low a there).leads has).dropped;
     lanes = lanes_at;
     wired = λ h a low there has valid alike. alike_wire plan planned netlist fabric is longer extends run endless h a low there (is.joined h a low there has) alike;

@@ -9,9 +9,9 @@ use Rattle.mm_runs.specs.Commands.{Burst, shows, burst_before, burst_after, next
 use Rattle.mm_machines.specs.Link.{Port, Target, takes}
 use Rattle.mm_machines.specs.Machines.{Raw, raw_at, joined, single, IsFitBeat, ShowsFitBeats}
 use Rattle.mm_arbiter.specs.Machine.{JoinsBeats}
-use Rattle.mm_links.specs.Cutters.{CutterState, RunsAsCutter, IsCutPlan}
+use Rattle.mm_links.specs.Cutters.{Reach, CutterState, RunsAsCutter, IsCutPlan}
 use Rattle.mm_links.specs.Drops.{DropState, RunsAsDrop, standing_at, keeps, sends, sent_beat}
-use Rattle.mm_awake.specs.Rows.{CutsBursts, CutsBursts.cutter, CutsBursts.no_cutter, FitsWords, FitsWords.selector, FitsWords.splitter, FitsWords.no_width, DropsBeats, DropsBeats.dropper, DropsBeats.no_dropper}
+use Rattle.mm_awake.specs.Rows.{CutsBursts, CutsBursts.cutter, CutsBursts.no_cutter, FitsWords, FitsWords.selector, FitsWords.gatherer, FitsWords.splitter, FitsWords.no_width, DropsBeats, DropsBeats.dropper, DropsBeats.no_dropper}
 use Rattle.mm_awake.specs.Wires.{IsWire, shape_with, with_bursts}
 
 -- each beat that is shown is a command by itself
@@ -120,6 +120,7 @@ single_count tag last (beat ∷ next ∷ later) (suc k) raw there = single_count
 
 pub fits_keep : (target : Target) (up down : Port) (end : ℕ) → FitsWords target up down → HaveOneBeat up end → HaveOneBeat down end
 fits_keep target up down end (selector many room offsets plan some run) one = λ c low shown. ap (λ (levels : Levels). levels.count) (run.levels c)
+fits_keep target up down end (gatherer many room state plan some run) one = λ c low shown. ap (λ (levels : Levels). levels.count) (run.levels c)
 fits_keep target up down end (splitter count room state plan some run) one =
     λ c low shown. single_count (up.commands.tag c) (up.commands.more c) _ (state.place c) (raw_at down c) (run.part c shown)
 fits_keep target up down end (no_width wired) one = wire_keeps up down end wired.wire one
@@ -160,15 +161,16 @@ drops_keep target up down end (no_dropper wired) one = wire_keeps up down end wi
 
 -- what a cutter shows fits where all fits that it is shown
 abbrev pub CuttersShowFit : Type 0
-CuttersShowFit = (longest : ℕ) (up down : Port) (state : CutterState) (end : ℕ) → IsCutPlan longest up.shape down.shape → RunsAsCutter longest up down state → ShowsFitBeats up end → ShowsFitBeats down end
+CuttersShowFit = (reach : Reach) (longest : ℕ) (up down : Port) (state : CutterState) (end : ℕ) → IsCutPlan reach longest up.shape down.shape → RunsAsCutter reach longest up down state → ShowsFitBeats up end → ShowsFitBeats down end
 
 pub cuts_keep : CuttersShowFit → (up down : Port) (end : ℕ) → CutsBursts up down → ShowsFitBeats up end → ShowsFitBeats down end
-cuts_keep law up down end (cutter longest state plan run) fit = law longest up down state end plan run fit
+cuts_keep law up down end (cutter reach longest state plan run) fit = law reach longest up down state end plan run fit
 cuts_keep law up down end (no_cutter wired) fit = wire_fits up down end wired.wire fit
 
--- words are fitted to single beats alone
+-- words are fitted to single beats, or made single beats
 pub words_keep : (target : Target) (up down : Port) (end : ℕ) → FitsWords target up down → ShowsFitBeats up end → ShowsFitBeats down end ⊎ HaveOneBeat down end
 words_keep target up down end (selector many room offsets plan some run) fit = inr (fits_keep target up down end (selector many room offsets plan some run) (fit_singles up end fit plan.one_beat))
+words_keep target up down end (gatherer many room state plan some run) fit = inr (λ c low shown. ap (λ (levels : Levels). levels.count) (run.levels c))
 words_keep target up down end (splitter count room state plan some run) fit = inr (fits_keep target up down end (splitter count room state plan some run) (fit_singles up end fit plan.one_beat))
 words_keep target up down end (no_width wired) fit = inl (wire_fits up down end wired.wire fit)
 

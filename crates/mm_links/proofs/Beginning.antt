@@ -186,12 +186,12 @@ pass_begins few may_burst target port end legal = record {
 
 -- ---- a gate
 
-module _ (target : Target) (up down : Port) (lets : ℕ → Bool) (shows_same : (c : ℕ) → shows down.commands.signals c ≡ shows up.commands.signals c && lets c)
-    (takes_same : (c : ℕ) → takes down c ≡ takes up c) (end : ℕ) (alike : (c : ℕ) → c < end → shows up.commands.signals c ≡ true → IsAlike target up.shape down.shape (marked_at up c) (marked_at down c))
+module _ (target : Target) (each : Bool) (up down : Port) (lets : ℕ → Bool) (shows_same : (c : ℕ) → shows down.commands.signals c ≡ shows up.commands.signals c && lets c)
+    (takes_same : (c : ℕ) → takes down c ≡ takes up c) (end : ℕ) (alike : (c : ℕ) → c < end → shows up.commands.signals c ≡ true → IsAlike target up.shape down.shape each (marked_at up c) (marked_at down c))
     (legal_up : AreLegalAt up end) (legal_down : AreLegalAt down end)
     (shut : (c : ℕ) → c < end → lets c ≡ false → length (words_at up c) < words_owed up c) where
   same_taken : (k : ℕ) → k ≤ end → operations_taken target down k ≡ operations_taken target up k
-  same_taken k h = ap length (alike_operations target up.shape down.shape (taken_at up k) (taken_at down k) (taken_alike target up down lets shows_same takes_same end alike legal_up legal_down k h))
+  same_taken k h = ap length (alike_operations target up.shape down.shape each (taken_at up k) (taken_at down k) (taken_alike target each up down lets shows_same takes_same end alike legal_up legal_down k h))
 
   pub gate_begins : (few : ℕ) (may_burst : Bool) → BeginsBelow few may_burst target up down end
   gate_begins few may_burst = record {

@@ -12,7 +12,7 @@ use Rattle.mm_machines.specs.Link.{Target, Port, Marked, AreLegalAt, takes, mark
 use Rattle.mm_machines.specs.Machines.{Raw, ShowsFitBeats, raw_at, idle, mark}
 use Rattle.mm_links.specs.Selects.{takes_read}
 use Rattle.mm_links.specs.Passes.{ShowsWrite}
-use Rattle.mm_links.specs.Cutters.{CutterState, Rest, RunsAsCutter, IsCutPlan, is_sending, read_burst_of, behind_burst, whole_read}
+use Rattle.mm_links.specs.Cutters.{Reach, CutterState, Rest, RunsAsCutter, IsCutPlan, is_sending, read_burst_of, behind_burst, whole_read}
 use Rattle.mm_links.proofs.OneBeat.{aligned, beat_by}
 use Rattle.mm_links.proofs.CutRuns.{beats_are, legal_fits, some_read}
 use Rattle.mm_links.proofs.CutShown.{Within, within, below_address, address_is, spot, busy_above, ends_or_joined, sent_beat, written_at, first_beat, cut_legal, cut_hands_on}
@@ -20,39 +20,39 @@ use Rattle.mm_links.proofs.CutLists.{IsPartOf, AreParts, IsSent, beats_of}
 use Rattle.mm_links.proofs.CutLink.{Cutting, cutter_shows_writes}
 
 -- the bursts of a read from one of them on. `most` bounds their number
-abbrev pub bursts_by : ℕ → ℕ → ℕ → Rest → List Raw
-bursts_by longest bytes zero rest = []
-bursts_by longest bytes (suc most) rest = if nat_lt 0 rest.left then read_burst_of longest rest ∷ bursts_by longest bytes most (behind_burst longest bytes rest) else []
+abbrev pub bursts_by : Reach → ℕ → ℕ → Rest → List Raw
+bursts_by reach bytes zero rest = []
+bursts_by reach bytes (suc most) rest = if nat_lt 0 rest.left then read_burst_of reach rest ∷ bursts_by reach bytes most (behind_burst reach bytes rest) else []
 
-abbrev pub bursts_left : ℕ → ℕ → Rest → List Raw
-bursts_left longest bytes rest = bursts_by longest bytes rest.left rest
+abbrev pub bursts_left : Reach → ℕ → Rest → List Raw
+bursts_left reach bytes rest = bursts_by reach bytes rest.left rest
 
-module _ (longest bytes : ℕ) (some : 0 < longest) where
+module _ (reach : Reach) (bytes : ℕ) (goes : (a : ℕ) → 0 < reach a) where
   abbrev next : Rest → Rest
-  next rest = behind_burst longest bytes rest
+  next rest = behind_burst reach bytes rest
 
-  none_by : (most : ℕ) (rest : Rest) → rest.left ≡ 0 → bursts_by longest bytes most rest ≡ []
+  none_by : (most : ℕ) (rest : Rest) → rest.left ≡ 0 → bursts_by reach bytes most rest ≡ []
   none_by zero rest e = refl
-  none_by (suc most) rest e = ap (λ n. if nat_lt 0 n then read_burst_of longest rest ∷ bursts_by longest bytes most (next rest) else []) e
+  none_by (suc most) rest e = ap (λ n. if nat_lt 0 n then read_burst_of reach rest ∷ bursts_by reach bytes most (next rest) else []) e
 
-  enough : (a b : ℕ) (rest : Rest) → rest.left ≤ a → rest.left ≤ b → bursts_by longest bytes a rest ≡ bursts_by longest bytes b rest
+  enough : (a b : ℕ) (rest : Rest) → rest.left ≤ a → rest.left ≤ b → bursts_by reach bytes a rest ≡ bursts_by reach bytes b rest
   enough zero b rest p q = sym (none_by b rest (omega (arith, p)))
   enough (suc a) zero rest p q = none_by (suc a) rest (omega (arith, q))
   enough (suc a) (suc b) rest p q =
-      let shorter_a : (next rest).left ≤ a = omega (arith, p, some) in
-      let shorter_b : (next rest).left ≤ b = omega (arith, q, some) in
-      ap (λ l. if nat_lt 0 rest.left then read_burst_of longest rest ∷ l else []) (enough a b (next rest) shorter_a shorter_b)
+      let shorter_a : (next rest).left ≤ a = (let some = goes rest.address in omega (arith, p, some)) in
+      let shorter_b : (next rest).left ≤ b = (let some = goes rest.address in omega (arith, q, some)) in
+      ap (λ l. if nat_lt 0 rest.left then read_burst_of reach rest ∷ l else []) (enough a b (next rest) shorter_a shorter_b)
 
   -- the first one, and those behind it
-  pub left_step : (rest : Rest) → 0 < rest.left → bursts_left longest bytes rest ≡ read_burst_of longest rest ∷ bursts_left longest bytes (next rest)
+  pub left_step : (rest : Rest) → 0 < rest.left → bursts_left reach bytes rest ≡ read_burst_of reach rest ∷ bursts_left reach bytes (next rest)
   left_step rest h = by_left rest.left (le_refl rest.left) h
     where
-      by_left : (n : ℕ) → rest.left ≤ n → 0 < n → bursts_by longest bytes n rest ≡ read_burst_of longest rest ∷ bursts_left longest bytes (next rest)
+      by_left : (n : ℕ) → rest.left ≤ n → 0 < n → bursts_by reach bytes n rest ≡ read_burst_of reach rest ∷ bursts_left reach bytes (next rest)
       by_left zero p q = absurd (omega (arith, q))
       by_left (suc n) p q =
-          let shorter : (next rest).left ≤ n = omega (arith, p, some) in
-          ap (λ b. if b then read_burst_of longest rest ∷ bursts_by longest bytes n (next rest) else []) (lt-ltb 0 rest.left h)
-          ∙ ap (λ l. read_burst_of longest rest ∷ l) (enough n (next rest).left (next rest) shorter (le_refl (next rest).left))
+          let shorter : (next rest).left ≤ n = (let some = goes rest.address in omega (arith, p, some)) in
+          ap (λ b. if b then read_burst_of reach rest ∷ bursts_by reach bytes n (next rest) else []) (lt-ltb 0 rest.left h)
+          ∙ ap (λ l. read_burst_of reach rest ∷ l) (enough n (next rest).left (next rest) shorter (le_refl (next rest).left))
 
 -- ---- beats of a read
 
@@ -80,7 +80,7 @@ read_acts target shape beat enables same k (suc n) h =
     ap is_nonempty (mapped (beat_operations target shape) beat (numbers k (suc n)) ∙ ap (λ (f : ℕ → ℕ). flat_map (λ j. map (operation_at target.span (beat j)) (filled_lanes shape target.shape (f j))) (numbers k (suc n))) (λ i j. same j i))
     ∙ nonempty_by (λ j. operation_at target.span (beat j)) (filled_lanes shape target.shape enables) k (numbers (suc k) n)
 
-module _ (target : Target) (longest : ℕ) (up down : Port) (state : CutterState) (plan : IsCutPlan longest up.shape down.shape) (run : RunsAsCutter longest up down state) (end : ℕ) (legal : AreLegalAt up end) where
+module _ (target : Target) (reach : Reach) (longest : ℕ) (up down : Port) (state : CutterState) (plan : IsCutPlan reach longest up.shape down.shape) (run : RunsAsCutter reach longest up down state) (end : ℕ) (legal : AreLegalAt up end) where
   abbrev fit : ShowsFitBeats up end
   fit = legal_fits up end legal
 
@@ -94,25 +94,25 @@ module _ (target : Target) (longest : ℕ) (up down : Port) (state : CutterState
   below c = burst_before down.shape down.commands.signals (takes down) c
 
   -- a read is marked alike whatever burst is under way
-  abbrev low : Raw → Marked
+  abbrev pub low : Raw → Marked
   low raw = mark down.shape idle raw
 
-  abbrev lows : Rest → List Marked
-  lows rest = map low (bursts_left longest width rest)
+  abbrev pub lows : Rest → List Marked
+  lows rest = map low (bursts_left reach width rest)
 
-  abbrev whole_at : ℕ → Rest
+  abbrev pub whole_at : ℕ → Rest
   whole_at c = whole_read up.shape (raw_at up c)
 
-  abbrev written : ℕ → Marked
-  written c = mark down.shape (below c) (written_at longest up down state plan run end fit c)
+  abbrev pub written : ℕ → Marked
+  written c = mark down.shape (below c) (written_at reach longest up down state plan run end fit c)
 
-  abbrev parts : ℕ → List Marked
+  abbrev pub parts : ℕ → List Marked
   parts c = if is_raised (up.commands.write c) then written c ∷ [] else lows (whole_at c)
 
   abbrev behind : ℕ → List Marked
-  behind c = if is_raised (up.commands.write c) then [] else lows (behind_burst longest width (whole_at c))
+  behind c = if is_raised (up.commands.write c) then [] else lows (behind_burst reach width (whole_at c))
 
-  parts_when : (c : ℕ) (w : Bool) → is_raised (up.commands.write c) ≡ w → parts c ≡ (if w then written c ∷ [] else lows (whole_at c))
+  pub parts_when : (c : ℕ) (w : Bool) → is_raised (up.commands.write c) ≡ w → parts c ≡ (if w then written c ∷ [] else lows (whole_at c))
   parts_when c w e = ap (λ w. if w then written c ∷ [] else lows (whole_at c)) e
 
   shows_above : (c : ℕ) → is_sending state c ≡ false → shows down.commands.signals c ≡ shows up.commands.signals c
@@ -122,19 +122,19 @@ module _ (target : Target) (longest : ℕ) (up down : Port) (state : CutterState
 
   -- the beats of the next burst of a read
   abbrev size_of : Rest → ℕ
-  size_of rest = (read_burst_of longest rest).levels.count
+  size_of rest = (read_burst_of reach rest).levels.count
 
   some_of : (rest : Rest) → 0 < rest.left → 0 < size_of rest
-  some_of rest some = (let size = beats_are longest rest.left some in let least = plan.least in omega (arith, size, some, least))
+  some_of rest some = (let size = beats_are (reach rest.address) rest.left some in let least = plan.goes rest.address in omega (arith, size, some, least))
 
-  step_of : (rest : Rest) → 0 < rest.left → lows rest ≡ low (read_burst_of longest rest) ∷ lows (behind_burst longest width rest)
-  step_of rest h = ap (map low) (left_step longest width plan.least rest h)
+  pub step_of : (rest : Rest) → 0 < rest.left → lows rest ≡ low (read_burst_of reach rest) ∷ lows (behind_burst reach width rest)
+  step_of rest h = ap (map low) (left_step reach width plan.goes rest h)
 
   sends_some : (c : ℕ) → is_sending state c ≡ true → 0 < (state.rest c).left
   sends_some c e = ltb-true 0 (state.rest c).left e
 
-  marked_sending : (c : ℕ) → c < end → is_sending state c ≡ true → marked_at down c ≡ low (read_burst_of longest (state.rest c))
-  marked_sending c h e = ap (mark down.shape (below c)) (sent_beat longest up down state plan run end fit c h e (run.shown c ∙ ap (λ b. if b then true else shows up.commands.signals c) e))
+  marked_sending : (c : ℕ) → c < end → is_sending state c ≡ true → marked_at down c ≡ low (read_burst_of reach (state.rest c))
+  marked_sending c h e = ap (mark down.shape (below c)) (sent_beat reach longest up down state plan run end fit c h e (run.shown c ∙ ap (λ b. if b then true else shows up.commands.signals c) e))
 
   first_shown : (c : ℕ) → c < end → is_sending state c ≡ false → shows up.commands.signals c ≡ true → parts c ≡ marked_at down c ∷ behind c
   first_shown c h e shown = by_write (is_raised (up.commands.write c)) refl
@@ -142,14 +142,14 @@ module _ (target : Target) (longest : ℕ) (up down : Port) (state : CutterState
       there : shows down.commands.signals c ≡ true
       there = shows_above c e ∙ shown
 
-      by_write : (w : Bool) → is_raised (up.commands.write c) ≡ w → (if is_raised (up.commands.write c) then written c ∷ [] else lows (whole_at c)) ≡ marked_at down c ∷ (if is_raised (up.commands.write c) then [] else lows (behind_burst longest width (whole_at c)))
+      by_write : (w : Bool) → is_raised (up.commands.write c) ≡ w → (if is_raised (up.commands.write c) then written c ∷ [] else lows (whole_at c)) ≡ marked_at down c ∷ (if is_raised (up.commands.write c) then [] else lows (behind_burst reach width (whole_at c)))
       by_write true f =
-          parts_when c true f ∙ ap (λ r. mark down.shape (below c) r ∷ []) (sym (first_beat longest up down state plan run end fit c h e there true f))
-          ∙ ap (λ w. marked_at down c ∷ (if w then [] else lows (behind_burst longest width (whole_at c)))) (sym f)
+          parts_when c true f ∙ ap (λ r. mark down.shape (below c) r ∷ []) (sym (first_beat reach longest up down state plan run end fit c h e there true f))
+          ∙ ap (λ w. marked_at down c ∷ (if w then [] else lows (behind_burst reach width (whole_at c)))) (sym f)
       by_write false f =
           parts_when c false f ∙ step_of (whole_at c) (some_read up end fit c h shown f)
-          ∙ ap (λ r. mark down.shape (below c) r ∷ lows (behind_burst longest width (whole_at c))) (sym (first_beat longest up down state plan run end fit c h e there false f))
-          ∙ ap (λ w. marked_at down c ∷ (if w then [] else lows (behind_burst longest width (whole_at c)))) (sym f)
+          ∙ ap (λ r. mark down.shape (below c) r ∷ lows (behind_burst reach width (whole_at c))) (sym (first_beat reach longest up down state plan run end fit c h e there false f))
+          ∙ ap (λ w. marked_at down c ∷ (if w then [] else lows (behind_burst reach width (whole_at c)))) (sym f)
 
   -- ---- what is left
 
@@ -157,7 +157,7 @@ module _ (target : Target) (longest : ℕ) (up down : Port) (state : CutterState
   none_left c e = by_left (state.rest c).left refl
     where
       by_left : (n : ℕ) → (state.rest c).left ≡ n → lows (state.rest c) ≡ []
-      by_left zero f = ap (map low) (none_by longest width plan.least (state.rest c).left (state.rest c) f)
+      by_left zero f = ap (map low) (none_by reach width plan.goes (state.rest c).left (state.rest c) f)
       by_left (suc n) f = absurd (both_ways (is_sending state c) e (lt-ltb 0 (state.rest c).left (omega (arith, f))))
 
   is_over : (c : ℕ) → lows (state.rest c) ≡ [] → is_sending state c ≡ false
@@ -167,28 +167,28 @@ module _ (target : Target) (longest : ℕ) (up down : Port) (state : CutterState
       by_sends false e = e
       by_sends true e = let step = step_of (state.rest c) (sends_some c e) in cc
 
-  rest_goes : (c : ℕ) → is_sending state c ≡ true → lows (state.rest (suc c)) ≡ (if takes down c then lows (behind_burst longest width (state.rest c)) else lows (state.rest c))
+  rest_goes : (c : ℕ) → is_sending state c ≡ true → lows (state.rest (suc c)) ≡ (if takes down c then lows (behind_burst reach width (state.rest c)) else lows (state.rest c))
   rest_goes c e =
-      ap lows (run.rest_next c ∙ ap (λ b. if b then (if takes down c then behind_burst longest width (state.rest c) else state.rest c) else if takes_read up c then behind_burst longest width (whole_at c) else state.rest c) e)
+      ap lows (run.rest_next c ∙ ap (λ b. if b then (if takes down c then behind_burst reach width (state.rest c) else state.rest c) else if takes_read up c then behind_burst reach width (whole_at c) else state.rest c) e)
       ∙ by_take (takes down c)
     where
-      by_take : (d : Bool) → lows (if d then behind_burst longest width (state.rest c) else state.rest c) ≡ (if d then lows (behind_burst longest width (state.rest c)) else lows (state.rest c))
+      by_take : (d : Bool) → lows (if d then behind_burst reach width (state.rest c) else state.rest c) ≡ (if d then lows (behind_burst reach width (state.rest c)) else lows (state.rest c))
       by_take true = refl
       by_take false = refl
 
   rest_begins : (c : ℕ) → is_sending state c ≡ false → lows (state.rest (suc c)) ≡ (if takes up c then behind c else [])
   rest_begins c e =
-      ap lows (run.rest_next c ∙ ap (λ b. if b then (if takes down c then behind_burst longest width (state.rest c) else state.rest c) else if takes_read up c then behind_burst longest width (whole_at c) else state.rest c) e)
+      ap lows (run.rest_next c ∙ ap (λ b. if b then (if takes down c then behind_burst reach width (state.rest c) else state.rest c) else if takes_read up c then behind_burst reach width (whole_at c) else state.rest c) e)
       ∙ by_take (takes up c) (is_raised (up.commands.write c))
     where
-      by_take : (t w : Bool) → lows (if t && not w then behind_burst longest width (whole_at c) else state.rest c) ≡ (if t then (if w then [] else lows (behind_burst longest width (whole_at c))) else [])
+      by_take : (t w : Bool) → lows (if t && not w then behind_burst reach width (whole_at c) else state.rest c) ≡ (if t then (if w then [] else lows (behind_burst reach width (whole_at c))) else [])
       by_take true true = none_left c e
       by_take true false = refl
       by_take false w = none_left c e
 
   -- ---- each transfer, as its parts
 
-  transfer_when : (c : ℕ) (w : Bool) → is_raised (up.commands.write c) ≡ w → (marked_at up c).transfer ≡ (if w then write_transfer up.shape (levels_at up.commands.signals c) (above c) else read_transfer up.shape (levels_at up.commands.signals c))
+  pub transfer_when : (c : ℕ) (w : Bool) → is_raised (up.commands.write c) ≡ w → (marked_at up c).transfer ≡ (if w then write_transfer up.shape (levels_at up.commands.signals c) (above c) else read_transfer up.shape (levels_at up.commands.signals c))
   transfer_when c w e = ap (λ b. if b then write_transfer up.shape (levels_at up.commands.signals c) (above c) else read_transfer up.shape (levels_at up.commands.signals c)) e
 
   abbrev marked_as : ℕ → Transfer → Marked
@@ -203,7 +203,7 @@ module _ (target : Target) (longest : ℕ) (up down : Port) (state : CutterState
       ap₂ (λ b l. b ∷ l) one (same_beats c address enables k (suc j) n is levels at lanes ∙ ap (λ m. map (read_beat up.shape (levels_at up.commands.signals c)) (numbers m n)) next)
     where
       place : byte_address down.shape address ≡ address
-      place = below_address longest up down state plan run end fit address (ap (λ n. n % width) is ∙ add-mul-mod_self_right (byte_address up.shape (up.commands.address c)) k width ∙ aligned (up.commands.address c * up.shape.unit_bytes) width)
+      place = below_address reach longest up down state plan run end fit address (ap (λ n. n % width) is ∙ add-mul-mod_self_right (byte_address up.shape (up.commands.address c)) k width ∙ aligned (up.commands.address c * up.shape.unit_bytes) width)
 
       one : read_beat down.shape levels j ≡ read_beat up.shape (levels_at up.commands.signals c) (k + j)
       one =
@@ -218,17 +218,17 @@ module _ (target : Target) (longest : ℕ) (up down : Port) (state : CutterState
     abbrev beat_above : ℕ → Beat
     beat_above k = read_beat up.shape (levels_at up.commands.signals c) k
 
-    part_at : 0 < up.commands.count c → (rest : Rest) (k : ℕ) → rest.command ≡ raw_at up c → rest.address ≡ byte_address up.shape (up.commands.address c) + k * width → 0 < rest.left → IsPartOf target up.shape read_mark (low (read_burst_of longest rest))
+    part_at : 0 < up.commands.count c → (rest : Rest) (k : ℕ) → rest.command ≡ raw_at up c → rest.address ≡ byte_address up.shape (up.commands.address c) + k * width → 0 < rest.left → IsPartOf target up.shape read_mark (low (read_burst_of reach rest))
     part_at counts rest k command is some = record {
       tag = ap (λ (r : Raw). r.tag) command;
       kind = refl;
       some =
-          let size = length-map (numbers 0 (size_of rest)) (read_beat down.shape (read_burst_of longest rest).levels) in
+          let size = length-map (numbers 0 (size_of rest)) (read_beat down.shape (read_burst_of reach rest).levels) in
           let many = length_numbers 0 (size_of rest) in
           let least = some_of rest some in
           omega (arith, size, many, least);
       closes_so = refl;
-      acts = read_acts target up.shape (read_beat down.shape (read_burst_of longest rest).levels) (up.commands.enables c) (λ j. ap (λ (r : Raw). r.levels.enables) command) 0 (size_of rest) (some_of rest some)
+      acts = read_acts target up.shape (read_beat down.shape (read_burst_of reach rest).levels) (up.commands.enables c) (λ j. ap (λ (r : Raw). r.levels.enables) command) 0 (size_of rest) (some_of rest some)
           ∙ sym (read_acts target up.shape beat_above (up.commands.enables c) (λ j. refl) 0 (up.commands.count c) counts);
     }
       where
@@ -243,45 +243,45 @@ module _ (target : Target) (longest : ℕ) (up down : Port) (state : CutterState
 
     bursts_go : 0 < up.commands.count c → (most : ℕ) (rest : Rest) (k : ℕ) → rest.command ≡ raw_at up c → rest.address ≡ byte_address up.shape (up.commands.address c) + k * width → rest.left ≤ most → 0 < rest.left → Goes k rest (lows rest)
     bursts_go counts zero rest k command is low_most some = absurd (omega (arith, low_most, some))
-    bursts_go counts (suc most) rest k command is low_most some = by_last (bursts_go counts most (behind_burst longest width rest) (k + longest) command) (nat_lt 0 (behind_burst longest width rest).left) refl
+    bursts_go counts (suc most) rest k command is low_most some = by_last (bursts_go counts most (behind_burst reach width rest) (k + (reach rest.address)) command) (nat_lt 0 (behind_burst reach width rest).left) refl
       where
-        part : IsPartOf target up.shape read_mark (low (read_burst_of longest rest))
+        part : IsPartOf target up.shape read_mark (low (read_burst_of reach rest))
         part = part_at counts rest k command is some
 
-        list : lows rest ≡ low (read_burst_of longest rest) ∷ lows (behind_burst longest width rest)
+        list : lows rest ≡ low (read_burst_of reach rest) ∷ lows (behind_burst reach width rest)
         list = step_of rest some
 
-        here : (low (read_burst_of longest rest)).transfer.beats ≡ map beat_above (numbers k (min longest rest.left))
+        here : (low (read_burst_of reach rest)).transfer.beats ≡ map beat_above (numbers k (min (reach rest.address) rest.left))
         here =
             let start : k + 0 ≡ k = omega arith in
-            same_beats c rest.address 0 k 0 (size_of rest) is (read_burst_of longest rest).levels refl (ap (λ (r : Raw). r.levels.enables) command)
-            ∙ ap₂ (λ n m. map beat_above (numbers n m)) start (beats_are longest rest.left some)
+            same_beats c rest.address 0 k 0 (size_of rest) is (read_burst_of reach rest).levels refl (ap (λ (r : Raw). r.levels.enables) command)
+            ∙ ap₂ (λ n m. map beat_above (numbers n m)) start (beats_are (reach rest.address) rest.left some)
 
-        by_last : (rest.address + longest * width ≡ byte_address up.shape (up.commands.address c) + (k + longest) * width → rest.left - longest ≤ most → 0 < rest.left - longest →
-            Goes (k + longest) (behind_burst longest width rest) (lows (behind_burst longest width rest))) → (b : Bool) → nat_lt 0 (behind_burst longest width rest).left ≡ b → Goes k rest (lows rest)
+        by_last : (rest.address + (reach rest.address) * width ≡ byte_address up.shape (up.commands.address c) + (k + (reach rest.address)) * width → rest.left - (reach rest.address) ≤ most → 0 < rest.left - (reach rest.address) →
+            Goes (k + (reach rest.address)) (behind_burst reach width rest) (lows (behind_burst reach width rest))) → (b : Bool) → nat_lt 0 (behind_burst reach width rest).left ≡ b → Goes k rest (lows rest)
         by_last go false e =
-            let none : (behind_burst longest width rest).left ≡ 0 = (let most = ltb-false 0 (behind_burst longest width rest).left e in omega (arith, most)) in
-            let all : lows rest ≡ low (read_burst_of longest rest) ∷ [] = list ∙ ap (λ l. low (read_burst_of longest rest) ∷ map low l) (none_by longest width plan.least (behind_burst longest width rest).left (behind_burst longest width rest) none) in
-            let size : min longest rest.left ≡ rest.left = omega (arith, none) in
-            let last : nat_lt longest rest.left ≡ false = le-ltb longest rest.left (omega (arith, none)) in
+            let none : (behind_burst reach width rest).left ≡ 0 = (let most = ltb-false 0 (behind_burst reach width rest).left e in omega (arith, most)) in
+            let all : lows rest ≡ low (read_burst_of reach rest) ∷ [] = list ∙ ap (λ l. low (read_burst_of reach rest) ∷ map low l) (none_by reach width plan.goes (behind_burst reach width rest).left (behind_burst reach width rest) none) in
+            let size : min (reach rest.address) rest.left ≡ rest.left = omega (arith, none) in
+            let last : nat_lt (reach rest.address) rest.left ≡ false = le-ltb (reach rest.address) rest.left (omega (arith, none)) in
             subst (Goes k rest) (sym all) (record {
               are = (part, ap (λ b. is_raised (if b then 1 else rest.command.more)) last ∙ ap (λ (r : Raw). is_raised r.more) command);
               beats = append-nil _ ∙ here ∙ ap (λ n. map beat_above (numbers k n)) size;
             })
         by_last go true e =
-            let more = ltb-true 0 (behind_burst longest width rest).left e in
-            let least = plan.least in
-            let longer : longest < rest.left = omega (arith, more) in
-            let size : min longest rest.left ≡ longest = omega (arith, longer) in
-            let sum = add-mul k longest width in
+            let more = ltb-true 0 (behind_burst reach width rest).left e in
+            let least = plan.goes rest.address in
+            let longer : reach rest.address < rest.left = omega (arith, more) in
+            let size : min (reach rest.address) rest.left ≡ (reach rest.address) = omega (arith, longer) in
+            let sum = add-mul k (reach rest.address) width in
             let later = go (omega (arith, is, sum)) (omega (arith, low_most, least)) more in
-            let next = step_of (behind_burst longest width rest) more in
-            let whole : longest + (rest.left - longest) ≡ rest.left = omega (arith, longer) in
+            let next = step_of (behind_burst reach width rest) more in
+            let whole : (reach rest.address) + (rest.left - (reach rest.address)) ≡ rest.left = omega (arith, longer) in
             subst (Goes k rest) (sym list) (record {
-              are = subst (λ l. AreParts target up.shape read_mark (low (read_burst_of longest rest) ∷ l)) (sym next)
-                  (part, ap (λ b. is_raised (if b then 1 else rest.command.more)) (lt-ltb longest rest.left longer), subst (AreParts target up.shape read_mark) next later.are);
+              are = subst (λ l. AreParts target up.shape read_mark (low (read_burst_of reach rest) ∷ l)) (sym next)
+                  (part, ap (λ b. is_raised (if b then 1 else rest.command.more)) (lt-ltb (reach rest.address) rest.left longer), subst (AreParts target up.shape read_mark) next later.are);
               beats = ap₂ (λ x y. x ++ y) (here ∙ ap (λ n. map beat_above (numbers k n)) size) later.beats
-                  ∙ sym (map-append beat_above (numbers k longest) (numbers (k + longest) (rest.left - longest))) ∙ ap (map beat_above) (sym (numbers_split k longest (rest.left - longest)) ∙ ap (numbers k) whole);
+                  ∙ sym (map-append beat_above (numbers k (reach rest.address)) (numbers (k + (reach rest.address)) (rest.left - (reach rest.address)))) ∙ ap (map beat_above) (sym (numbers_split k (reach rest.address) (rest.left - (reach rest.address))) ∙ ap (numbers k) whole);
             })
 
     -- a write beat is the same below
@@ -289,11 +289,11 @@ module _ (target : Target) (longest : ℕ) (up down : Port) (state : CutterState
     written_beats =
         ap (λ a. beat_by Writes a (up.commands.word c) (up.commands.enables c) ∷ []) (by_begins (nat_eq (below c).left 0) refl)
       where
-        now : Within longest up down state plan run end fit c
-        now = within longest up down state plan run end fit c (omega (arith, h))
+        now : Within reach longest up down state plan run end fit c
+        now = within reach longest up down state plan run end fit c (omega (arith, h))
 
         -- at the place of the burst above
-        upper : (z : Bool) → nat_eq (above c).left 0 ≡ z → (if z then byte_address up.shape (up.commands.address c) else spot longest up down state plan run end fit (above c))
+        upper : (z : Bool) → nat_eq (above c).left 0 ≡ z → (if z then byte_address up.shape (up.commands.address c) else spot reach longest up down state plan run end fit (above c))
             ≡ (if nat_eq (above c).left 0 then byte_address up.shape (up.commands.address c) else (above c).first) + (if nat_eq (above c).left 0 then 0 else (above c).done) * width
         upper true e =
             let none = zero-mul width in
@@ -306,14 +306,14 @@ module _ (target : Target) (longest : ℕ) (up down : Port) (state : CutterState
             ≡ (if nat_eq (above c).left 0 then byte_address up.shape (up.commands.address c) else (above c).first) + (if nat_eq (above c).left 0 then 0 else (above c).done) * width
         by_begins true e =
             let none = zero-mul down.shape.word_bytes in
-            let address = address_is longest up down state plan run end fit c in
+            let address = address_is reach longest up down state plan run end fit c in
             ap (λ z. (if z then byte_address down.shape (if nat_eq (above c).left 0 then byte_address up.shape (up.commands.address c) else (above c).first + (above c).done * width) else (below c).first) + (if z then 0 else (below c).done) * down.shape.word_bytes) e
             ∙ (omega (arith, none, address)) ∙ upper (nat_eq (above c).left 0) refl
         by_begins false e =
             ap (λ z. (if z then byte_address down.shape (if nat_eq (above c).left 0 then byte_address up.shape (up.commands.address c) else (above c).first + (above c).done * width) else (below c).first) + (if z then 0 else (below c).done) * down.shape.word_bytes) e
-            ∙ ap (λ n. (below c).first + (below c).done * n) plan.same ∙ now.place e ∙ upper false (busy_above longest up down state plan run end fit c now e)
+            ∙ ap (λ n. (below c).first + (below c).done * n) plan.same ∙ now.place e ∙ upper false (busy_above reach longest up down state plan run end fit c now e)
 
-    sent_at : IsSent target up.shape (record { above = marked_at up c; parts = parts c })
+    pub sent_at : IsSent target up.shape (record { above = marked_at up c; parts = parts c })
     sent_at = record {
       parts = by_write (is_raised (up.commands.write c)) refl;
       beats = beats_by (is_raised (up.commands.write c)) refl;
@@ -346,7 +346,7 @@ module _ (target : Target) (longest : ℕ) (up down : Port) (state : CutterState
             ))
           where
             closed : closes (written c) ≡ not (is_raised (up.commands.more c))
-            closed = ends_so (written c).transfer.ends (is_raised (up.commands.more c)) (ends_or_joined longest up down state plan run end fit c h shown e)
+            closed = ends_so (written c).transfer.ends (is_raised (up.commands.more c)) (ends_or_joined reach longest up down state plan run end fit c h shown e)
         by_write false e =
             subst (AreParts target up.shape (marked_at up c)) (sym (parts_when c false e))
             (subst (λ (t : Transfer). AreParts target up.shape (marked_as c t) (lows (whole_at c))) (sym (transfer_when c false e)) (go e).are)
@@ -362,7 +362,7 @@ module _ (target : Target) (longest : ℕ) (up down : Port) (state : CutterState
       subst (λ (m : Marked). (is_of_reads m.transfer.kind ≡ true) × (0 < length m.transfer.beats)) (sym (marked_sending c h e))
       (refl, some_beats (size_of (state.rest c)) (some_of (state.rest c) (sends_some c e)))
     where
-      some_beats : (n : ℕ) → 0 < n → 0 < length (map (read_beat down.shape (read_burst_of longest (state.rest c)).levels) (numbers 0 n))
+      some_beats : (n : ℕ) → 0 < n → 0 < length (map (read_beat down.shape (read_burst_of reach (state.rest c)).levels) (numbers 0 n))
       some_beats zero k = absurd (omega (arith, k))
       some_beats (suc n) k = omega arith
 
@@ -372,8 +372,8 @@ module _ (target : Target) (longest : ℕ) (up down : Port) (state : CutterState
       there : shows down.commands.signals c ≡ true
       there = shows_above c e ∙ shown
 
-      shown_as : (w : Bool) → is_raised (up.commands.write c) ≡ w → marked_at down c ≡ mark down.shape (below c) (if w then written_at longest up down state plan run end fit c else read_burst_of longest (whole_at c))
-      shown_as w f = ap (mark down.shape (below c)) (first_beat longest up down state plan run end fit c h e there w f)
+      shown_as : (w : Bool) → is_raised (up.commands.write c) ≡ w → marked_at down c ≡ mark down.shape (below c) (if w then written_at reach longest up down state plan run end fit c else read_burst_of reach (whole_at c))
+      shown_as w f = ap (mark down.shape (below c)) (first_beat reach longest up down state plan run end fit c h e there w f)
 
       by_write : (w : Bool) → is_raised (up.commands.write c) ≡ w → (marked_at down c).transfer.begins ≡ true
       by_write false f = ap (λ (m : Marked). m.transfer.begins) (shown_as false f)
@@ -384,26 +384,26 @@ module _ (target : Target) (longest : ℕ) (up down : Port) (state : CutterState
 
           free : (b : Bool) → nat_eq (below c).left 0 ≡ b → nat_eq (below c).left 0 ≡ true
           free true g = g
-          free false g = absurd (both_ways (nat_eq (above c).left 0) (busy_above longest up down state plan run end fit c (within longest up down state plan run end fit c (omega (arith, h))) g) free_above)
+          free false g = absurd (both_ways (nat_eq (above c).left 0) (busy_above reach longest up down state plan run end fit c (within reach longest up down state plan run end fit c (omega (arith, h))) g) free_above)
 
   pub cutting : Cutting target up down end
   cutting = record {
     legal = legal;
-    legal_below = cut_legal longest up down state plan run end fit legal;
-    hands_on = cut_hands_on longest up down state plan run end fit;
+    legal_below = cut_legal reach longest up down state plan run end fit legal;
+    hands_on = cut_hands_on reach longest up down state plan run end fit;
     some = plan.some;
     same = plan.same;
     sends = is_sending state;
     left = λ c. lows (state.rest c);
     parts = parts;
-    later = λ c. lows (behind_burst longest width (state.rest c));
+    later = λ c. lows (behind_burst reach width (state.rest c));
     behind = behind;
     shown = run.shown;
     accepts = run.accepts;
     begins = none_left 0 (ap (nat_lt 0) run.rest_begins);
     none = none_left;
     over = is_over;
-    sending = λ c h e. step_of (state.rest c) (sends_some c e) ∙ ap (λ m. m ∷ lows (behind_burst longest width (state.rest c))) (sym (marked_sending c h e));
+    sending = λ c h e. step_of (state.rest c) (sends_some c e) ∙ ap (λ m. m ∷ lows (behind_burst reach width (state.rest c))) (sym (marked_sending c h e));
     goes = rest_goes;
     first = first_shown;
     accepted = rest_begins;
@@ -415,7 +415,13 @@ module _ (target : Target) (longest : ℕ) (up down : Port) (state : CutterState
     code = run.code;
   }
 
--- while it sends no read by itself, a write beat that ends its command is shown below
-pub cut_shows_writes : (target : Target) (longest : ℕ) (up down : Port) (state : CutterState) → IsCutPlan longest up.shape down.shape → RunsAsCutter longest up down state → (end : ℕ) → AreLegalAt up end → (c : ℕ) → c < end → is_sending state c ≡ false → ShowsWrite up down c
+-- its parts
+pub parts_same : (target : Target) (reach : Reach) (longest : ℕ) (up down : Port) (state : CutterState) (plan : IsCutPlan reach longest up.shape down.shape) (run : RunsAsCutter reach longest up down state) (end : ℕ) (legal : AreLegalAt up end) →
+    (c : ℕ) → (cutting target reach longest up down state plan run end legal).parts c ≡ parts target reach longest up down state plan run end legal c
 unfolding cutting
-cut_shows_writes target longest up down state plan run end legal = cutter_shows_writes target up down end (cutting target longest up down state plan run end legal)
+parts_same target reach longest up down state plan run end legal c = refl
+
+-- while it sends no read by itself, a write beat that ends its command is shown below
+pub cut_shows_writes : (target : Target) (reach : Reach) (longest : ℕ) (up down : Port) (state : CutterState) → IsCutPlan reach longest up.shape down.shape → RunsAsCutter reach longest up down state → (end : ℕ) → AreLegalAt up end → (c : ℕ) → c < end → is_sending state c ≡ false → ShowsWrite up down c
+unfolding cutting
+cut_shows_writes target reach longest up down state plan run end legal = cutter_shows_writes target up down end (cutting target reach longest up down state plan run end legal)

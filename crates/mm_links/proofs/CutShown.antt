@@ -10,7 +10,7 @@ use Rattle.mm_machines.specs.Link.{Port, AreLegalAt, takes}
 use Rattle.mm_machines.specs.Lines.{HandsOn}
 use Rattle.mm_machines.specs.Machines.{Raw, raw_at, IsFitBeat, ShowsFitBeats}
 use Rattle.mm_machines.specs.SideLaws.{legal_when_shown}
-use Rattle.mm_links.specs.Cutters.{CutterState, Rest, RunsAsCutter, IsCutPlan, is_sending, beats_of, read_burst_of, behind_burst, whole_read, write_of_burst, first_burst}
+use Rattle.mm_links.specs.Cutters.{Reach, CutterState, Rest, RunsAsCutter, IsCutPlan, is_sending, beats_of, read_burst_of, behind_burst, whole_read, write_of_burst, first_burst}
 use Rattle.mm_links.specs.Driven.{place_in}
 use Rattle.mm_links.specs.Selects.{takes_read}
 use Rattle.mm_links.proofs.HandOn.{IsShownFor, hands_on_shown}
@@ -24,7 +24,7 @@ cut_least longest n least some = (let size = beats_are longest n some in omega (
 cut_most : (longest n bound : ℕ) → longest ≤ bound → 0 < n → beats_of longest n ≤ bound
 cut_most longest n bound most some = (let size = beats_are longest n some in omega (arith, most, size))
 
-module _ (longest : ℕ) (up down : Port) (state : CutterState) (plan : IsCutPlan longest up.shape down.shape) (run : RunsAsCutter longest up down state) (end : ℕ) (fit : ShowsFitBeats up end) where
+module _ (reach : Reach) (longest : ℕ) (up down : Port) (state : CutterState) (plan : IsCutPlan reach longest up.shape down.shape) (run : RunsAsCutter reach longest up down state) (end : ℕ) (fit : ShowsFitBeats up end) where
   abbrev above : ℕ → Burst
   above c = burst_before up.shape up.commands.signals (takes up) c
 
@@ -34,19 +34,19 @@ module _ (longest : ℕ) (up down : Port) (state : CutterState) (plan : IsCutPla
   pub shows_first : (c : ℕ) → is_sending state c ≡ false → shows down.commands.signals c ≡ shows up.commands.signals c
   shows_first c e = run.shown c ∙ ap (λ b. if b then true else shows up.commands.signals c) e
 
-  pub sent_beat : (c : ℕ) → c < end → is_sending state c ≡ true → shows down.commands.signals c ≡ true → raw_at down c ≡ read_burst_of longest (state.rest c)
-  sent_beat c h e shown = run.beat c shown ∙ ap (λ b. if b then read_burst_of longest (state.rest c) else first_burst longest up.shape (state.place c) (raw_at up c)) e
+  pub sent_beat : (c : ℕ) → c < end → is_sending state c ≡ true → shows down.commands.signals c ≡ true → raw_at down c ≡ read_burst_of reach (state.rest c)
+  sent_beat c h e shown = run.beat c shown ∙ ap (λ b. if b then read_burst_of reach (state.rest c) else first_burst reach longest up.shape (state.place c) (raw_at up c)) e
 
   -- a write beat at the place of the burst above
   abbrev pub written_at : ℕ → Raw
   written_at c = write_of_burst longest up.shape (place_in up.shape.word_bytes (above c)) (raw_at up c)
 
   pub first_beat : (c : ℕ) → c < end → is_sending state c ≡ false → shows down.commands.signals c ≡ true → (w : Bool) → is_raised (up.commands.write c) ≡ w →
-      raw_at down c ≡ (if w then written_at c else read_burst_of longest (whole_read up.shape (raw_at up c)))
+      raw_at down c ≡ (if w then written_at c else read_burst_of reach (whole_read up.shape (raw_at up c)))
   first_beat c h e shown w f =
       run.beat c shown
-      ∙ ap₂ (λ b w. if b then read_burst_of longest (state.rest c) else if w then write_of_burst longest up.shape (state.place c) (raw_at up c) else read_burst_of longest (whole_read up.shape (raw_at up c))) e f
-      ∙ ap (λ r. if w then r else read_burst_of longest (whole_read up.shape (raw_at up c))) (placed longest up.shape (raw_at up c) (above c) (state.place c) (run.place c (fits_before up end fit c (omega (arith, h)))))
+      ∙ ap₂ (λ b w. if b then read_burst_of reach (state.rest c) else if w then write_of_burst longest up.shape (state.place c) (raw_at up c) else read_burst_of reach (whole_read up.shape (raw_at up c))) e f
+      ∙ ap (λ r. if w then r else read_burst_of reach (whole_read up.shape (raw_at up c))) (placed longest up.shape (raw_at up c) (above c) (state.place c) (run.place c (fits_before up end fit c (omega (arith, h)))))
 
   pub takes_first : (c : ℕ) → is_sending state c ≡ false → takes up c ≡ takes down c
   takes_first c e = run.accepts c ∙ ap (λ b. not b && takes down c) e
@@ -143,8 +143,8 @@ module _ (longest : ℕ) (up down : Port) (state : CutterState) (plan : IsCutPla
 
   rest_still : (c : ℕ) → is_sending state c ≡ false → takes_read up c ≡ false → is_sending state (suc c) ≡ false
   rest_still c e f =
-      ap (λ (r : Rest). nat_lt 0 r.left) (run.rest_next c ∙ ap₂ (λ b t. if b then (if takes down c then behind_burst longest up.shape.word_bytes (state.rest c) else state.rest c)
-      else if t then behind_burst longest up.shape.word_bytes (whole_read up.shape (raw_at up c)) else state.rest c) e f) ∙ e
+      ap (λ (r : Rest). nat_lt 0 r.left) (run.rest_next c ∙ ap₂ (λ b t. if b then (if takes down c then behind_burst reach up.shape.word_bytes (state.rest c) else state.rest c)
+      else if t then behind_burst reach up.shape.word_bytes (whole_read up.shape (raw_at up c)) else state.rest c) e f) ∙ e
 
   pub within : (c : ℕ) → c ≤ end → Within c
   within zero h = record { left = omega arith; place = λ e. refl; free = λ e. refl }
@@ -265,11 +265,11 @@ module _ (longest : ℕ) (up down : Port) (state : CutterState) (plan : IsCutPla
   no_busy : (c : ℕ) → Within c → (above c).left ≡ 0 → IsTrue (nat_lt 0 (below c).left) → ⊥
   no_busy c now none busy = let some = ltb-true 0 (below c).left busy in let left = now.left in omega (arith, some, left, none)
 
-  fit_read : (c : ℕ) → (rest : Rest) → 0 < rest.left → Within c → (above c).left ≡ 0 → IsFitBeat down.shape (below c) (read_burst_of longest rest)
+  fit_read : (c : ℕ) → (rest : Rest) → 0 < rest.left → Within c → (above c).left ≡ 0 → IsFitBeat down.shape (below c) (read_burst_of reach rest)
   fit_read c rest some now none = record {
     one_kind = refl;
-    least = λ free. cut_least longest rest.left plan.least some;
-    most = λ free. cut_most longest rest.left (longest_burst down.shape.burst_bits) plan.most some;
+    least = λ free. cut_least (reach rest.address) rest.left (plan.goes rest.address) some;
+    most = λ free. cut_most (reach rest.address) rest.left (longest_burst down.shape.burst_bits) (plan.allowed rest.address) some;
     finished = λ busy. absurd (no_busy c now none busy);
     joined = refl;
   }
@@ -303,14 +303,14 @@ module _ (longest : ℕ) (up down : Port) (state : CutterState) (plan : IsCutPla
 
   -- ---- each burst below stems from a beat above
 
-  record IsOf (c k : ℕ) : Type 0 where
+  pub record IsOf (c k : ℕ) : Type 0 where
     pub before : k < c
     pub command : (state.rest c).command ≡ raw_at up k
     pub shown : shows up.commands.signals k ≡ true
     pub read : is_raised (up.commands.write k) ≡ false
 
   -- the read that is sent was accepted before
-  sent_for : (c : ℕ) → is_sending state c ≡ true → (k : ℕ) × IsOf c k
+  pub sent_for : (c : ℕ) → is_sending state c ≡ true → (k : ℕ) × IsOf c k
   sent_for zero on = let none = run.rest_begins in let some = ltb-true 0 (state.rest 0).left on in absurd (omega (arith, none, some))
   sent_for (suc c) on = by_sends (is_sending state c) refl (sent_for c)
     where
@@ -319,10 +319,10 @@ module _ (longest : ℕ) (up down : Port) (state : CutterState) (plan : IsCutPla
 
       next_with : (b t : Bool) → is_sending state c ≡ b → takes_read up c ≡ t → (state.rest (suc c)).command ≡ (if b then (state.rest c).command else if t then raw_at up c else (state.rest c).command)
       next_with b t e f =
-          ap command_of (run.rest_next c ∙ ap₂ (λ b t. if b then (if takes down c then behind_burst longest up.shape.word_bytes (state.rest c) else state.rest c)
-          else if t then behind_burst longest up.shape.word_bytes (whole_read up.shape (raw_at up c)) else state.rest c) e f) ∙ by_case b t (takes down c)
+          ap command_of (run.rest_next c ∙ ap₂ (λ b t. if b then (if takes down c then behind_burst reach up.shape.word_bytes (state.rest c) else state.rest c)
+          else if t then behind_burst reach up.shape.word_bytes (whole_read up.shape (raw_at up c)) else state.rest c) e f) ∙ by_case b t (takes down c)
         where
-          by_case : (b t d : Bool) → command_of (if b then (if d then behind_burst longest up.shape.word_bytes (state.rest c) else state.rest c) else if t then behind_burst longest up.shape.word_bytes (whole_read up.shape (raw_at up c)) else state.rest c)
+          by_case : (b t d : Bool) → command_of (if b then (if d then behind_burst reach up.shape.word_bytes (state.rest c) else state.rest c) else if t then behind_burst reach up.shape.word_bytes (whole_read up.shape (raw_at up c)) else state.rest c)
               ≡ (if b then (state.rest c).command else if t then raw_at up c else (state.rest c).command)
           by_case true t true = refl
           by_case true t false = refl
@@ -409,8 +409,8 @@ module _ (longest : ℕ) (up down : Port) (state : CutterState) (plan : IsCutPla
 
         rest_same : (b : Bool) → is_sending state c ≡ b → (takes_read up c ≡ false) → state.rest (suc c) ≡ state.rest c
         rest_same b e t =
-            run.rest_next c ∙ ap₂ (λ d t. if is_sending state c then (if d then behind_burst longest up.shape.word_bytes (state.rest c) else state.rest c)
-            else if t then behind_burst longest up.shape.word_bytes (whole_read up.shape (raw_at up c)) else state.rest c) not_taken t ∙ by_case (is_sending state c)
+            run.rest_next c ∙ ap₂ (λ d t. if is_sending state c then (if d then behind_burst reach up.shape.word_bytes (state.rest c) else state.rest c)
+            else if t then behind_burst reach up.shape.word_bytes (whole_read up.shape (raw_at up c)) else state.rest c) not_taken t ∙ by_case (is_sending state c)
           where
             by_case : (x : Bool) → (if x then state.rest c else state.rest c) ≡ state.rest c
             by_case true = refl
@@ -420,7 +420,7 @@ module _ (longest : ℕ) (up down : Port) (state : CutterState) (plan : IsCutPla
         by_sends true e =
             let rest = rest_same true e (ap (λ t. t && not (is_raised (up.commands.write c))) (waits_sending c e)) in
             let next : is_sending state (suc c) ≡ true = ap (λ (r : Rest). nat_lt 0 r.left) rest ∙ e in
-            sent_beat c (omega (arith, h)) e parts.0 ∙ ap (read_burst_of longest) (sym rest) ∙ sym (sent_beat (suc c) h next (run.shown (suc c) ∙ ap (λ b. if b then true else shows up.commands.signals (suc c)) next))
+            sent_beat c (omega (arith, h)) e parts.0 ∙ ap (read_burst_of reach) (sym rest) ∙ sym (sent_beat (suc c) h next (run.shown (suc c) ∙ ap (λ b. if b then true else shows up.commands.signals (suc c)) next))
         by_sends false e =
             let above_shown = sym (shows_first c e) ∙ parts.0 in
             let not_up = takes_first c e ∙ not_taken in
@@ -431,7 +431,7 @@ module _ (longest : ℕ) (up down : Port) (state : CutterState) (plan : IsCutPla
             let next = rest_still c e (ap (λ t. t && not (is_raised (up.commands.write c))) not_up) in
             let burst : above (suc c) ≡ above c = ap (λ t. burst_after up.shape (levels_at up.commands.signals c) t (above c)) not_up in
             let later : shows down.commands.signals (suc c) ≡ true = shows_first (suc c) next ∙ ap (λ (l : Levels). is_raised l.read || is_raised l.write) (sym levels) ∙ above_shown in
-            first_beat c (omega (arith, h)) e parts.0 (is_raised (up.commands.write c)) refl ∙ ap₂ (λ b r. first_burst longest up.shape (place_in up.shape.word_bytes b) r) (sym burst) same ∙ sym (first_beat (suc c) h next later (is_raised (up.commands.write (suc c))) refl)
+            first_beat c (omega (arith, h)) e parts.0 (is_raised (up.commands.write c)) refl ∙ ap₂ (λ b r. first_burst reach longest up.shape (place_in up.shape.word_bytes b) r) (sym burst) same ∙ sym (first_beat (suc c) h next later (is_raised (up.commands.write (suc c))) refl)
 
     pub cut_legal : AreLegalAt down end
     cut_legal = legal_when_shown down.shape down.commands down.answers end fit_below held_on

@@ -5,12 +5,14 @@ use Rattle.histories.specs.History.{is_raised, one_if, only_if}
 use Rattle.mm_runs.specs.Operations.{Beat}
 use Rattle.mm_runs.specs.Views.{levels_at}
 use Rattle.mm_runs.specs.Commands.{Burst, shows, is_of_reads, burst_before, burst_after}
-use Rattle.mm_machines.specs.Link.{takes}
+use Rattle.mm_machines.specs.Link.{takes, is_nonempty}
 use Rattle.mm_machines.specs.Machines.{Raw, ShowsHead, IsStageRun, single, joined}
 use Rattle.mm_links.specs.Pipes.{RunsAsPipe, side_of}
 use Rattle.mm_links.specs.Selects.{RunsAsSelect}
 use Rattle.mm_links.specs.Splits.{RunsAsSplit}
 use Rattle.mm_links.specs.Cutters.{RunsAsCutter, read_burst_of, first_burst, write_of_burst, whole_read}
+use Rattle.mm_links.specs.Gathers.{RunsAsGather}
+use Rattle.mm_links.specs.DrivenGather.{GatherInputs, gather_above, gather_below, gather_state, gather_registers, gather_shuts, gather_held}
 use Rattle.mm_links.specs.Driven.{CutInputs, CutRegisters, place_in, cut_raw, cut_sends, cut_beat, cut_shows, cut_part, cut_takes, cut_registers, cut_state, cut_above, cut_below}
 use Rattle.mm_links.specs.Driven.{SelectInputs, PipeInputs, select_above, select_below, select_queue, shuts, pipe_run, pipe_queues, raw_there, waits_there, takes_there, shows_raw, head_of, late_by, SplitInputs, split_registers, split_above, split_below, split_state, split_list, split_shows, split_part, split_opens, split_completes, part_at, silent_raw}
 use Rattle.mm_links.specs.Drops.{RunsAsDrop, sends, sent_beat}
@@ -180,11 +182,11 @@ module _ (given : CutInputs) where
   part_shown : (now : CutRegisters) (c : ℕ) → shows_raw (cut_part given now c) ≡ cut_shows given now c
   part_shown now c = by_shown (cut_shows given now c)
     where
-      by_write : (w : Bool) → shows_raw (if w then write_of_burst given.longest given.shape (place_in given.shape.word_bytes now.burst) (cut_raw given c) else read_burst_of given.longest (whole_read given.shape (cut_raw given c))) ≡ true
+      by_write : (w : Bool) → shows_raw (if w then write_of_burst given.longest given.shape (place_in given.shape.word_bytes now.burst) (cut_raw given c) else read_burst_of given.reach (whole_read given.shape (cut_raw given c))) ≡ true
       by_write true = refl
       by_write false = refl
 
-      by_sends : (s : Bool) → shows_raw (if s then read_burst_of given.longest now.rest else first_burst given.longest given.shape (place_in given.shape.word_bytes now.burst) (cut_raw given c)) ≡ true
+      by_sends : (s : Bool) → shows_raw (if s then read_burst_of given.reach now.rest else first_burst given.reach given.longest given.shape (place_in given.shape.word_bytes now.burst) (cut_raw given c)) ≡ true
       by_sends true = refl
       by_sends false = by_write (is_raised (given.inputs.signals.write c))
 
@@ -207,7 +209,7 @@ module _ (given : CutInputs) where
   burst_is zero = refl
   burst_is (suc c) = ap (burst_after given.shape (levels_at given.inputs.signals c) (takes (cut_above given) c)) (burst_is c)
 
-  pub cut_runs : RunsAsCutter given.longest (cut_above given) (cut_below given) (cut_state given)
+  pub cut_runs : RunsAsCutter given.reach given.longest (cut_above given) (cut_below given) (cut_state given)
   cut_runs = record {
     shown = λ c. part_shown (cut_registers given c) c;
     beat = λ c shown. ap (λ b. if b then cut_beat given (cut_registers given c) c else silent_raw) (sym (part_shown (cut_registers given c) c) ∙ shown);
@@ -222,6 +224,25 @@ module _ (given : CutInputs) where
     word = λ c. refl;
     code = λ c. refl;
   }
+
+-- ---- what gathers
+
+pub gather_runs : (given : GatherInputs) → RunsAsGather given.room (gather_above given) (gather_below given) (gather_state given)
+gather_runs given = record {
+  levels = λ c. refl;
+  more = λ c. refl;
+  tag = λ c. refl;
+  waitrequest = λ c. raised_one (gather_shuts given (gather_registers given c) c || is_raised (given.inputs.waitrequest c));
+  entries_begin = refl;
+  entries_next = λ c. refl;
+  words_begin = refl;
+  words_next = λ c. refl;
+  given_begins = refl;
+  given_next = λ c. refl;
+  valid = λ c. raised_one (is_nonempty (gather_held given (gather_registers given c) c));
+  word = λ c. refl;
+  code = λ c. refl;
+}
 
 -- ---- what keeps beats without a lane from an agent
 

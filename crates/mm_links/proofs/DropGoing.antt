@@ -92,9 +92,9 @@ module _ (target : Target) (room : ℕ) (up down : Port) (state : DropState) (en
   left_open c h level left =
       let list = all_alike target room up down state end plan run legal alike (raws down c) in
       let joined : is_last_joined (sent target room up down state end plan run legal alike c) ≡ true =
-      ap is_last_joined (sym level.sent) ∙ sym (ap is_last_joined (down_taken target room up down state end plan run legal alike c h) ∙ alike_last_joined target up.shape down.shape _ _ list) ∙ left in
+      ap is_last_joined (sym level.sent) ∙ sym (ap is_last_joined (down_taken target room up down state end plan run legal alike c h) ∙ alike_last_joined target up.shape down.shape true _ _ list) ∙ left in
       let write : is_last_write (taken_at down c) ≡ is_last_write (sent target room up down state end plan run legal alike c) =
-      ap is_last_write (down_taken target room up down state end plan run legal alike c h) ∙ alike_last_write target up.shape down.shape _ _ list ∙ ap is_last_write level.sent in
+      ap is_last_write (down_taken target room up down state end plan run legal alike c h) ∙ alike_last_write target up.shape down.shape true _ _ list ∙ ap is_last_write level.sent in
       let there = open_above target up (no_one target room up down state end plan run legal alike) refl refl (dropped_taken target room up down state end plan run legal alike c h)
       (after_closed target up (no_one target room up down state end plan run legal alike) (taken_at up c) refl (joined_taken target room up down state end plan run legal alike c h)) (past (sent target room up down state end plan run legal alike c) joined) in
       (before (taken_at up c) there.joined, same (taken_at up c) (sent target room up down state end plan run legal alike c) there.joined joined there.write ∙ sym write)

@@ -1,5 +1,5 @@
 -- A machine that drops beats without a lane keeps all that a link promises, where joined commands are alike.
-use Rattle.std.proofs.Common.{ℕ, ◌≤◌, ◌≡◌, ◌+◌, ◌/◌, ◌⊎◌, inl, inr, min, false, List, [], ◌∷◌, ◌++◌, arith, refl, sym, ap, ap₂, subst, ◌∙◌, length, map, nat_eq, IsTrue, append-nil, le_refl}
+use Rattle.std.proofs.Common.{ℕ, ◌≤◌, ◌≡◌, ◌+◌, ◌/◌, ◌⊎◌, inl, inr, min, true, false, List, [], ◌∷◌, ◌++◌, arith, refl, sym, ap, ap₂, subst, ◌∙◌, length, map, nat_eq, IsTrue, append-nil, le_refl}
 use Rattle.std.proofs.lemmas.List.{map-append}
 use Rattle.histories.specs.History.{total, unreached, IsPrefix, AreWithin}
 use Rattle.histories.specs.Laws.{prefix_trans, prefix_map, prefix_filter, prefix_flat_map, prefix_length}
@@ -39,18 +39,19 @@ module _ (target : Target) (room : ℕ) (up down : Port) (state : DropState) (en
   pub legal_below : AreLegalAt down end
   legal_below = drop_legal target room up down state end plan run legal
 
-  pub one_alike : (raw : Raw) → IsAlike target up.shape down.shape (high raw) (low raw)
+  pub one_alike : (raw : Raw) → IsAlike target up.shape down.shape true (high raw) (low raw)
   one_alike raw = record {
     tag = refl;
     more = refl;
     ends = refl;
     kind = refl;
     operations = ap₂ (λ n w. operations_in target (record up.shape { unit_bytes = n; word_bytes = w }) (flat_mark (record up.shape { unit_bytes = n; word_bytes = w }) raw)) plan.units plan.same;
-    beats = refl;
-    lanes = ap₂ (λ n w. have_operations target (record up.shape { unit_bytes = n; word_bytes = w }) (flat_mark (record up.shape { unit_bytes = n; word_bytes = w }) raw)) plan.units plan.same;
+    beats = le_refl (length (high raw).transfer.beats);
+    same = λ is. refl;
+    lanes = λ is. ap₂ (λ n w. have_operations target (record up.shape { unit_bytes = n; word_bytes = w }) (flat_mark (record up.shape { unit_bytes = n; word_bytes = w }) raw)) plan.units plan.same;
   }
 
-  pub all_alike : (rs : List Raw) → AllAlike target up.shape down.shape (map high rs) (map low rs)
+  pub all_alike : (rs : List Raw) → AllAlike target up.shape down.shape true (map high rs) (map low rs)
   all_alike [] = tt
   all_alike (r ∷ rs) = (one_alike r, all_alike rs)
 
@@ -67,7 +68,7 @@ module _ (target : Target) (room : ℕ) (up down : Port) (state : DropState) (en
 
   pub taken_sum : (c : ℕ) → c ≤ end → length (operations_among target down.shape (taken_at down c)) ≡ sum target up.shape (map high (raws down c))
   taken_sum c h =
-      ap (λ l. length (operations_among target down.shape l)) (down_taken c h) ∙ ap length (alike_operations target up.shape down.shape (map high (raws down c)) (map low (raws down c)) (all_alike (raws down c)))
+      ap (λ l. length (operations_among target down.shape l)) (down_taken c h) ∙ ap length (alike_operations target up.shape down.shape true (map high (raws down c)) (map low (raws down c)) (all_alike (raws down c)))
       ∙ sym (total_sizes target up.shape (map high (raws down c)))
 
   pub sum_append : (xs ys : List Marked) → sum target up.shape (xs ++ ys) ≡ sum target up.shape xs + sum target up.shape ys
@@ -115,19 +116,20 @@ module _ (target : Target) (room : ℕ) (up down : Port) (state : DropState) (en
   carried = record {
     in_order = λ k h.
         let below : items target down k ≡ items_from target up.shape false (map high (shown_raws down k)) =
-        ap (items_from target down.shape false) (down_shown k h) ∙ alike_items target up.shape down.shape false (map high (shown_raws down k)) (map low (shown_raws down k)) (all_alike (shown_raws down k)) in
+        ap (items_from target down.shape false) (down_shown k h) ∙ alike_items target up.shape down.shape true false (map high (shown_raws down k)) (map low (shown_raws down k)) (all_alike (shown_raws down k)) in
         let dropped = dropped_shown target room up down state end plan run legal alike k h in
         subst (λ l. IsPrefix l (items target up k)) (sym below)
         (prefix_trans (items_prefix target up.shape false (front k h)) (record { rest = acts_of target up.shape (kept_after target up.shape [] (shown_at up k)); joins = sym (same_items target up.shape dropped) }));
     beats = λ k tag h.
-        let below = ap (λ l. length (beats_with tag l)) (down_shown k h) ∙ alike_tagged target up.shape down.shape tag (map high (shown_raws down k)) (map low (shown_raws down k)) (all_alike (shown_raws down k)) in
+        let below = ap (λ l. length (beats_with tag l)) (down_shown k h) in
+        let few = alike_tagged target up.shape down.shape true tag (map high (shown_raws down k)) (map low (shown_raws down k)) (all_alike (shown_raws down k)) in
         let fewer = prefix_length (prefix_flat_map (λ (m : Marked). m.transfer.beats) (prefix_filter (λ (m : Marked). nat_eq m.tag tag) (front k h))) in
         let all = fewer_tagged target up.shape tag (dropped_shown target room up down state end plan run legal alike k h) in
-        rw one_piece (omega (arith, below, fewer, all));
+        rw one_piece (omega (arith, below, few, fewer, all));
     legal = legal_below;
     held = held_few;
     whole = λ k h.
-        let below = ap (sizes target down.shape) (down_shown k h) ∙ alike_sizes target up.shape down.shape (map high (shown_raws down k)) (map low (shown_raws down k)) (all_alike (shown_raws down k)) in
+        let below = ap (sizes target down.shape) (down_shown k h) ∙ alike_sizes target up.shape down.shape true (map high (shown_raws down k)) (map low (shown_raws down k)) (all_alike (shown_raws down k)) in
         let p = prefix_map (λ (m : Marked). length (operations_in target up.shape m)) (front k h) in
         subst (λ l. AreWithin l (sizes target up.shape (shown_at up k))) (sym below)
         (within_front _ _ (all_within target up.shape (dropped_shown target room up down state end plan run legal alike k h)) (sizes target up.shape (map high (shown_raws down k))) p.rest p.joins);
@@ -138,7 +140,7 @@ module _ (target : Target) (room : ℕ) (up down : Port) (state : DropState) (en
 
   pub drop_joins : (k : ℕ) → k ≤ end → IsTrue (are_joined_alike target down (shown_at down k))
   drop_joins k h =
-      ap (are_joined_alike target down) (down_shown k h) ∙ alike_joins target up.shape down.shape up down refl refl (map high (shown_raws down k)) (map low (shown_raws down k)) (all_alike (shown_raws down k))
+      ap (are_joined_alike target down) (down_shown k h) ∙ alike_joins target up.shape down.shape true up down refl refl (map high (shown_raws down k)) (map low (shown_raws down k)) (all_alike (shown_raws down k))
       ∙ alike_prefix target up (front k h)
       (tail_alike target up no_one (sent_shown k) (alike_below target up no_one refl (dropped_shown target room up down state end plan run legal alike k h) (after_closed target up no_one (shown_at up k) refl (alike k h))))
 

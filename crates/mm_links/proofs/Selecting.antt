@@ -229,7 +229,7 @@ module _ (law : SelectsBeats) (target : Target) (up down : Port) (many room : �
         (let same = plan.same in omega (arith, fits, same)) (fit c h shown) (ap (λ (l : Levels). l.enables) (run.levels c)) (same_bytes c))
         ∙ ap (operations_of down.shape target.shape target.span) (sym (below_beat c)) ∙ sym (law up.shape down.shape target.shape target.span may _ lies)
 
-    pub alike : (c : ℕ) → c < end → shows up.commands.signals c ≡ true → IsAlike target up.shape down.shape (marked_at up c) (marked_at down c)
+    pub alike : (c : ℕ) → c < end → shows up.commands.signals c ≡ true → IsAlike target up.shape down.shape true (marked_at up c) (marked_at down c)
     alike c h shown =
         let above = above_is c h shown in
         let below = below_is c in
@@ -240,8 +240,9 @@ module _ (law : SelectsBeats) (target : Target) (up down : Port) (many room : �
           ends = ap (λ (t : Transfer). t.ends) below ∙ sym (ap (λ (t : Transfer). t.ends) above);
           kind = ap (λ (t : Transfer). t.kind) below ∙ sym (ap (λ (t : Transfer). t.kind) above);
           operations = ap (λ (t : Transfer). flat_map (beat_operations target down.shape) t.beats) below ∙ ap (λ l. l ++ []) ops ∙ sym (ap (λ (t : Transfer). flat_map (beat_operations target up.shape) t.beats) above);
-          beats = ap (λ (t : Transfer). length t.beats) below ∙ sym (ap (λ (t : Transfer). length t.beats) above);
-          lanes = ap (λ (t : Transfer). list_all (λ (b : Beat). is_nonempty (beat_operations target down.shape b)) t.beats) below ∙ ap (λ l. is_nonempty l && true) ops
+          beats = (let u = ap (λ (t : Transfer). length t.beats) above in let d = ap (λ (t : Transfer). length t.beats) below in omega (arith, u, d));
+          same = λ is. ap (λ (t : Transfer). length t.beats) below ∙ sym (ap (λ (t : Transfer). length t.beats) above);
+          lanes = λ is. ap (λ (t : Transfer). list_all (λ (b : Beat). is_nonempty (beat_operations target down.shape b)) t.beats) below ∙ ap (λ l. is_nonempty l && true) ops
               ∙ sym (ap (λ (t : Transfer). list_all (λ (b : Beat). is_nonempty (beat_operations target up.shape b)) t.beats) above);
         }
 
@@ -358,7 +359,7 @@ module _ (law : SelectsBeats) (target : Target) (up down : Port) (many room : �
     counted : (c : ℕ) → c ≤ end → length (asked c) ≡ words_owed down c
     counted c h =
         moved_length up.shape target.shape (read_beats (taken_at up c)) (read_beats (taken_at down c)) (asked c) (moved c h)
-        ∙ owed_counts target up down (λ c. not (is_shut room up offsets c)) shows_same takes_same end alike legal legal_below valid_same c h
+        ∙ owed_counts target true up down (λ c. not (is_shut room up offsets c)) shows_same takes_same end alike legal legal_below refl valid_same c h
 
     few_words : (c : ℕ) → suc c ≤ end → AnswersAreOwed down (suc c) → length (words_at down (suc c)) ≤ length (asked c)
     few_words c h owed =
@@ -463,7 +464,7 @@ module _ (law : SelectsBeats) (wire : (target : Target) (port : Port) (end : ℕ
   fit_before : (c : ℕ) → c ≤ end → EnablesFit up c
   fit_before c h k less = fit k (omega (arith, h, less))
 
-  alike_before : (c : ℕ) → c ≤ end → AreLegalAt up c → (k : ℕ) → k < c → shows up.commands.signals k ≡ true → IsAlike target up.shape down.shape (marked_at up k) (marked_at down k)
+  alike_before : (c : ℕ) → c ≤ end → AreLegalAt up c → (k : ℕ) → k < c → shows up.commands.signals k ≡ true → IsAlike target up.shape down.shape true (marked_at up k) (marked_at down k)
   alike_before c h legal = alike law target up down many room offsets plan deep run c (fit_before c h) legal
 
   legal_before : (c : ℕ) → c ≤ end → AreLegalAt up c → AreLegalAt down c
@@ -487,12 +488,12 @@ module _ (law : SelectsBeats) (wire : (target : Target) (port : Port) (end : ℕ
   owed_above : (c : ℕ) → c ≤ end → AreLegalAt up c → AnswersAreOwed down c → AnswersAreOwed up c
   owed_above c h legal owed k less =
       let there = owed k less in
-      let same = owed_counts target up down lets shown_alike taken_at_once c (alike_before c h legal) legal (legal_before c h legal) same_valid k (omega (arith, less)) in
+      let same = owed_counts target true up down lets shown_alike taken_at_once c (alike_before c h legal) legal (legal_before c h legal) refl same_valid k (omega (arith, less)) in
       subst (λ (v : ℕ → ℕ). words_before v (suc k) ≤ words_owed up k) (sym every_valid) (omega (arith, there, same))
 
   link_law : KeepsLinkLaw target 0 up down end
   link_law = record {
-    commands = λ c h legal owed. gate_carries target up down lets shown_alike taken_at_once c (alike_before c h legal) legal (legal_before c h legal) one_piece;
+    commands = λ c h legal owed. gate_carries target true up down lets shown_alike taken_at_once c (alike_before c h legal) legal (legal_before c h legal) one_piece;
     answers = λ c h legal owed. record {
       answered = λ k less valid. answered c h legal owed k less valid;
       owed = owed_above c h legal owed;
@@ -528,11 +529,11 @@ module _ (law : SelectsBeats) (wire : (target : Target) (port : Port) (end : ℕ
   select_is_link = record {
     row = row target 0 up down end link_law (λ c h legal owed. marks c);
     words = λ is c h legal owed. select_words law target up down many room offsets plan deep run c (fit_before c h) legal c (le_refl c) legal owed;
-    lanes = λ c h legal owed has. gate_lanes target up down lets shown_alike taken_at_once c (alike_before c h legal) legal (legal_before c h legal) (has refl);
-    joins = λ c h legal owed alike k less. gate_joins target up down lets shown_alike taken_at_once c (alike_before c h legal) legal (legal_before c h legal) k less (alike k less);
-    quiet = λ c h legal owed answered. gate_quiet target up down lets shown_alike taken_at_once c (alike_before c h legal) legal (legal_before c h legal) same_valid c (le_refl c) answered;
+    lanes = λ c h legal owed has. gate_lanes target true up down lets shown_alike taken_at_once c (alike_before c h legal) legal (legal_before c h legal) refl (has refl);
+    joins = λ c h legal owed alike k less. gate_joins target true up down lets shown_alike taken_at_once c (alike_before c h legal) legal (legal_before c h legal) k less (alike k less);
+    quiet = λ c h legal owed answered. gate_quiet target true up down lets shown_alike taken_at_once c (alike_before c h legal) legal (legal_before c h legal) refl same_valid c (le_refl c) answered;
     goes_on = λ legal owed alike.
-        further (gate_goes_on target up down lets shown_alike taken_at_once end (alike_before end (le_refl end) legal) legal (legal_before end (le_refl end) legal) same_valid
+        further (gate_goes_on target true up down lets shown_alike taken_at_once end (alike_before end (le_refl end) legal) legal (legal_before end (le_refl end) legal) refl same_valid
         (shut_owes law target up down many room offsets plan deep run end fit legal owed) alike) at_end;
   }
 
@@ -542,8 +543,8 @@ module _ (law : SelectsBeats) (wire : (target : Target) (port : Port) (end : ℕ
       let full = ltb-false (length (offsets c)) room (not-true (nat_lt (length (offsets c)) room) (and_parts (not (is_raised (up.commands.write c))) (not (nat_lt (length (offsets c)) room)) shut_now).1) in
       let queued = ap length (queue_is law target up down many room offsets plan deep run end fit legal c (omega (arith, h)) (λ k less. owed k (omega (arith, h, less)))) ∙ length-drop (length (words_at down c)) _ in
       let asks = counted law target up down many room offsets plan deep run end fit legal c (omega (arith, h)) in
-      let same = owed_counts target up down lets shown_alike taken_at_once end (alike_before end (le_refl end) legal) legal (legal_before end (le_refl end) legal) same_valid c (omega (arith, h)) in
-      let words = word_counts target up down lets shown_alike taken_at_once end (alike_before end (le_refl end) legal) legal (legal_before end (le_refl end) legal) same_valid c in
+      let same = owed_counts target true up down lets shown_alike taken_at_once end (alike_before end (le_refl end) legal) legal (legal_before end (le_refl end) legal) refl same_valid c (omega (arith, h)) in
+      let words = word_counts target true up down lets shown_alike taken_at_once end (alike_before end (le_refl end) legal) legal (legal_before end (le_refl end) legal) refl same_valid c in
       omega (arith, full, queued, asks, same, words, deep)
     where
       twice : (b : Bool) → not b ≡ false → b ≡ true
@@ -552,4 +553,4 @@ module _ (law : SelectsBeats) (wire : (target : Target) (port : Port) (end : ℕ
 
   pub select_begins : AreLegalAt up end → AnswersAreOwed down end → (few : ℕ) (may_burst : Bool) → BeginsBelow few may_burst target up down end
   select_begins legal owed few may_burst =
-      gate_begins target up down lets shown_alike taken_at_once end (alike_before end (le_refl end) legal) legal (legal_before end (le_refl end) legal) (shut_while_owed legal owed) few may_burst
+      gate_begins target true up down lets shown_alike taken_at_once end (alike_before end (le_refl end) legal) legal (legal_before end (le_refl end) legal) (shut_while_owed legal owed) few may_burst

@@ -10,7 +10,7 @@ use Rattle.mm_machines.specs.Machines.{Raw, idle, split_parts, beat_of}
 use Rattle.mm_links.specs.Pipes.{PipeSides}
 use Rattle.mm_links.specs.Selects.{offset_in, selected, silenced, first_of}
 use Rattle.mm_links.specs.Splits.{SplitState, pieces_asked, are_same, put_piece, nothing}
-use Rattle.mm_links.specs.Cutters.{CutterState, Rest, Place, read_burst_of, first_burst, behind_burst, whole_read}
+use Rattle.mm_links.specs.Cutters.{Reach, CutterState, Rest, Place, read_burst_of, first_burst, behind_burst, whole_read}
 use Rattle.mm_links.specs.Drops.{DropState, Standing, any_lane, sends, accepted, keeps, owes_itself, sent_beat}
 
 -- what is shown to a link: commands from above, wait and answers from below
@@ -268,6 +268,7 @@ split_below given = split_below_with given (split_registers given)
 -- ---- a cutter of bursts
 
 pub record CutInputs : Type 0 where
+  pub reach : Reach
   pub longest : ℕ
   pub shape : Shape
   pub below : Shape
@@ -291,7 +292,7 @@ abbrev pub cut_shows : CutInputs → CutRegisters → ℕ → Bool
 cut_shows given now c = if cut_sends now then true else shows given.inputs.signals c
 
 abbrev pub cut_beat : CutInputs → CutRegisters → ℕ → Raw
-cut_beat given now c = if cut_sends now then read_burst_of given.longest now.rest else first_burst given.longest given.shape (place_in given.shape.word_bytes now.burst) (cut_raw given c)
+cut_beat given now c = if cut_sends now then read_burst_of given.reach now.rest else first_burst given.reach given.longest given.shape (place_in given.shape.word_bytes now.burst) (cut_raw given c)
 
 abbrev pub cut_part : CutInputs → CutRegisters → ℕ → Raw
 cut_part given now c = if cut_shows given now c then cut_beat given now c else silent_raw
@@ -309,8 +310,8 @@ abbrev pub cut_step : CutInputs → CutRegisters → ℕ → CutRegisters
 cut_step given now c =
     record {
       burst = burst_after given.shape (levels_at given.inputs.signals c) (cut_takes given now c) now.burst;
-      rest = if cut_sends now then (if cut_takes_below given now c then behind_burst given.longest given.shape.word_bytes now.rest else now.rest)
-          else if cut_takes given now c && not (is_raised (given.inputs.signals.write c)) then behind_burst given.longest given.shape.word_bytes (whole_read given.shape (cut_raw given c)) else now.rest;
+      rest = if cut_sends now then (if cut_takes_below given now c then behind_burst given.reach given.shape.word_bytes now.rest else now.rest)
+          else if cut_takes given now c && not (is_raised (given.inputs.signals.write c)) then behind_burst given.reach given.shape.word_bytes (whole_read given.shape (cut_raw given c)) else now.rest;
     }
 
 abbrev pub cut_at_rest : CutRegisters

@@ -10,3 +10,6 @@ pub mod Driven
 pub mod Soon
 pub mod Begins
 pub mod Cutters
+pub mod Gathers
+pub mod DrivenGather
+pub mod Packs

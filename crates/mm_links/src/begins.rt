@@ -7,7 +7,7 @@ ghost use Rattle.mm_machines.specs.Machines.{MaySplit};
 ghost use Rattle.mm_machines.specs.PartRanks.{JoinsAlike};
 ghost use Rattle.mm_machines.specs.Straight.{IsShownPromptly, may_be_prompt};
 ghost use Rattle.mm_links.specs.Begins.{BeginsBelow};
-ghost use Rattle.mm_links.specs.Cutters.{CutterState, RunsAsCutter, IsCutPlan};
+ghost use Rattle.mm_links.specs.Cutters.{Reach, CutterState, RunsAsCutter, IsCutPlan};
 ghost use Rattle.mm_links.specs.Drops.{DropState, RunsAsDrop, IsDropPlan};
 ghost use Rattle.mm_links.specs.Selects.{RunsAsSelect, IsSelectPlan, EnablesFit};
 ghost use Rattle.mm_links.specs.Splits.{SplitState, RunsAsSplit};
@@ -55,6 +55,6 @@ pub fn split_begins_over_drop()
 
 /// A cutter of bursts over a link, or a row of links, that begins below what waits above does so with it, in as many cycles.
 pub fn cutters_begin_over_links()
-    ensures { (target : Target) (longest : ℕ) (up middle down : Port) (state : CutterState) (end few : ℕ) (may_burst : Bool) → IsCutPlan longest up.shape middle.shape → RunsAsCutter longest up middle state
+    ensures { (target : Target) (reach : Reach) (longest : ℕ) (up middle down : Port) (state : CutterState) (end few : ℕ) (may_burst : Bool) → IsCutPlan reach longest up.shape middle.shape → RunsAsCutter reach longest up middle state
         → AreLegalAt up end → AnswersAreOwed middle end → BeginsBelow few may_burst target middle down end → BeginsBelow few may_burst target up down end }
 {}

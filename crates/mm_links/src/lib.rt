@@ -4,6 +4,8 @@
 pub mod begins;
 pub mod bursts;
 pub mod drops;
+pub mod gathers;
+pub mod packs;
 pub mod passes;
 pub mod pipes;
 pub mod rows;

@@ -1,13 +1,15 @@
 //! How few beats and words links keep back, and which of them they don't hand on.
 
-ghost use Rattle.std.specs.Prelude.{◌≡◌, ◌<◌, ℕ, List, false};
-ghost use Rattle.mm_machines.specs.Link.{Target, Port, AreLegalAt};
+ghost use Rattle.std.specs.Prelude.{◌≡◌, ◌<◌, ℕ, suc, List, true, false};
+ghost use Rattle.histories.specs.History.{is_raised};
+ghost use Rattle.mm_machines.specs.Link.{Target, Port, AreLegalAt, takes};
 ghost use Rattle.mm_machines.specs.Machines.{MaySplit};
 ghost use Rattle.mm_machines.specs.PartRanks.{JoinsAlike};
-ghost use Rattle.mm_links.specs.Cutters.{CutterState, RunsAsCutter, IsCutPlan, is_sending};
+ghost use Rattle.mm_links.specs.Cutters.{Reach, CutterState, RunsAsCutter, IsCutPlan, is_sending};
 ghost use Rattle.mm_links.specs.Drops.{DropState, RunsAsDrop, IsDropPlan};
+ghost use Rattle.mm_links.specs.Gathers.{GatherState, RunsAsGather, IsGatherPlan};
 ghost use Rattle.mm_links.specs.Passes.{ShowsWrite, PassesAtOnce, PassesActs, AcceptsActs};
-ghost use Rattle.mm_links.specs.Selects.{RunsAsSelect, IsSelectPlan, EnablesFit};
+ghost use Rattle.mm_links.specs.Selects.{RunsAsSelect, IsSelectPlan, EnablesFit, takes_read};
 ghost use Rattle.mm_links.specs.Splits.{SplitState, RunsAsSplit};
 
 /// A lane selector and a cutter of bursts take a beat below with each one that they accept, and give only words that come from below.
@@ -15,7 +17,7 @@ ghost use Rattle.mm_links.specs.Splits.{SplitState, RunsAsSplit};
 pub fn links_pass_at_once()
     ensures select { (target : Target) (up down : Port) (many room : ℕ) (offsets : ℕ → List ℕ) → IsSelectPlan target up.shape down.shape many
         → 1 < room → RunsAsSelect room up down offsets → (end : ℕ) → PassesAtOnce up down end }
-    ensures cut { (longest : ℕ) (up down : Port) (state : CutterState) → RunsAsCutter longest up down state → (end : ℕ) → PassesAtOnce up down end }
+    ensures cut { (reach : Reach) (longest : ℕ) (up down : Port) (state : CutterState) → RunsAsCutter reach longest up down state → (end : ℕ) → PassesAtOnce up down end }
     ensures split { (target : Target) (room count : ℕ) (up down : Port) (state : SplitState) → MaySplit target up.shape down.shape count
         → RunsAsSplit room up down state → (end : ℕ) → AreLegalAt up end → AcceptsActs target up end → PassesAtOnce up down end }
 {
@@ -33,8 +35,19 @@ pub fn drop_passes_others()
 pub fn links_show_writes()
     ensures select { (target : Target) (up down : Port) (many room : ℕ) (offsets : ℕ → List ℕ) → IsSelectPlan target up.shape down.shape many
         → 1 < room → RunsAsSelect room up down offsets → (end : ℕ) → EnablesFit up end → AreLegalAt up end → (c : ℕ) → c < end → ShowsWrite up down c }
-    ensures cut { (target : Target) (longest : ℕ) (up down : Port) (state : CutterState) → IsCutPlan longest up.shape down.shape → RunsAsCutter longest up down state
+    ensures cut { (target : Target) (reach : Reach) (longest : ℕ) (up down : Port) (state : CutterState) → IsCutPlan reach longest up.shape down.shape → RunsAsCutter reach longest up down state
         → (end : ℕ) → AreLegalAt up end → (c : ℕ) → c < end → is_sending state c ≡ false → ShowsWrite up down c }
+{
+    mm_machines::machines::beat_is_selected()
+}
+
+/// What gathers accepts each beat in the cycle in which it is taken below. Where that is a read, and a word comes in the next
+/// cycle, one is given above.
+pub fn gather_passes_at_once()
+    ensures takes { (target : Target) (up down : Port) (many room : ℕ) (state : GatherState) → IsGatherPlan target up.shape down.shape many
+        → RunsAsGather room up down state → (c : ℕ) → takes down c ≡ takes up c }
+    ensures gives { (room : ℕ) (up down : Port) (state : GatherState) → RunsAsGather room up down state
+        → (c : ℕ) → takes_read up c ≡ true → is_raised (down.answers.valid (suc c)) ≡ true → is_raised (up.answers.valid (suc c)) ≡ true }
 {
     mm_machines::machines::beat_is_selected()
 }

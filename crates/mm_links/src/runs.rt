@@ -3,8 +3,10 @@
 ghost use Rattle.mm_links.specs.Driven.{SelectInputs, PipeInputs, SplitInputs, select_above, select_below, select_queue, pipe_run, split_above, split_below, split_state};
 ghost use Rattle.mm_links.specs.Driven.{CutInputs, cut_above, cut_below, cut_state};
 ghost use Rattle.mm_links.specs.Driven.{DropInputs, drop_above, drop_below, drop_state};
+ghost use Rattle.mm_links.specs.DrivenGather.{GatherInputs, gather_above, gather_below, gather_state};
 ghost use Rattle.mm_links.specs.Cutters.{RunsAsCutter};
 ghost use Rattle.mm_links.specs.Drops.{RunsAsDrop};
+ghost use Rattle.mm_links.specs.Gathers.{RunsAsGather};
 ghost use Rattle.mm_links.specs.Pipes.{RunsAsPipe};
 ghost use Rattle.mm_links.specs.Selects.{RunsAsSelect};
 ghost use Rattle.mm_links.specs.Splits.{RunsAsSplit};
@@ -31,5 +33,10 @@ pub fn drop_runs()
 
 /// There is a run of a cutter of bursts for all commands, waits and answers.
 pub fn cut_runs()
-    ensures { (given : CutInputs) → RunsAsCutter given.longest (cut_above given) (cut_below given) (cut_state given) }
+    ensures { (given : CutInputs) → RunsAsCutter given.reach given.longest (cut_above given) (cut_below given) (cut_state given) }
+{}
+
+/// There is a run of what gathers for all commands, waits and answers.
+pub fn gather_runs()
+    ensures { (given : GatherInputs) → RunsAsGather given.room (gather_above given) (gather_below given) (gather_state given) }
 {}

@@ -18,7 +18,7 @@ use Rattle.mm_links.specs.Drops.{drop_form}
 use Rattle.mm_links.specs.Links.{pass_form}
 use Rattle.mm_links.specs.Selects.{select_form}
 use Rattle.mm_links.specs.Splits.{split_form}
-use Rattle.mm_awake.specs.Rows.{CutsBursts, FitsWords, DropsBeats, drops_some}
+use Rattle.mm_awake.specs.Rows.{CutsBursts, FitsWords, DropsBeats, GathersBelowCut, drops_some}
 use Rattle.mm_awake.specs.Rows.CutsBursts.{cutter, no_cutter}
 use Rattle.mm_awake.specs.Rows.FitsWords.{selector, splitter, no_width}
 use Rattle.mm_awake.specs.Rows.DropsBeats.{dropper, no_dropper}
@@ -164,8 +164,8 @@ module _ (host : HostPort) (agent : AgentPort) (stages : ℕ) (pair : MayMeet ho
   cut_by true tag bears cuts =
       let runs : CutterRuns (cutter_between host agent) target (high_at (burst_width host.burst_bits)) (cut_at host.word_bytes (bits_between host agent)) =
       cuts (record { up = inner_shape host.word_bytes (burst_width host.burst_bits); down = inner_shape host.word_bytes (bits_between host agent); link = cut_form target })
-      (record { plan = record { some = host_some; same = refl; bytes = refl; least = pow_pos (bits_between host agent - 1); most = omega arith }; words = refl; bytes = refl; is = refl }) in
-      record { cuts = cutter _ runs.state runs.plan (retagged_cutter tag _ _ bears _ runs.state runs.run); shows = cutter_shows_tags tag _ _ bears _ runs.state runs.run }
+      (record { plan = record { some = host_some; same = refl; bytes = refl; least = pow_pos (bits_between host agent - 1); most = omega arith; goes = λ address. pow_pos (bits_between host agent - 1); allowed = λ address. omega arith }; words = refl; bytes = refl; is = refl }) in
+      record { cuts = cutter _ _ runs.state runs.plan (retagged_cutter tag _ _ bears _ _ runs.state runs.run); shows = cutter_shows_tags tag _ _ bears _ _ runs.state runs.run }
   cut_by false tag bears cuts =
       let bits = burst_width host.burst_bits in
       let same : high_at bits ≡ cut_at host.word_bytes bits = cuts (pass_between host.word_bytes bits) (record { same = refl; is = refl; some = host_some }) in
@@ -174,6 +174,7 @@ module _ (host : HostPort) (agent : AgentPort) (stages : ℕ) (pair : MayMeet ho
   -- words fit at this port, with the tags from above
   record AreFit (bits : ℕ) (port : Port) : Type 0 where
     fits : FitsWords target (with_tag tags (cut_at host.word_bytes bits)) (with_tag tags port)
+    none : (top : Port) (cuts : CutsBursts top (with_tag tags (cut_at host.word_bytes bits))) → GathersBelowCut cuts fits
     shows : ShowsTags tags port
 
   abbrev selects_with : Select
@@ -221,13 +222,13 @@ module _ (host : HostPort) (agent : AgentPort) (stages : ℕ) (pair : MayMeet ho
       let less = ltb-true host.word_bytes agent.word_bytes (sym n) in
       let runs : SelectRuns selects_with target (cut_at host.word_bytes bits) (mid_at agent.word_bytes bits) = selects _ (select_plan bits (single (λ e. omega (arith, e, less))) less) in
       let same : mid_at agent.word_bytes bits ≡ low_at agent.word_bytes bits = splits (pass_between agent.word_bytes bits) (record { same = refl; is = refl; some = agent_some }) in
-      subst (AreFit bits) same (record { fits = selector runs.many _ runs.offsets runs.plan runs.some (retagged_select tags _ _ _ runs.offsets runs.run); shows = select_shows_tags tags _ _ _ runs.offsets runs.run bears })
+      subst (AreFit bits) same (record { fits = selector runs.many _ runs.offsets runs.plan runs.some (retagged_select tags _ _ _ runs.offsets runs.run); none = λ top cuts. tt; shows = select_shows_tags tags _ _ _ runs.offsets runs.run bears })
   fit_by false true n w bits single bears selects splits =
       let less = ltb-true agent.word_bytes host.word_bytes (sym w) in
       let same : cut_at host.word_bytes bits ≡ mid_at host.word_bytes bits = selects (pass_between host.word_bytes bits) (record { same = refl; is = refl; some = host_some }) in
       let below : SplitRuns splits_with target (mid_at host.word_bytes bits) (low_at agent.word_bytes bits) = splits _ (split_plan bits (single (λ e. omega (arith, e, less))) less) in
       let runs = subst (λ (p : Port). SplitRuns splits_with target p (low_at agent.word_bytes bits)) (sym same) below in
-      record { fits = splitter runs.count _ runs.state runs.plan runs.some (retagged_split tags _ _ _ runs.state runs.run bears); shows = split_shows_tags tags _ _ _ runs.state runs.run bears }
+      record { fits = splitter runs.count _ runs.state runs.plan runs.some (retagged_split tags _ _ _ runs.state runs.run bears); none = λ top cuts. tt; shows = split_shows_tags tags _ _ _ runs.state runs.run bears }
   fit_by false false n w bits single bears selects splits =
       let least = ltb-false host.word_bytes agent.word_bytes (sym n) in
       let most = ltb-false agent.word_bytes host.word_bytes (sym w) in
@@ -235,7 +236,7 @@ module _ (host : HostPort) (agent : AgentPort) (stages : ℕ) (pair : MayMeet ho
       let two : mid_at host.word_bytes bits ≡ low_at host.word_bytes bits = splits (pass_between host.word_bytes bits) (record { same = refl; is = refl; some = host_some }) in
       let equal : host.word_bytes ≡ agent.word_bytes = omega (arith, least, most) in
       subst (λ bytes. AreFit bits (low_at bytes bits)) equal
-      (subst (AreFit bits) (one ∙ two) (record { fits = no_width (record { wire = record { same = refl; longer = omega arith }; some = host_some }); shows = bears }))
+      (subst (AreFit bits) (one ∙ two) (record { fits = no_width (record { wire = record { same = refl; longer = omega arith }; some = host_some }); none = λ top cuts. tt; shows = bears }))
 
   -- and below that beats are dropped, or not
   record AreDropped (drops : Bool) (bits : ℕ) (port : Port) : Type 0 where
@@ -295,6 +296,7 @@ machines_between host agent stages pair laws from to kept wait answer up back ol
       cuts = cut.cuts;
       low = with_tag tags (port_in (inner_shape agent.word_bytes bits) run between.middle inner.wait inner.answer);
       fits = fit.fits;
+      gathers = fit.none _ cut.cuts;
       dropped = drop.dropped;
       is = drop.drops_is;
     }

@@ -7,7 +7,7 @@ use Rattle.mm_runs.specs.Views.{Levels}
 use Rattle.mm_runs.specs.Commands.{shows}
 use Rattle.mm_machines.specs.Link.{Port, takes}
 use Rattle.mm_machines.specs.Machines.{Raw, raw_at, joined}
-use Rattle.mm_links.specs.Cutters.{Rest, CutterState, RunsAsCutter, is_sending, read_burst_of, write_of_burst, first_burst, whole_read, behind_burst}
+use Rattle.mm_links.specs.Cutters.{Reach, Rest, CutterState, RunsAsCutter, is_sending, read_burst_of, write_of_burst, first_burst, whole_read, behind_burst}
 use Rattle.mm_links.specs.Drops.{DropState, RunsAsDrop, keeps, sent_beat, standing_at}
 use Rattle.mm_links.specs.Selects.{RunsAsSelect, is_shut, takes_read}
 use Rattle.mm_links.specs.Splits.{SplitState, RunsAsSplit, split_at, opens}
@@ -23,13 +23,13 @@ left_of false b e = e
 
 -- ---- a cutter
 
-module _ (tag : ℕ) (up down : Port) (is : (c : ℕ) → up.commands.tag c ≡ tag) (longest : ℕ) (state : CutterState) (run : RunsAsCutter longest up down state) where
+module _ (tag : ℕ) (up down : Port) (is : (c : ℕ) → up.commands.tag c ≡ tag) (reach : Reach) (longest : ℕ) (state : CutterState) (run : RunsAsCutter reach longest up down state) where
   -- the read that it sends by itself bears the tag
   abbrev Bears : Rest → Type 0
   Bears rest = 0 < rest.left → rest.command.tag ≡ tag
 
   bears_next : (c : ℕ) (sends taken reads : Bool) → Bears (state.rest c) →
-      Bears (if sends then (if taken then behind_burst longest up.shape.word_bytes (state.rest c) else state.rest c) else if reads then behind_burst longest up.shape.word_bytes (whole_read up.shape (raw_at up c)) else state.rest c)
+      Bears (if sends then (if taken then behind_burst reach up.shape.word_bytes (state.rest c) else state.rest c) else if reads then behind_burst reach up.shape.word_bytes (whole_read up.shape (raw_at up c)) else state.rest c)
   bears_next c true true reads h = λ some. h (omega (arith, some))
   bears_next c true false reads h = h
   bears_next c false taken true h = λ some. is c
@@ -39,16 +39,16 @@ module _ (tag : ℕ) (up down : Port) (is : (c : ℕ) → up.commands.tag c ≡ 
   rest_bears zero = λ some. (let none = run.rest_begins in absurd (omega (arith, some, none)))
   rest_bears (suc c) = subst Bears (sym (run.rest_next c)) (bears_next c (is_sending state c) (takes down c) (takes_read up c) (rest_bears c))
 
-  first_tag : (c : ℕ) (writes : Bool) → (if writes then write_of_burst longest up.shape (state.place c) (raw_at up c) else read_burst_of longest (whole_read up.shape (raw_at up c))).tag ≡ up.commands.tag c
+  first_tag : (c : ℕ) (writes : Bool) → (if writes then write_of_burst longest up.shape (state.place c) (raw_at up c) else read_burst_of reach (whole_read up.shape (raw_at up c))).tag ≡ up.commands.tag c
   first_tag c true = refl
   first_tag c false = refl
 
-  sent_tag : (c : ℕ) (sends : Bool) → (sends ≡ true → (state.rest c).command.tag ≡ tag) → (if sends then read_burst_of longest (state.rest c) else first_burst longest up.shape (state.place c) (raw_at up c)).tag ≡ up.commands.tag c
+  sent_tag : (c : ℕ) (sends : Bool) → (sends ≡ true → (state.rest c).command.tag ≡ tag) → (if sends then read_burst_of reach (state.rest c) else first_burst reach longest up.shape (state.place c) (raw_at up c)).tag ≡ up.commands.tag c
   sent_tag c true h = h refl ∙ sym (is c)
   sent_tag c false h = first_tag c (is_raised (up.commands.write c))
 
   abbrev sent : ℕ → Raw
-  sent c = if is_sending state c then read_burst_of longest (state.rest c) else first_burst longest up.shape (state.place c) (raw_at up c)
+  sent c = if is_sending state c then read_burst_of reach (state.rest c) else first_burst reach longest up.shape (state.place c) (raw_at up c)
 
   sent_bears : (c : ℕ) → (sent c).tag ≡ up.commands.tag c
   sent_bears c = sent_tag c (is_sending state c) (λ sends. rest_bears c (ltb-true 0 (state.rest c).left sends))
@@ -56,7 +56,7 @@ module _ (tag : ℕ) (up down : Port) (is : (c : ℕ) → up.commands.tag c ≡ 
   pub cutter_shows_tags : ShowsTags up.commands.tag down
   cutter_shows_tags c shown = ap (λ (r : Raw). r.tag) (run.beat c shown) ∙ sent_bears c
 
-  pub retagged_cutter : RunsAsCutter longest up (with_tag up.commands.tag down) state
+  pub retagged_cutter : RunsAsCutter reach longest up (with_tag up.commands.tag down) state
   retagged_cutter = record {
     shown = run.shown;
     beat = λ c shown. ap (λ (r : Raw). record r { tag = up.commands.tag c }) (run.beat c shown) ∙ ap (λ t. record (sent c) { tag = t }) (sym (sent_bears c));

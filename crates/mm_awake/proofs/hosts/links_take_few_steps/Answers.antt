@@ -20,7 +20,7 @@ returns-clause-splitter c = λ room many up down state good longest rest end run
 )
 
 pub returns-clause-cutter : goal.returns-clause-cutter
-returns-clause-cutter c = λ longest up down state good most rest end runs least legal reads has. (
-  cut_left longest up down state end runs least (λ k fit shown. legal.joined k fit shown) good most rest has reads,
-  cut_has_steps_left longest up down state end runs least (λ k fit shown. legal.joined k fit shown) good most rest has reads,
+returns-clause-cutter c = λ reach longest up down state good most rest end runs least legal reads has. (
+  cut_left reach longest up down state end runs least (λ k fit shown. legal.joined k fit shown) good most rest has reads,
+  cut_has_steps_left reach longest up down state end runs least (λ k fit shown. legal.joined k fit shown) good most rest has reads,
 )

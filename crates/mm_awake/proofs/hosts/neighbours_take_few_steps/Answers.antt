@@ -1,4 +1,4 @@
-use Rattle.std.proofs.Common.{ℕ, ◌≡◌, ◌<◌, ◌||◌, Bool, true, false, refl, sym, arith, subst, IsTrue}
+use Rattle.std.proofs.Common.{ℕ, ◌≡◌, ◌<◌, ◌||◌, Bool, true, false, refl, sym, subst, IsTrue}
 use Rattle.histories.specs.History.{is_raised}
 use Rattle.mm_runs.specs.Views.{System, Run, Responses}
 use Rattle.mm_runs.specs.Commands.{shows}
@@ -57,14 +57,13 @@ module _ (c : After-routes_take_few_steps) (responses : Responses) (system : Sys
       behind_wires o (behind o agent) (inside.upper o agent 0) wire (top.0, top.1)
 
   cut_steps : (o : ℕ) (middle : Port) → IsTrue (is_joined system agent o) → CutsBursts (behind o agent) middle → IsWire middle (inside.upper o agent 0) → Steps o (inside.upper o agent 0)
-  cut_steps o middle joined (cutter longest state plan runs) wire =
+  cut_steps o middle joined (cutter reach longest state plan runs) wire =
       let low = built.plan.joined agent o joined in
       let top = c.routes_take_few_steps.ensures responses system run inside states ranks end agent o built legal there low in
       let joins = joins_before middle (inside.upper o agent 0) end wire (its_parts.arbiter.legal o low) in
-      let least = plan.least in
       behind_wires o middle (inside.upper o agent 0) wire (
-        cut_left longest (behind o agent) middle state end runs (omega (arith, least)) joins (is_good system run agent) (longest_of system o) top.0 top.1 top.2,
-        cut_has_steps_left longest (behind o agent) middle state end runs (omega (arith, least)) joins (is_good system run agent) (longest_of system o) top.0 top.1 top.2,
+        cut_left reach longest (behind o agent) middle state end runs plan.goes joins (is_good system run agent) (longest_of system o) top.0 top.1 top.2,
+        cut_has_steps_left reach longest (behind o agent) middle state end runs plan.goes joins (is_good system run agent) (longest_of system o) top.0 top.1 top.2,
       )
   cut_steps o middle joined (no_cutter wired) wire =
       let top = c.routes_take_few_steps.ensures responses system run inside states ranks end agent o built legal there (built.plan.joined agent o joined) in

@@ -1,4 +1,4 @@
-use Rattle.mm_awake.proofs.LinksPass.{at_once_passes, on_while_still}
+use Rattle.mm_awake.proofs.LinksPass.{at_once_passes, on_while_still, gather_while_still}
 use Rattle.mm_awake.proofs.Swallowed.{split_while_still, drop_while_still}
 use Rattle.mm_awake.proofs.links.links_pass_while_still.Goals as goal
 
@@ -9,7 +9,10 @@ pub returns-clause-select : goal.returns-clause-select
 returns-clause-select c = λ target top up down many room offsets plan deep run end. on_while_still top (at_once_passes up down end (c.links_pass_at_once.ensures.select target up down many room offsets plan deep run end))
 
 pub returns-clause-cut : goal.returns-clause-cut
-returns-clause-cut c = λ longest top up down state run end. on_while_still top (at_once_passes up down end (c.links_pass_at_once.ensures.cut longest up down state run end))
+returns-clause-cut c = λ reach longest top up down state run end. on_while_still top (at_once_passes up down end (c.links_pass_at_once.ensures.cut reach longest up down state run end))
+
+pub returns-clause-gather : goal.returns-clause-gather
+returns-clause-gather c = λ target top up down many room state plan run end above. gather_while_still top up down (c.gather_passes_at_once.ensures.takes target up down many room state plan run) end above
 
 pub returns-clause-split : goal.returns-clause-split
 returns-clause-split c = split_while_still

@@ -8,6 +8,8 @@ laws c = record {
     wire = c.pass_is_a_link.ensures.link;
     cut = c.cut_is_a_link.ensures;
     select = c.select_is_a_link.ensures;
+    gather = c.gather_is_a_link.ensures;
+    lie = c.touches_lie_in_words.ensures.lie;
     split = c.split_is_a_link.ensures;
     drop = c.drop_is_a_link.ensures;
   };

@@ -1,5 +1,8 @@
 use Rattle.mm_awake.proofs.Pieces.{split_spent}
-use Rattle.mm_awake.proofs.Stirred.{select_stirs, cut_stirs, spent_above, spent_further}
+use Rattle.std.proofs.Common.{ap}
+use Rattle.histories.specs.History.{is_raised}
+use Rattle.mm_runs.specs.Views.{Levels}
+use Rattle.mm_awake.proofs.Stirred.{select_stirs, cut_stirs, gather_spent, spent_above, spent_further}
 use Rattle.mm_awake.proofs.links.what_is_swallowed_stirs.Goals as goal
 
 pub returns-clause-select : goal.returns-clause-select
@@ -7,6 +10,10 @@ returns-clause-select c = select_stirs
 
 pub returns-clause-cut : goal.returns-clause-cut
 returns-clause-cut c = cut_stirs
+
+pub returns-clause-gather : goal.returns-clause-gather
+returns-clause-gather c = λ target up down many room state plan run end.
+    gather_spent up down (c.gather_passes_at_once.ensures.takes target up down many room state plan run) (c.gather_passes_at_once.ensures.gives room up down state run) (λ k. ap (λ (l : Levels). is_raised l.write) (run.levels k)) end
 
 pub returns-clause-split : goal.returns-clause-split
 returns-clause-split c = split_spent

@@ -10,7 +10,7 @@ returns c = λ responses plan outside end is_plan suits fit. (
   where
     laws : Laws
     laws = record {
-      links = record { cut = c.cut_runs.ensures; select = c.select_runs.ensures; split = c.split_runs.ensures; drop = c.drop_runs.ensures };
+      links = record { cut = c.cut_runs.ensures; select = c.select_runs.ensures; gather = c.gather_runs.ensures; split = c.split_runs.ensures; drop = c.drop_runs.ensures };
       host = c.host_machine_runs.ensures;
       route = c.route_machine_runs.ensures;
       arbiter = c.arbiter_machine_runs.ensures;

@@ -23,14 +23,15 @@ returns c = λ responses system run ports states end plan machines rows legal ap
     let cuts = rows.cuts host agent low there row in
     let fits = rows.fits host agent low there row in
     let drops = rows.drops host agent low there row in
+    let gathers = rows.gathers host agent low there row in
     let stay = fair agent host there joined in
     record {
-      straight = c.rows_are_straight.ensures.straight target top middle last down end cuts fits drops settled.3 settled.0 settled.1 settled.2;
-      step = c.rows_are_straight.ensures.step target top middle last down end cuts fits drops settled.3 settled.0 settled.1 settled.2;
+      straight = c.rows_are_straight.ensures.straight target top middle last down end cuts fits drops gathers settled.3 settled.0 settled.1 settled.2;
+      step = c.rows_are_straight.ensures.step target top middle last down end cuts fits drops gathers settled.3 settled.0 settled.1 settled.2;
       prompt = by_kind (system.host host).has_burst
-          (λ none. c.rows_are_straight.ensures.single 30 (may_burst_to system host agent) target top middle last down end (omega arith) cuts fits drops settled.3
+          (λ none. c.rows_are_straight.ensures.single 30 (may_burst_to system host agent) target top middle last down end (omega arith) cuts fits drops gathers settled.3
           (single_behind_route system run host agent (ports.after_host host) (ports.after_route host) end there (parts.host host low) (parts.route host low)
           (λ k h shown. c.single_writes_begin.ensures.ends top end settled.0 (ap (λ s. s.burst_bits) ((parts.route host low).shape agent there) ∙ (machines.host host low).bursts ∙ plan.plain host low none) k h shown)) settled.0 settled.1 settled.2)
-          (λ bursts. c.rows_are_straight.ensures.prompt 30 (may_burst_to system host agent) target top middle last down end (omega arith) cuts fits drops settled.3
+          (λ bursts. c.rows_are_straight.ensures.prompt 30 (may_burst_to system host agent) target top middle last down end (omega arith) cuts fits drops gathers settled.3
           (wired_for_bursts target last down (system.host host).has_enables drops (λ none. stay none bursts)) settled.0 settled.1 settled.2);
     })

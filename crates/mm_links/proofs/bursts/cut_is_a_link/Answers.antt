@@ -4,5 +4,5 @@ use Rattle.mm_links.proofs.CutParts.{cutting}
 use Rattle.mm_links.proofs.bursts.cut_is_a_link.Goals as goal
 
 pub returns : goal.returns
-returns c = λ target longest up down state end plan run.
-    cut_is_link c.wire_is_a_row.ensures.row target up down end (subst (λ n. 0 < n) (sym plan.same) plan.some) (λ k h legal. cutting target longest up down state plan run k legal)
+returns c = λ target reach longest up down state end plan run.
+    cut_is_link c.wire_is_a_row.ensures.row target up down end (subst (λ n. 0 < n) (sym plan.same) plan.some) (λ k h legal. cutting target reach longest up down state plan run k legal)

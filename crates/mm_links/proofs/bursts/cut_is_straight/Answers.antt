@@ -3,4 +3,4 @@ use Rattle.mm_links.proofs.CutStraight.{cut_is_straight}
 use Rattle.mm_links.proofs.bursts.cut_is_straight.Goals as goal
 
 pub returns : goal.returns
-returns c = λ target longest up down state end plan run. cut_is_straight target up down end (cutting target longest up down state plan run end)
+returns c = λ target reach longest up down state end plan run. cut_is_straight target up down end (cutting target reach longest up down state plan run end)

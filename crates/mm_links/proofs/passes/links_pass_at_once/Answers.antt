@@ -7,7 +7,7 @@ returns-clause-select c = λ target up down many room offsets plan deep run end.
     select_passes (λ narrow wide target span may beat lies. c.beat_is_selected.ensures narrow wide target span may beat lies) target up down many room offsets plan deep run end
 
 pub returns-clause-cut : goal.returns-clause-cut
-returns-clause-cut c = λ longest up down state run end. cutter_passes up down (is_sending state) run.accepts run.valid end
+returns-clause-cut c = λ reach longest up down state run end. cutter_passes up down (is_sending state) run.accepts run.valid end
 
 pub returns-clause-split : goal.returns-clause-split
 returns-clause-split c = λ target room count up down state may run end legal act. split_passes c.beat_is_pieces.ensures target room count up down state may run end legal act
