@@ -12,3 +12,4 @@ pub mod Places
 pub mod PlaceLaws
 pub mod PlaceRows
 pub mod RowLaws
+pub mod Memories

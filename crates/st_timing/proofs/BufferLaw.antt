@@ -20,7 +20,7 @@ use Rattle.item_queues.specs.Queues.{IsInOrder, MayMove, HasMoved, held_in}
 use Rattle.stage_core.specs.declared.beat.BeatNets.{BeatNets}
 use Rattle.stage_core.specs.Beats.{view_of, ShowSame, beat_in, group_of}
 use Rattle.stage_core.specs.BeatPlaces.{place_nets, beat_of}
-use Rattle.stage_core.specs.Memories.{SameWords}
+use Rattle.net_parts.specs.Memories.{SameWords}
 use Rattle.stage_core.specs.Law.{KeepsShape, ReadyPasses}
 use Rattle.stage_core.specs.StoredLaw.{one_dropped, one_more, shown_some, shows_items, stored_ignores}
 use Rattle.st_timing.specs.declared.buffer.BufferKept.{BufferKept}

@@ -12,7 +12,7 @@ use Rattle.stage_core.specs.declared.beat.BeatNets.{BeatNets}
 use Rattle.stage_core.specs.Beats.{view_of, ShowSame}
 use Rattle.stage_core.specs.Law.{KeepsShape, ReadyPasses}
 use Rattle.stage_core.specs.Between.{pass_between}
-use Rattle.stage_core.specs.Memories.{SameWords}
+use Rattle.net_parts.specs.Memories.{SameWords}
 use Rattle.st_timing.specs.declared.timing.Timing.{Timing}
 use Rattle.st_timing.specs.declared.timing.Timing.TheVariants.{Tie, Buffer, Wire}
 use Rattle.st_timing.specs.declared.timing.TimingKept.{TimingKept}

@@ -12,7 +12,7 @@ use Rattle.stage_core.specs.Law.{KeepsShape, ReadyPasses, unranked}
 use Rattle.stage_core.specs.PassNets.{IsPassShape}
 use Rattle.stage_core.specs.ChainNets.{ShapesFit}
 use Rattle.stage_core.specs.MaybeNets.{forward_of}
-use Rattle.stage_core.specs.Memories.{SameWords}
+use Rattle.net_parts.specs.Memories.{SameWords}
 
 -- ---- a stage of no nets
 

@@ -7,7 +7,7 @@ use Rattle.stage_core.specs.declared.beat.BeatNets.{BeatNets}
 use Rattle.stage_core.specs.declared.queue.FifoKept.{FifoKept}
 use Rattle.stage_core.specs.declared.queue.FifoKept.TheVariants.{Wire, Stored}
 use Rattle.stage_core.specs.Beats.{ShowSame}
-use Rattle.stage_core.specs.Memories.{SameWords}
+use Rattle.net_parts.specs.Memories.{SameWords}
 use Rattle.stage_core.specs.Queued.{QueuesInLonger}
 use Rattle.stage_core.specs.FifoNets.{fifo_owns, fifo_owns_memories, FifoForward, FifoBackward}
 use Rattle.stage_core.specs.QueueLaw.{wire_queues}

@@ -9,7 +9,6 @@ pub mod Queued
 pub mod PassNets
 pub mod ChainNets
 pub mod MaybeNets
-pub mod Memories
 pub mod RegisterNets
 pub mod Between
 pub mod QueueLaw

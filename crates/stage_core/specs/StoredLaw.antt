@@ -17,7 +17,7 @@ use Rattle.stage_core.specs.declared.stored_queue.StoredKept.{StoredKept}
 use Rattle.stage_core.specs.Beats.{view_of, ShowSame, beat_in, group_of}
 use Rattle.stage_core.specs.BeatPlaces.{place_nets, first_value, beat_of, shown_of, values_shown}
 use Rattle.stage_core.specs.BeatLaws.{show_same, all_same}
-use Rattle.stage_core.specs.Memories.{SameWords}
+use Rattle.net_parts.specs.Memories.{SameWords}
 use Rattle.stage_core.specs.StoredNets.{StoredForward, StoredBackward, stored_forward_lasts, stored_backward_lasts}
 use Rattle.stage_core.specs.Queued.{QueuesInLonger}
 

@@ -12,7 +12,7 @@ ghost use Rattle.stage_core.specs.Beats.{Widths, widths_of, AreBeatNets, ShowSam
 ghost use Rattle.net_parts.specs.Nets.{IsBit};
 ghost use Rattle.net_parts.specs.Growth.{StillWait, WaitsBeside, WaitsWithout, AreMadeBetween};
 ghost use Rattle.stage_core.specs.Law.{KeepsShape, ReadyPasses};
-ghost use Rattle.stage_core.specs.Memories.{ForwardGrows, ForwardMemories, BackwardGrows, BackwardMemories, SameWords};
+ghost use Rattle.net_parts.specs.Memories.{ForwardGrows, ForwardMemories, BackwardGrows, BackwardMemories, SameWords};
 
 use crate::beat::BeatNets;
 use netlist::{Builder, Net, NetFault};

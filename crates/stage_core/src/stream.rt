@@ -5,7 +5,7 @@ ghost use Rattle.stream_machines.specs.Stage.{Shape};
 ghost use Rattle.stage_core.specs.Beats.{widths_of, AreBeatNets};
 ghost use Rattle.net_parts.specs.Nets.{IsBit};
 ghost use Rattle.net_parts.specs.Growth.{StillWait, StillWaitForWrite};
-ghost use Rattle.stage_core.specs.Memories.{ForwardGrows};
+ghost use Rattle.net_parts.specs.Memories.{ForwardGrows};
 ghost use Rattle.stage_core.specs.Law.{Stands, KeepsInLonger, PassesInLonger, IgnoresInLonger};
 
 use crate::beat::BeatNets;

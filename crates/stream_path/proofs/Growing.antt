@@ -4,7 +4,7 @@ use Rattle.netlist.specs.declared.line.Memory.{Memory}
 use Rattle.netlist.specs.Netlists.{Netlist}
 use Rattle.net_parts.specs.Growth.{GrowsBy, AddsNets, GrowsInMemory, StillWaitForWrite}
 use Rattle.net_parts.specs.Laws.{grows_without_memory, memory_grows_twice}
-use Rattle.stage_core.specs.Memories.{memory_grows_fewer}
+use Rattle.net_parts.specs.Memories.{memory_grows_fewer}
 
 -- nets without memories, and those of stages with no more than so many, in either order
 pub without_memories : (k n r : ℕ) (a b : Netlist) → GrowsBy k a b → k ≤ n → GrowsInMemory n r a b

@@ -1,6 +1,6 @@
 use Rattle.std.proofs.Common.{ap, ◌∙◌}
 use Rattle.stage_core.specs.declared.beat.BeatNets.{BeatNets}
-use Rattle.stage_core.specs.Memories.{forward_grown}
+use Rattle.net_parts.specs.Memories.{forward_grown}
 use Rattle.adapters_tests.proofs.Ports.{adds_no_wait}
 use Rattle.adapters_tests.proofs.builders.grow.Goals as goal
 

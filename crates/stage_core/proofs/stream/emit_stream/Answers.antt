@@ -1,7 +1,7 @@
 use Rattle.std.proofs.Common.{inl, inr, arith}
 use Rattle.stage_core.specs.Lasting.{beat_lasts}
 use Rattle.net_parts.specs.Laws.{net_lasts, extends_twice, owned_same, waiting_within}
-use Rattle.stage_core.specs.Memories.{forward_grown, forward_fewer, backward_grown, stage_grown, memories_come, memories_settle, memory_within}
+use Rattle.net_parts.specs.Memories.{forward_grown, forward_fewer, backward_grown, both_grown, memories_come, memories_settle, memory_within}
 use Rattle.stage_core.proofs.stream.emit_stream.Goals as goal
 
 pub returns-clause-stands : goal.returns-clause-stands
@@ -48,10 +48,10 @@ pub returns-in_err-beat-clause-grows : goal.returns-in_err-beat-clause-grows
 returns-in_err-beat-clause-grows g c = forward_fewer _ _ _ _ _ _ (omega arith) (omega arith) c.emit_forward.ensures.grows
 
 pub returns-in_err-ready-clause-grows : goal.returns-in_err-ready-clause-grows
-returns-in_err-ready-clause-grows g c = stage_grown _ _ _ _ _ _ c.emit_forward.ensures.grows c.emit_backward.ensures.grows
+returns-in_err-ready-clause-grows g c = both_grown _ _ _ _ _ _ c.emit_forward.ensures.grows c.emit_backward.ensures.grows
 
 pub returns-clause-grows : goal.returns-clause-grows
-returns-clause-grows g c = stage_grown _ _ _ _ _ _ c.emit_forward.ensures.grows c.emit_backward.ensures.grows
+returns-clause-grows g c = both_grown _ _ _ _ _ _ c.emit_forward.ensures.grows c.emit_backward.ensures.grows
 
 pub returns-clause-no_more_wait : goal.returns-clause-no_more_wait
 returns-clause-no_more_wait g c n w =

@@ -1,7 +1,7 @@
 use Rattle.std.proofs.Common.{◌≡◌, arith, rules}
 use Rattle.std.proofs.lemmas.Result.{IfOk-weaker}
 use Rattle.stage_core.specs.Beats.{widths_of}
-use Rattle.stage_core.specs.Memories.{memory_grows_fewer, forward_grown}
+use Rattle.net_parts.specs.Memories.{memory_grows_fewer, forward_grown}
 use Rattle.stream_path.specs.Parts.{source_of, sink_of}
 use Rattle.stream_path.proofs.Fronts.{carries}
 use Rattle.stream_path.proofs.Opens.{whole, takes_in}

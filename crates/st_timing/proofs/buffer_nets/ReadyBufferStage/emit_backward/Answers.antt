@@ -6,7 +6,7 @@ use Rattle.item_queues.specs.Queues.{IsQueueMade, StepsQueue}
 use Rattle.item_queues.specs.Laws.{queue_lasts}
 use Rattle.stage_core.specs.Lasting.{beat_lasts}
 use Rattle.stage_core.specs.BeatPlaces.{place_are}
-use Rattle.stage_core.specs.Memories.{waits_where_same, memory_grows_fewer}
+use Rattle.net_parts.specs.Memories.{waits_where_same, memory_grows_fewer}
 use Rattle.stage_core.specs.Refusing.{handed_on}
 use Rattle.st_timing.specs.PromiseNets.{promises_last, going_lasts}
 use Rattle.st_timing.proofs.Moving.{moving_high}

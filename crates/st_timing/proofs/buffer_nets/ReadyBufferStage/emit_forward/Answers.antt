@@ -3,7 +3,7 @@ use Rattle.netlist.specs.Netlists.{IsWaiting}
 use Rattle.netlist.specs.declared.line.Memory.{Memory}
 use Rattle.net_parts.specs.Laws.{grows_without_memory, memory_grows_twice}
 use Rattle.stage_core.specs.Lasting.{beat_lasts}
-use Rattle.stage_core.specs.Memories.{waits_where_same, memory_grows_fewer}
+use Rattle.net_parts.specs.Memories.{waits_where_same, memory_grows_fewer}
 use Rattle.stage_core.specs.Refusing.{handed_on}
 use Rattle.stage_core.specs.StoredNets.{StoredKeeps, StoredForward, stored_keeps_lasts, stored_forward_lasts}
 use Rattle.st_timing.proofs.buffer_nets.ReadyBufferStage.emit_forward.Goals as goal

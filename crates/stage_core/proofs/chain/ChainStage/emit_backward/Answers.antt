@@ -1,7 +1,7 @@
 use Rattle.std.proofs.Common.{◌⊎◌, inl, inr, arith}
 use Rattle.net_parts.specs.Growth.{WaitsWithout}
 use Rattle.net_parts.specs.Laws.{on_ok}
-use Rattle.stage_core.specs.Memories.{BackwardMemories, backward_grown, backward_fewer, backward_twice, backward_memories, memories_settle}
+use Rattle.net_parts.specs.Memories.{BackwardMemories, backward_grown, backward_fewer, backward_twice, backward_memories, memories_settle}
 use Rattle.stage_core.proofs.chain.ChainStage.emit_backward.Goals as goal
 
 pub returns-clause-no_more_wait : goal.returns-clause-no_more_wait

@@ -1,5 +1,5 @@
 use Rattle.std.proofs.Common.{sym, subst, ap, ◌∙◌, inl, inr, arith}
-use Rattle.stage_core.specs.Memories.{forward_grown, forward_fewer, forward_twice, forward_memories, memories_come}
+use Rattle.net_parts.specs.Memories.{forward_grown, forward_fewer, forward_twice, forward_memories, memories_come}
 use Rattle.stage_core.proofs.chain.ChainStage.emit_forward.Goals as goal
 
 pub returns-clause-kept : goal.returns-clause-kept

@@ -3,7 +3,7 @@ use Rattle.std.specs.Prelude.{Some, IsSomeAnd, unwrap_or, option_map}
 use Rattle.net_parts.specs.Growth.{WaitsWithout}
 use Rattle.net_parts.specs.Laws.{if_ok, on_ok}
 use Rattle.stage_core.specs.MaybeNets.{kept_of, backward_of}
-use Rattle.stage_core.specs.Memories.{BackwardGrows, BackwardMemories}
+use Rattle.net_parts.specs.Memories.{BackwardGrows, BackwardMemories}
 use Rattle.stage_core.proofs.maybe.MaybeStage.emit_backward.Goals as goal
 
 pub emit_backward-requires-clause-kept : goal.emit_backward-requires-clause-kept

@@ -1,6 +1,6 @@
 use Rattle.std.proofs.Common.{sym, subst, ap, ◌∙◌}
 use Rattle.std.specs.Prelude.{Some, unwrap_or, option_map}
-use Rattle.stage_core.specs.Memories.{ForwardGrows, ForwardMemories}
+use Rattle.net_parts.specs.Memories.{ForwardGrows, ForwardMemories}
 use Rattle.stage_core.specs.Beats.{widths_of}
 use Rattle.stage_core.specs.MaybeNets.{kept_of, forward_of}
 use Rattle.stage_core.proofs.maybe.MaybeStage.emit_forward.Goals as goal

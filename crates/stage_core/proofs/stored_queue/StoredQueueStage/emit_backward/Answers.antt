@@ -6,7 +6,7 @@ use Rattle.item_queues.specs.Queues.{IsQueueMade, StepsQueue}
 use Rattle.item_queues.specs.Laws.{queue_lasts}
 use Rattle.stage_core.specs.Lasting.{beat_lasts}
 use Rattle.stage_core.specs.BeatPlaces.{place_are}
-use Rattle.stage_core.specs.Memories.{waits_where_same}
+use Rattle.net_parts.specs.Memories.{waits_where_same}
 use Rattle.stage_core.proofs.stored_queue.StoredQueueStage.emit_backward.Goals as goal
 
 pub finish_queue-requires : goal.finish_queue-requires

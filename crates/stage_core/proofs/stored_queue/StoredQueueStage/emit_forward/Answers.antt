@@ -10,7 +10,7 @@ use Rattle.item_queues.specs.Queues.{IsQueueMade, held_in}
 use Rattle.item_queues.specs.Storages.{shown_oldest}
 use Rattle.stage_core.specs.Lasting.{beat_lasts}
 use Rattle.stage_core.specs.BeatPlaces.{place_are, beat_are, place_widths}
-use Rattle.stage_core.specs.Memories.{waits_where_same}
+use Rattle.net_parts.specs.Memories.{waits_where_same}
 use Rattle.stage_core.proofs.stored_queue.StoredQueueStage.emit_forward.Goals as goal
 
 pub make_queue-requires : goal.make_queue-requires

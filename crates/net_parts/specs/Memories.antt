@@ -1,4 +1,4 @@
--- The memories of a stage: its first call makes them, and its second gives them their writes.
+-- The memories of a part that is made by two calls: the first makes them, and the second gives them their writes.
 use Rattle.std.proofs.Common.{◌≡◌, ℕ, zero, suc, ◌+◌, ◌^◌, ◌<◌, ◌≤◌, ◌⊎◌, List, [], ◌∷◌, length, slice_get, Some, refl, sym, subst, inl, inr, arith}
 use Rattle.std.proofs.lemmas.Option.{slice_get_within}
 use Rattle.netlist.specs.declared.line.Memory.{Memory}
@@ -10,7 +10,7 @@ use Rattle.net_parts.specs.Laws.{grows_twice, grows_fewer, grows_without_memory,
 
 -- ---- the first call
 
--- the netlist grew by so many nets at most, and where the stage has memories, by no more of them; else they are the same
+-- the netlist grew by so many nets at most, and where the part has memories, by no more of them; else they are the same
 abbrev pub ForwardGrows : ℕ → ℕ → Netlist → Netlist → Type 0
 ForwardGrows zero nets old new = GrowsBy nets old new
 ForwardGrows (suc more) nets old new = GrowsInMemory nets (suc more) old new
@@ -22,7 +22,7 @@ pub record MemoriesCome (made : ℕ → Type 0) (old new : Netlist) : Type 0 whe
   pub still : StillWaitForWrite old new
   pub newly : WriteWaitsBeside made old new
 
--- a stage without memories has none of these
+-- a part without memories has none of these
 abbrev pub ForwardMemories : ℕ → (ℕ → Type 0) → Netlist → Netlist → Type 0
 ForwardMemories zero made old new = (m : ℕ) → ¬ made m
 ForwardMemories (suc more) made old new = MemoriesCome made old new
@@ -94,9 +94,9 @@ backward_twice zero (suc r) n m a b c p q = subst (λ k. BackwardGrows k (m + n)
 backward_twice (suc k) r n m a b c p q = subst (λ t. BackwardGrows t (m + n) a c) (sym (more k r)) (memory_grows_twice m n 0 0 a b c (backward_grown r m a b p) q)
 
 -- both calls
-pub stage_grown : (k n m : ℕ) (a b c : Netlist) → ForwardGrows k n a b → BackwardGrows k m b c → ForwardGrows k (n + m) a c
-stage_grown zero n m a b c p q = grows_twice n m a b c p q
-stage_grown (suc k) n m a b c p q = memory_grows_fewer (n + m) (n + m) (suc k + 0) (suc k) a c (omega arith) (omega arith) (memory_grows_twice n m (suc k) 0 a b c p q)
+pub both_grown : (k n m : ℕ) (a b c : Netlist) → ForwardGrows k n a b → BackwardGrows k m b c → ForwardGrows k (n + m) a c
+both_grown zero n m a b c p q = grows_twice n m a b c p q
+both_grown (suc k) n m a b c p q = memory_grows_fewer (n + m) (n + m) (suc k + 0) (suc k) a c (omega arith) (omega arith) (memory_grows_twice n m (suc k) 0 a b c p q)
 
 pub waits_where_same : (a b : Netlist) → b.memories ≡ a.memories → (m : ℕ) → WaitsForWrite a m → WaitsForWrite b m
 waits_where_same a b e m w = record { memory = w.memory; is = subst (λ (ms : List Memory). slice_get ms m ≡ Some w.memory) (sym e) w.is; waits = w.waits }
