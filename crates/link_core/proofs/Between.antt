@@ -1,15 +1,17 @@
 -- The laws of links between the views of nets.
 use Rattle.std.proofs.Common.{◌≡◌, ℕ, ◌<◌, sym, subst, Option, Some, None, Bool, false}
+use Rattle.std.specs.Prelude.{IsSomeAnd}
 use Rattle.netlist.specs.Nets.{NetValue}
 use Rattle.netlist.specs.Netlists.{Netlist}
-use Rattle.netlist.specs.Runs.{Run}
+use Rattle.netlist.specs.Runs.{Run, Cycle}
 use Rattle.mm_runs.specs.Views.{Shape}
 use Rattle.mm_machines.specs.Link.{Target, Port}
 use Rattle.mm_links.specs.InStep.{GoesInStep}
 use Rattle.mm_links.specs.Links.{LinkForm, IsLink, IsStraightLink, pass_form, chain_form}
 use Rattle.command_nets.specs.declared.nets.CommandNets.{CommandNets}
 use Rattle.command_nets.specs.declared.nets.AnswerNets.{AnswerNets}
-use Rattle.command_nets.specs.Nets.{port_in}
+use Rattle.command_nets.specs.Nets.{port_in, ShowSame}
+use Rattle.net_parts.specs.Memories.{SameWords}
 use Rattle.link_core.specs.Form.{Form, FormsFit, KeepsLaw, KeepsStraight, form_of_chain}
 use Rattle.link_core.specs.ChainNets.{HasMiddle}
 use Rattle.link_core.specs.MaybeNets.{command_of, answer_of}
@@ -77,3 +79,10 @@ pub of_some : {L H : Type 0} (command_in : L → CommandNets → CommandNets →
     ((held : H) → command_in link from to held netlist → answer_in link held wait answer up back netlist → P) → command_of command_in (Some link) from to kept netlist → answer_of answer_in (Some link) kept wait answer up back netlist → P
 of_some command_in answer_in link from to (Some held) wait up answer back netlist P law f b = law held f b
 of_some command_in answer_in link from to None wait up answer back netlist P law f b = absurd f
+
+-- a link that may be left out shows the same where its part does
+pub kept_ignores : {L H : Type 0} (command_in : L → CommandNets → CommandNets → H → Netlist → Type 0) (owns memories : H → ℕ → Type 0) (link : L) (from to : CommandNets) (kept : Option H) (netlist : Netlist) (one other : Cycle) →
+    ((held : H) → command_in link from to held netlist → ((n : ℕ) → owns held n → one.net n ≡ other.net n) → SameWords (memories held) netlist one other → ShowSame from one other → ShowSame to one other) →
+    command_of command_in (Some link) from to kept netlist → ((n : ℕ) → IsSomeAnd kept (λ held. owns held n) → one.net n ≡ other.net n) → SameWords (λ m. IsSomeAnd kept (λ held. memories held m)) netlist one other → ShowSame from one other → ShowSame to one other
+kept_ignores command_in owns memories link from to (Some held) netlist one other law f state words same = law held f state words same
+kept_ignores command_in owns memories link from to None netlist one other law f state words same = absurd f

@@ -4,7 +4,6 @@ mod LineBetween
 mod OneTag
 mod PipeLaw
 mod Raised
-mod RowLaw
 mod StageLaw
 mod StagesAsPipe
 mod StagesInRow

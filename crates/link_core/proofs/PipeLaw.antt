@@ -42,6 +42,10 @@ all_stages each (suc (suc (suc zero))) few = omega arith
 all_stages each (suc (suc (suc (suc zero)))) few = omega arith
 all_stages each (suc (suc (suc (suc (suc stages))))) few = absurd (omega (arith, few))
 
+-- stages have no memories
+pub none_stored : (stages : ℕ) → stages ≤ 4 → for_pipe 0 (pipe_of stages) ≡ 0
+none_stored stages few = let none = all_stages 0 stages few in omega (arith, none)
+
 -- ---- the forms
 
 -- both sides have this shape, and words go through one by one

@@ -21,11 +21,12 @@ pub record IsStraightChainOf (firsts seconds : Form → Type 0) (form : Form) : 
   pub agent : chain.first.link.target.shape.word_bytes ≡ chain.first.up.word_bytes
   pub between : chain.first.down.word_bytes ≡ chain.first.up.word_bytes
 
--- both parts are kept, and their registers are apart
-pub record AreBothKept (one two : Netlist → Type 0) (ones twos : ℕ → Type 0) (netlist : Netlist) : Type 0 where
+-- both parts are kept, and their registers and memories are apart
+pub record AreBothKept (one two : Netlist → Type 0) (ones twos one_memories two_memories : ℕ → Type 0) (netlist : Netlist) : Type 0 where
   pub first : one netlist
   pub second : two netlist
   pub apart : (n : ℕ) → ones n → ¬ twos n
+  pub memories_apart : (m : ℕ) → one_memories m → ¬ two_memories m
 
 -- between the two parts there is something that the first leads to and the second starts from
 pub record HasMiddle {X : Type 0} (before behind : X → Type 0) : Type 0 where

@@ -8,3 +8,4 @@ pub mod PipeForms
 pub mod PipeNets
 pub mod Rows
 pub mod StageNets
+pub mod Rooms

@@ -1,7 +1,7 @@
 -- A link where one is needed, and else nothing.
 use Rattle.std.specs.Prelude.{◌≡◌, ℕ, Option, Some, None, IsSomeAnd}
 use Rattle.netlist.specs.Nets.{NetValue}
-use Rattle.netlist.specs.Netlists.{Netlist, IsWaiting}
+use Rattle.netlist.specs.Netlists.{Netlist, IsWaiting, WaitsForWrite}
 use Rattle.netlist.specs.Longer.{Extends}
 use Rattle.command_nets.specs.declared.nets.CommandNets.{CommandNets}
 use Rattle.command_nets.specs.declared.nets.AnswerNets.{AnswerNets}
@@ -26,6 +26,10 @@ kept_of is_kept (Some link) None netlist = ⊥
 kept_of is_kept None (Some held) netlist = ⊥
 kept_of is_kept None None netlist = Unit {0}
 
+-- what is kept of a part without memories owns none
+abbrev pub stores_none : {H : Type 0} → Option H → ℕ → Type 0
+stores_none kept m = IsSomeAnd kept (λ held. ⊥)
+
 -- after the first call
 abbrev pub command_of : {L H : Type 0} → (L → CommandNets → CommandNets → H → Netlist → Type 0) → Option L → CommandNets → CommandNets → Option H → Netlist → Type 0
 command_of command_in (Some link) from to (Some held) netlist = command_in link from to held netlist
@@ -40,13 +44,18 @@ answer_of answer_in None kept wait answer up back netlist = (up ≡ wait) × (ba
 
 -- ---- what stands lasts. No contract reads these proofs; the law of the link cites them
 
-pub kept_lasts : {L H : Type 0} (is_kept : L → H → Netlist → Type 0) (owns : H → ℕ → Type 0) →
-    ((link : L) (held : H) (old new : Netlist) → is_kept link held old → Extends old new → ((n : ℕ) → owns held n → IsWaiting old n → IsWaiting new n) → is_kept link held new) →
-    (link : Option L) (kept : Option H) (old new : Netlist) → kept_of is_kept link kept old → Extends old new → ((n : ℕ) → IsSomeAnd kept (λ held. owns held n) → IsWaiting old n → IsWaiting new n) → kept_of is_kept link kept new
-kept_lasts is_kept owns lasts (Some link) (Some held) old new h e w = lasts link held old new h e w
-kept_lasts is_kept owns lasts (Some link) None old new h e w = h
-kept_lasts is_kept owns lasts None (Some held) old new h e w = h
-kept_lasts is_kept owns lasts None None old new h e w = h
+pub none_stored : {H : Type 0} (kept : Option H) (m : ℕ) → ¬ stores_none kept m
+none_stored (Some held) m o = o
+none_stored None m o = o
+
+pub kept_lasts : {L H : Type 0} (is_kept : L → H → Netlist → Type 0) (owns owns_memories : H → ℕ → Type 0) →
+    ((link : L) (held : H) (old new : Netlist) → is_kept link held old → Extends old new → ((n : ℕ) → owns held n → IsWaiting old n → IsWaiting new n) → ((m : ℕ) → owns_memories held m → WaitsForWrite old m → WaitsForWrite new m) → is_kept link held new) →
+    (link : Option L) (kept : Option H) (old new : Netlist) → kept_of is_kept link kept old → Extends old new → ((n : ℕ) → IsSomeAnd kept (λ held. owns held n) → IsWaiting old n → IsWaiting new n) →
+    ((m : ℕ) → IsSomeAnd kept (λ held. owns_memories held m) → WaitsForWrite old m → WaitsForWrite new m) → kept_of is_kept link kept new
+kept_lasts is_kept owns owns_memories lasts (Some link) (Some held) old new h e w v = lasts link held old new h e w v
+kept_lasts is_kept owns owns_memories lasts (Some link) None old new h e w v = h
+kept_lasts is_kept owns owns_memories lasts None (Some held) old new h e w v = h
+kept_lasts is_kept owns owns_memories lasts None None old new h e w v = h
 
 pub command_lasts : {L H : Type 0} (command_in : L → CommandNets → CommandNets → H → Netlist → Type 0) →
     ((link : L) (from to : CommandNets) (held : H) (old new : Netlist) → command_in link from to held old → Extends old new → command_in link from to held new) →

@@ -1,5 +1,6 @@
 -- A pipe of 0 to 4 stages: what its two calls leave in a netlist.
 use Rattle.std.specs.Prelude.{◌≡◌, ◌⊎◌, ◌+◌, ◌<◌, ℕ, Option, IsSomeAnd}
+use Rattle.std.proofs.Common.{inl, inr}
 use Rattle.netlist.specs.Nets.{NetValue}
 use Rattle.netlist.specs.Netlists.{Netlist, IsWaiting}
 use Rattle.netlist.specs.Runs.{Run, IsEndlessRun}
@@ -14,7 +15,7 @@ use Rattle.link_core.specs.declared.stage.PipeStage.{PipeStage}
 use Rattle.link_core.specs.declared.stage.StageKept.{StageKept}
 use Rattle.link_core.specs.ChainNets.{AreBothKept, HasMiddle}
 use Rattle.link_core.specs.Lines.{RunsAsStages}
-use Rattle.link_core.specs.MaybeNets.{kept_of, command_of}
+use Rattle.link_core.specs.MaybeNets.{kept_of, stores_none, command_of, none_stored}
 use Rattle.link_core.specs.MaybeNets as maybe
 use Rattle.link_core.specs.PipeForms.{stage_if}
 use Rattle.link_core.specs.StageNets.{StageKeeps, StageCommand, stage_keeps_lasts, stage_command_lasts}
@@ -43,9 +44,9 @@ owns kept n = ((stage_owns kept.0.0.0 n ⊎ stage_owns kept.0.0.1 n) ⊎ stage_o
 -- between the calls
 abbrev pub PipeKeeps : ℕ → PipeKept → Netlist → Type 0
 PipeKeeps stages kept netlist =
-    let two = AreBothKept (stage_keeps (stage_if stages 0) kept.0.0.0) (stage_keeps (stage_if stages 1) kept.0.0.1) (stage_owns kept.0.0.0) (stage_owns kept.0.0.1) in
-    let three = AreBothKept two (stage_keeps (stage_if stages 2) kept.0.1) (λ n. stage_owns kept.0.0.0 n ⊎ stage_owns kept.0.0.1 n) (stage_owns kept.0.1) in
-    AreBothKept three (stage_keeps (stage_if stages 3) kept.1) (λ n. (stage_owns kept.0.0.0 n ⊎ stage_owns kept.0.0.1 n) ⊎ stage_owns kept.0.1 n) (stage_owns kept.1) netlist
+    let two = AreBothKept (stage_keeps (stage_if stages 0) kept.0.0.0) (stage_keeps (stage_if stages 1) kept.0.0.1) (stage_owns kept.0.0.0) (stage_owns kept.0.0.1) (stores_none kept.0.0.0) (stores_none kept.0.0.1) in
+    let three = AreBothKept two (stage_keeps (stage_if stages 2) kept.0.1) (λ n. stage_owns kept.0.0.0 n ⊎ stage_owns kept.0.0.1 n) (stage_owns kept.0.1) (λ m. stores_none kept.0.0.0 m ⊎ stores_none kept.0.0.1 m) (stores_none kept.0.1) in
+    AreBothKept three (stage_keeps (stage_if stages 3) kept.1) (λ n. (stage_owns kept.0.0.0 n ⊎ stage_owns kept.0.0.1 n) ⊎ stage_owns kept.0.1 n) (stage_owns kept.1) (λ m. (stores_none kept.0.0.0 m ⊎ stores_none kept.0.0.1 m) ⊎ stores_none kept.0.1 m) (stores_none kept.1) netlist
 
 -- after the first call
 abbrev pub PipeCommand : ℕ → CommandNets → CommandNets → PipeKept → Netlist → Type 0
@@ -73,8 +74,16 @@ pub record IsLaterBy (netlist : Netlist) (count : ℕ) (from net : NetValue) : T
 
 -- ---- what stands lasts. No contract reads these proofs
 
+-- a pipe has no memories
+pub none_kept : (kept : PipeKept) (m : ℕ) → ¬ (((stores_none kept.0.0.0 m ⊎ stores_none kept.0.0.1 m) ⊎ stores_none kept.0.1 m) ⊎ stores_none kept.1 m)
+none_kept kept m o =
+    elim o [
+      | inl three ↦ elim three [ inl two ↦ elim two [ inl one ↦ none_stored kept.0.0.0 m one | inr one ↦ none_stored kept.0.0.1 m one ] | inr one ↦ none_stored kept.0.1 m one ]
+      | inr one ↦ none_stored kept.1 m one
+    ]
+
 stage_lasts : (stage : Option PipeStage) (kept : Option StageKept) (old new : Netlist) → stage_keeps stage kept old → Extends old new → StillWait old new → stage_keeps stage kept new
-stage_lasts stage kept old new h e w = maybe.kept_lasts (λ s held netlist. StageKeeps held netlist) (λ held n. IsOfCommand held.first n ⊎ IsOfCommand held.second n) (λ s held old new h e w. stage_keeps_lasts held old new h e w) stage kept old new h e (λ n o. w n)
+stage_lasts stage kept old new h e w = maybe.kept_lasts (λ s held netlist. StageKeeps held netlist) (λ held n. IsOfCommand held.first n ⊎ IsOfCommand held.second n) (λ held m. ⊥) (λ s held old new h e w v. stage_keeps_lasts held old new h e w) stage kept old new h e (λ n o. w n) (λ m o. absurd (none_stored kept m o))
 
 stage_made_lasts : (stage : Option PipeStage) (from to : CommandNets) (kept : Option StageKept) (old new : Netlist) → stage_command stage from to kept old → Extends old new → stage_command stage from to kept new
 stage_made_lasts stage from to kept old new h e = maybe.command_lasts (λ s from to held netlist. StageCommand from to held netlist) (λ s from to held old new h e. stage_command_lasts from to held old new h e) stage from to kept old new h e
@@ -86,12 +95,15 @@ keeps_lasts stages kept old new h e w = record {
       first = stage_lasts (stage_if stages 0) kept.0.0.0 old new h.first.first.first e w;
       second = stage_lasts (stage_if stages 1) kept.0.0.1 old new h.first.first.second e w;
       apart = h.first.first.apart;
+      memories_apart = h.first.first.memories_apart;
     };
     second = stage_lasts (stage_if stages 2) kept.0.1 old new h.first.second e w;
     apart = h.first.apart;
+    memories_apart = h.first.memories_apart;
   };
   second = stage_lasts (stage_if stages 3) kept.1 old new h.second e w;
   apart = h.apart;
+  memories_apart = h.memories_apart;
 }
 
 pub command_lasts : (stages : ℕ) (from to : CommandNets) (kept : PipeKept) (old new : Netlist) → PipeCommand stages from to kept old → Extends old new → PipeCommand stages from to kept new

@@ -1,14 +1,10 @@
 -- Links that are begun: what each one has left stands in the netlist, and their registers are apart.
 use Rattle.std.specs.Prelude.{◌≡◌, ◌⊎◌, ◌++◌, ℕ, List, [], ◌∷◌}
-use Rattle.netlist.specs.Nets.{NetValue}
 use Rattle.netlist.specs.Netlists.{Netlist, IsWaiting}
-use Rattle.netlist.specs.Runs.{Run, Cycle, IsEndlessRun, IsValuation, SameState}
+use Rattle.netlist.specs.Runs.{Cycle, IsValuation, SameState}
 use Rattle.netlist.specs.Longer.{Extends}
-use Rattle.command_nets.specs.Nets.{ShowSame, port_in}
-use Rattle.mm_machines.specs.Link.{Target, Port}
-use Rattle.link_core.specs.Form.{Form, KeepsLaw, KeepsStraight}
+use Rattle.command_nets.specs.Nets.{ShowSame}
 use Rattle.command_nets.specs.declared.nets.CommandNets.{CommandNets}
-use Rattle.command_nets.specs.declared.nets.AnswerNets.{AnswerNets}
 use Rattle.link_core.specs.declared.row.Begun.{Begun}
 
 module _ {L H : Type 0} (is_kept : L → H → Netlist → Type 0) (command_in : L → CommandNets → CommandNets → H → Netlist → Type 0) (owns : H → ℕ → Type 0) where
@@ -41,18 +37,3 @@ pub record IsPushed {L H : Type 0} (link : L) (from to : CommandNets) (old new :
 abbrev pub IgnoresInLonger : Netlist → CommandNets → CommandNets → Type 0
 IgnoresInLonger netlist from to =
     (longer : Netlist) → Extends netlist longer → (one other : Cycle) → IsValuation longer one → IsValuation longer other → SameState longer one other → ShowSame from one other → ShowSame to one other
-
--- in each endless run of each longer netlist the machine runs between these nets
-abbrev pub RunsInLonger : (Target → Port → Port → Type 0) → Form → Netlist → CommandNets → NetValue → AnswerNets → CommandNets → NetValue → AnswerNets → Type 0
-RunsInLonger runs form netlist from up back to wait answer =
-    (longer : Netlist) → Extends netlist longer → (run : Run) → IsEndlessRun longer run → runs form.link.target (port_in form.up run from up back) (port_in form.down run to wait answer)
-
--- in each endless run of each longer netlist the law is kept between these nets
-abbrev pub KeepsInLonger : Form → Netlist → CommandNets → NetValue → AnswerNets → CommandNets → NetValue → AnswerNets → Type 0
-KeepsInLonger form netlist from up back to wait answer =
-    (longer : Netlist) → Extends netlist longer → (run : Run) → IsEndlessRun longer run → (end : ℕ) → KeepsLaw form (port_in form.up run from up back) (port_in form.down run to wait answer) end
-
--- and there it is straight
-abbrev pub StraightInLonger : Form → Netlist → CommandNets → NetValue → AnswerNets → CommandNets → NetValue → AnswerNets → Type 0
-StraightInLonger form netlist from up back to wait answer =
-    (longer : Netlist) → Extends netlist longer → (run : Run) → IsEndlessRun longer run → (end : ℕ) → KeepsStraight form (port_in form.up run from up back) (port_in form.down run to wait answer) end

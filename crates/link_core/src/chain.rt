@@ -41,9 +41,13 @@ impl<A: Link, B: Link> Link for Chain<A, B> {
 
     ghost answer_nets = { λ s. A.answer_nets s.first + B.answer_nets s.second };
 
+    ghost memories = { λ s. A.memories s.first + B.memories s.second };
+
     ghost owns = { λ kept n. A.owns kept.0 n ⊎ B.owns kept.1 n };
 
-    ghost is_kept = { λ s kept netlist. AreBothKept (A.is_kept s.first kept.0) (B.is_kept s.second kept.1) (A.owns kept.0) (B.owns kept.1) netlist };
+    ghost owns_memories = { λ kept m. A.owns_memories kept.0 m ⊎ B.owns_memories kept.1 m };
+
+    ghost is_kept = { λ s kept netlist. AreBothKept (A.is_kept s.first kept.0) (B.is_kept s.second kept.1) (A.owns kept.0) (B.owns kept.1) (A.owns_memories kept.0) (B.owns_memories kept.1) netlist };
 
     ghost command_in = { λ s from to kept netlist. HasMiddle (λ middle. A.command_in s.first from middle kept.0 netlist) (λ middle. B.command_in s.second middle to kept.1 netlist) };
 
@@ -81,10 +85,11 @@ impl<A: Link, B: Link> Link for Chain<A, B> {
         plain_commands_act();
     }
 
-    ghost kept_lasts = { λ s kept old new h e w. record {
-      first = A.kept_lasts s.first kept.0 old new h.first e (λ n o. w n (inl o));
-      second = B.kept_lasts s.second kept.1 old new h.second e (λ n o. w n (inr o));
+    ghost kept_lasts = { λ s kept old new h e w v. record {
+      first = A.kept_lasts s.first kept.0 old new h.first e (λ n o. w n (inl o)) (λ m o. v m (inl o));
+      second = B.kept_lasts s.second kept.1 old new h.second e (λ n o. w n (inr o)) (λ m o. v m (inr o));
       apart = h.apart;
+      memories_apart = h.memories_apart;
     } };
 
     ghost command_lasts = { λ s from to kept old new h e. record {

@@ -17,6 +17,6 @@ pub use link::Link;
 pub use maybe::Maybe;
 pub use pass::Pass;
 pub use pipe::{Pipe, PipeKept, begin_pipe, finish_pipe, pipe_of};
-pub use row::{Begun, begin_link, finish_link};
+pub use row::Begun;
 pub use stage::PipeStage;
 pub use tags::delay_tag;

@@ -2,16 +2,18 @@
 
 ghost use Rattle.std.specs.Prelude.{◌≡◌, ℕ, ◌+◌, ◌^◌, ◌<◌, ◌≤◌, length, IfOk, OnOk};
 ghost use Rattle.netlist.specs.Nets.{NetValue};
-ghost use Rattle.netlist.specs.Netlists.{Netlist, IsWaiting};
+ghost use Rattle.netlist.specs.Netlists.{Netlist, IsWaiting, WaitsForWrite};
 ghost use Rattle.netlist.specs.Runs.{Run, Cycle, IsEndlessRun, IsValuation};
 ghost use Rattle.netlist.specs.Longer.{Extends};
 ghost use Rattle.mm_machines.specs.Link.{Target, Port};
 ghost use Rattle.net_parts.specs.Nets.{IsBit};
-ghost use Rattle.net_parts.specs.Growth.{GrowsBy, StillWait, WaitsBeside, WaitsWithout, AreMadeBetween};
+ghost use Rattle.net_parts.specs.Growth.{StillWait, WaitsBeside, WaitsWithout, AreMadeBetween};
+ghost use Rattle.net_parts.specs.Memories.{ForwardGrows, ForwardMemories, BackwardGrows, BackwardMemories, SameWords};
 ghost use Rattle.command_nets.specs.declared.nets.CommandNets.{CommandNets};
 ghost use Rattle.command_nets.specs.declared.nets.AnswerNets.{AnswerNets};
 ghost use Rattle.command_nets.specs.Nets.{Widths, widths_of, AreCommandNets, AreAnswerNets, ShowSame, port_in};
 ghost use Rattle.link_core.specs.Form.{Form, KeepsLaw, KeepsStraight};
+ghost use Rattle.link_core.specs.Rooms.{WithRoomFor};
 
 use command_nets::{AnswerNets, CommandNets};
 use netlist::{Builder, Net, NetFault};
@@ -48,8 +50,14 @@ pub trait Link {
 
     ghost answer_nets: { Self → ℕ };
 
+    /// The most memories that the first call makes.
+    ghost memories: { Self → ℕ };
+
     /// The numbers of the registers that hold its state. They wait for their next nets between the calls.
     ghost owns: { Self.Held → ℕ → Type 0 };
+
+    /// Those of its memories, which wait for their writes.
+    ghost owns_memories: { Self.Held → ℕ → Type 0 };
 
     /// What is kept is of this netlist.
     ghost is_kept: { Self → Self.Held → Netlist → Type 0 };
@@ -73,13 +81,14 @@ pub trait Link {
         ensures kept { IfOk result (λ p. is_kept self.now p.1 builder.new) }
         ensures owned { IfOk result (λ p. AreMadeBetween (owns p.1) builder.old builder.new) }
         ensures made { IfOk result (λ p. command_in self.now from p.0 p.1 builder.new) }
-        ensures grows { GrowsBy (command_nets self.now) builder.old builder.new }
+        ensures grows { ForwardGrows (memories self.now) (command_nets self.now) builder.old builder.new }
         ensures waits { StillWait builder.old builder.new }
         ensures own_wait { IfOk result (λ p. (n : ℕ) → owns p.1 n → IsWaiting builder.new n) }
         ensures newly { IfOk result (λ p. WaitsBeside (owns p.1) builder.old builder.new) }
+        ensures written { IfOk result (λ p. ForwardMemories (memories self.now) (owns_memories p.1) builder.old builder.new) }
 
-        // Memory may run out at any net.
-        ensures full { result ≡ Err NetFault.TooManyNets → 2 ^ 20 < length builder.old.lines + command_nets self.now };
+        // With room for its memories. Memory may run out at any net.
+        ensures full { result ≡ Err NetFault.TooManyNets → WithRoomFor (memories self.now) builder.old (2 ^ 20 < length builder.old.lines + command_nets self.now) };
 
     /// Makes the nets of wait and answer upstream from those downstream, whose word has so many bits.
     fn emit_answer(
@@ -96,9 +105,10 @@ pub trait Link {
         ensures wait { IfOk result (λ p. IsBit builder.new p.0) }
         ensures answer { IfOk result (λ p. AreAnswerNets builder.new p.1 (gives_words self.now answer.word.width)) }
         ensures made { IfOk result (λ p. answer_in self.now kept wait answer p.0 p.1 builder.new) }
-        ensures grows { GrowsBy (answer_nets self.now) builder.old builder.new }
+        ensures grows { BackwardGrows (memories self.now) (answer_nets self.now) builder.old builder.new }
         ensures waits { (n : ℕ) → ¬ owns kept n → IsWaiting builder.old n → IsWaiting builder.new n }
         ensures no_more_wait { OnOk result (WaitsWithout (owns kept) builder.old builder.new) }
+        ensures written { OnOk result (BackwardMemories (memories self.now) (owns_memories kept) builder.old builder.new) }
 
         // Memory may run out at any net.
         ensures full { result ≡ Err NetFault.TooManyNets → 2 ^ 20 < length builder.old.lines + answer_nets self.now };
@@ -122,10 +132,12 @@ pub trait Link {
         ensures ignores_answer { (from to : CommandNets) (kept : Self.Held) (netlist : Netlist)
             → command_in self.now from to kept netlist
             → (one other : Cycle) → IsValuation netlist one → IsValuation netlist other
-            → ((n : ℕ) → owns kept n → one.net n ≡ other.net n) → ShowSame from one other → ShowSame to one other };
+            → ((n : ℕ) → owns kept n → one.net n ≡ other.net n) → SameWords (owns_memories kept) netlist one other
+            → ShowSame from one other → ShowSame to one other };
 
-    /// What is kept lasts while its registers wait.
-    ghost kept_lasts: { (s : Self) (kept : Self.Held) (old new : Netlist) → is_kept s kept old → Extends old new → ((n : ℕ) → owns kept n → IsWaiting old n → IsWaiting new n) → is_kept s kept new };
+    /// What is kept lasts while its registers and memories wait.
+    ghost kept_lasts: { (s : Self) (kept : Self.Held) (old new : Netlist) → is_kept s kept old → Extends old new → ((n : ℕ) → owns kept n → IsWaiting old n → IsWaiting new n)
+        → ((m : ℕ) → owns_memories kept m → WaitsForWrite old m → WaitsForWrite new m) → is_kept s kept new };
 
     /// What stands in a netlist stands in each longer one.
     ghost command_lasts: { (s : Self) (from to : CommandNets) (kept : Self.Held) (old new : Netlist) → command_in s from to kept old → Extends old new → command_in s from to kept new };

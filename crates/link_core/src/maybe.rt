@@ -37,7 +37,11 @@ impl<L: Link> Link for Maybe<L> {
 
     ghost answer_nets = { λ s. unwrap_or (option_map L.answer_nets s.link) 0 };
 
+    ghost memories = { λ s. unwrap_or (option_map L.memories s.link) 0 };
+
     ghost owns = { λ kept n. IsSomeAnd kept (λ held. L.owns held n) };
+
+    ghost owns_memories = { λ kept m. IsSomeAnd kept (λ held. L.owns_memories held m) };
 
     ghost is_kept = { λ s kept netlist. kept_of L.is_kept s.link kept netlist };
 
@@ -82,7 +86,7 @@ impl<L: Link> Link for Maybe<L> {
         }
     }
 
-    ghost kept_lasts = { λ s kept old new h e w. kept_lasts L.is_kept L.owns (λ link held. L.kept_lasts link held) s.link kept old new h e w };
+    ghost kept_lasts = { λ s kept old new h e w v. kept_lasts L.is_kept L.owns L.owns_memories (λ link held. L.kept_lasts link held) s.link kept old new h e w v };
 
     ghost command_lasts = { λ s from to kept old new h e. command_lasts L.command_in (λ link before behind held. L.command_lasts link before behind held) s.link from to kept old new h e };
 

@@ -37,7 +37,11 @@ impl Link for Pass {
 
     ghost answer_nets = { λ s. 0 };
 
+    ghost memories = { λ s. 0 };
+
     ghost owns = { λ kept n. ⊥ };
+
+    ghost owns_memories = { λ kept m. ⊥ };
 
     ghost is_kept = { λ s kept netlist. Unit {0} };
 
@@ -68,7 +72,7 @@ impl Link for Pass {
         pass_goes_in_step();
     }
 
-    ghost kept_lasts = { λ s kept old new h e w. tt };
+    ghost kept_lasts = { λ s kept old new h e w v. tt };
 
     ghost command_lasts = { λ s from to kept old new h e. h };
 

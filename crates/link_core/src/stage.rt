@@ -106,7 +106,11 @@ impl Link for PipeStage {
 
     ghost answer_nets = { λ s. 24 };
 
+    ghost memories = { λ s. 0 };
+
     ghost owns = { λ kept n. IsOfCommand kept.first n ⊎ IsOfCommand kept.second n };
+
+    ghost owns_memories = { λ kept m. ⊥ };
 
     ghost is_kept = { λ s kept netlist. StageKeeps kept netlist };
 
@@ -150,7 +154,7 @@ impl Link for PipeStage {
         stage_is_a_link();
     }
 
-    ghost kept_lasts = { λ s kept old new h e w. stage_keeps_lasts kept old new h e w };
+    ghost kept_lasts = { λ s kept old new h e w v. stage_keeps_lasts kept old new h e w };
 
     ghost command_lasts = { λ s from to kept old new h e. stage_command_lasts from to kept old new h e };
 

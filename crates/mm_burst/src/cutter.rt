@@ -55,7 +55,11 @@ impl Link for Cutter {
 
     ghost answer_nets = { λ s. 20 };
 
+    ghost memories = { λ s. 0 };
+
     ghost owns = { λ kept n. owns_cutter kept n };
+
+    ghost owns_memories = { λ kept m. ⊥ };
 
     ghost is_kept = { λ s kept netlist. CutterKeeps s kept netlist };
 
@@ -101,7 +105,7 @@ impl Link for Cutter {
         cut_goes_in_step();
     }
 
-    ghost kept_lasts = { λ s kept old new h e w. cutter_keeps_lasts s kept old new h e w };
+    ghost kept_lasts = { λ s kept old new h e w v. cutter_keeps_lasts s kept old new h e w };
 
     ghost command_lasts = { λ s from to kept old new h e. cutter_command_lasts s from to kept old new h e };
 

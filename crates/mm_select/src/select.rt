@@ -153,7 +153,11 @@ impl Link for Select {
 
     ghost answer_nets = { λ s. 69 };
 
+    ghost memories = { λ s. 0 };
+
     ghost owns = { λ kept n. owns_queue kept.queue n };
+
+    ghost owns_memories = { λ kept m. ⊥ };
 
     ghost is_kept = { λ s kept netlist. SelectKeeps s kept netlist };
 
@@ -214,7 +218,7 @@ impl Link for Select {
         select_is_a_link();
     }
 
-    ghost kept_lasts = { λ s kept old new h e w. select_keeps_lasts s kept old new h e w };
+    ghost kept_lasts = { λ s kept old new h e w v. select_keeps_lasts s kept old new h e w };
 
     ghost command_lasts = { λ s from to kept old new h e. select_command_lasts s from to kept old new h e };
 

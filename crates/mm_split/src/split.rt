@@ -56,7 +56,11 @@ impl Link for Split {
 
     ghost answer_nets = { λ s. 239 };
 
+    ghost memories = { λ s. 0 };
+
     ghost owns = { λ kept n. owns kept.registers n };
+
+    ghost owns_memories = { λ kept m. ⊥ };
 
     ghost is_kept = { λ s kept netlist. SplitKeeps s kept netlist };
 
@@ -121,7 +125,7 @@ impl Link for Split {
         split_is_a_link();
     }
 
-    ghost kept_lasts = { λ s kept old new h e w. split_keeps_lasts s kept old new h e w };
+    ghost kept_lasts = { λ s kept old new h e w v. split_keeps_lasts s kept old new h e w };
 
     ghost command_lasts = { λ s from to kept old new h e. split_command_lasts s from to kept old new h e };
 

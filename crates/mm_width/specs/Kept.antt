@@ -8,7 +8,7 @@ use Rattle.net_parts.specs.Groups.{InGroup}
 use Rattle.command_nets.specs.declared.nets.CommandNets.{CommandNets}
 use Rattle.command_nets.specs.declared.nets.AnswerNets.{AnswerNets}
 use Rattle.link_core.specs.ChainNets.{AreBothKept, HasMiddle, HasMiddleAnswer}
-use Rattle.link_core.specs.MaybeNets.{kept_of, command_of, answer_of}
+use Rattle.link_core.specs.MaybeNets.{kept_of, stores_none, command_of, answer_of, none_stored}
 use Rattle.link_core.specs.MaybeNets as maybe
 use Rattle.mm_burst.specs.declared.cutter.Cutter.{Cutter}
 use Rattle.mm_burst.specs.declared.cutter.CutterKept.{CutterKept}
@@ -96,8 +96,8 @@ fitting_owns kept n = words_own kept.0 n ⊎ IsSomeAnd kept.1 (λ held. drop_own
 -- between the calls
 abbrev pub FittingKeeps : Fitting → FittingKept → Netlist → Type 0
 FittingKeeps fitting kept netlist =
-    let words = AreBothKept (kept_of select_keeps fitting.first.first.link kept.0.0) (kept_of split_keeps fitting.first.second.link kept.0.1) (λ n. IsSomeAnd kept.0.0 (λ held. select_owns held n)) (λ n. IsSomeAnd kept.0.1 (λ held. split_owns held n)) in
-    AreBothKept words (kept_of drop_keeps fitting.second.link kept.1) (words_own kept.0) (λ n. IsSomeAnd kept.1 (λ held. drop_owns held n)) netlist
+    let words = AreBothKept (kept_of select_keeps fitting.first.first.link kept.0.0) (kept_of split_keeps fitting.first.second.link kept.0.1) (λ n. IsSomeAnd kept.0.0 (λ held. select_owns held n)) (λ n. IsSomeAnd kept.0.1 (λ held. split_owns held n)) (stores_none kept.0.0) (stores_none kept.0.1) in
+    AreBothKept words (kept_of drop_keeps fitting.second.link kept.1) (words_own kept.0) (λ n. IsSomeAnd kept.1 (λ held. drop_owns held n)) (λ m. stores_none kept.0.0 m ⊎ stores_none kept.0.1 m) (stores_none kept.1) netlist
 
 -- after the first call
 abbrev pub FittingCommand : Fitting → CommandNets → CommandNets → FittingKept → Netlist → Type 0
@@ -120,7 +120,7 @@ owns_width kept n = IsSomeAnd kept.0 (λ held. cutter_owns held n) ⊎ fitting_o
 
 abbrev pub WidthKeeps : Width → WidthKept → Netlist → Type 0
 WidthKeeps width kept netlist =
-    AreBothKept (kept_of cutter_keeps width.first.link kept.0) (FittingKeeps width.second kept.1) (λ n. IsSomeAnd kept.0 (λ held. cutter_owns held n)) (fitting_owns kept.1) netlist
+    AreBothKept (kept_of cutter_keeps width.first.link kept.0) (FittingKeeps width.second kept.1) (λ n. IsSomeAnd kept.0 (λ held. cutter_owns held n)) (fitting_owns kept.1) (stores_none kept.0) (λ m. (stores_none kept.1.0.0 m ⊎ stores_none kept.1.0.1 m) ⊎ stores_none kept.1.1 m) netlist
 
 abbrev pub WidthCommand : Width → CommandNets → CommandNets → WidthKept → Netlist → Type 0
 WidthCommand width from to kept netlist =
@@ -135,12 +135,14 @@ WidthAnswer width kept wait answer up back netlist =
 fitting_keeps_lasts : (fitting : Fitting) (kept : FittingKept) (old new : Netlist) → FittingKeeps fitting kept old → Extends old new → ((n : ℕ) → fitting_owns kept n → IsWaiting old n → IsWaiting new n) → FittingKeeps fitting kept new
 fitting_keeps_lasts fitting kept old new h e w = record {
   first = record {
-    first = maybe.kept_lasts select_keeps select_owns select_keeps_lasts fitting.first.first.link kept.0.0 old new h.first.first e (λ n o. w n (inl (inl o)));
-    second = maybe.kept_lasts split_keeps split_owns split_keeps_lasts fitting.first.second.link kept.0.1 old new h.first.second e (λ n o. w n (inl (inr o)));
+    first = maybe.kept_lasts select_keeps select_owns (λ held m. ⊥) (λ link held old new h e w v. select_keeps_lasts link held old new h e w) fitting.first.first.link kept.0.0 old new h.first.first e (λ n o. w n (inl (inl o))) (λ m o. absurd (none_stored kept.0.0 m o));
+    second = maybe.kept_lasts split_keeps split_owns (λ held m. ⊥) (λ link held old new h e w v. split_keeps_lasts link held old new h e w) fitting.first.second.link kept.0.1 old new h.first.second e (λ n o. w n (inl (inr o))) (λ m o. absurd (none_stored kept.0.1 m o));
     apart = h.first.apart;
+    memories_apart = h.first.memories_apart;
   };
-  second = maybe.kept_lasts drop_keeps drop_owns (λ link held. drop_keeps_lasts held) fitting.second.link kept.1 old new h.second e (λ n o. w n (inr o));
+  second = maybe.kept_lasts drop_keeps drop_owns (λ held m. ⊥) (λ link held old new h e w v. drop_keeps_lasts held old new h e w) fitting.second.link kept.1 old new h.second e (λ n o. w n (inr o)) (λ m o. absurd (none_stored kept.1 m o));
   apart = h.apart;
+  memories_apart = h.memories_apart;
 }
 
 fitting_command_lasts : (fitting : Fitting) (from to : CommandNets) (kept : FittingKept) (old new : Netlist) → FittingCommand fitting from to kept old → Extends old new → FittingCommand fitting from to kept new
@@ -167,11 +169,20 @@ fitting_answer_lasts fitting kept wait answer up back old new h e = record {
   second = maybe.answer_lasts drop_answer (λ link held. drop_answer_lasts held) fitting.second.link kept.1 wait answer h.wait h.answer old new h.second e;
 }
 
+-- no link of a pair has memories
+pub none_kept : (kept : WidthKept) (m : ℕ) → ¬ (stores_none kept.0 m ⊎ ((stores_none kept.1.0.0 m ⊎ stores_none kept.1.0.1 m) ⊎ stores_none kept.1.1 m))
+none_kept kept m o =
+    elim o [
+      | inl cutter ↦ none_stored kept.0 m cutter
+      | inr fitting ↦ elim fitting [ inl words ↦ elim words [ inl select ↦ none_stored kept.1.0.0 m select | inr split ↦ none_stored kept.1.0.1 m split ] | inr dropper ↦ none_stored kept.1.1 m dropper ]
+    ]
+
 pub keeps_lasts : (width : Width) (kept : WidthKept) (old new : Netlist) → WidthKeeps width kept old → Extends old new → ((n : ℕ) → owns_width kept n → IsWaiting old n → IsWaiting new n) → WidthKeeps width kept new
 keeps_lasts width kept old new h e w = record {
-  first = maybe.kept_lasts cutter_keeps cutter_owns cutter_keeps_lasts width.first.link kept.0 old new h.first e (λ n o. w n (inl o));
+  first = maybe.kept_lasts cutter_keeps cutter_owns (λ held m. ⊥) (λ link held old new h e w v. cutter_keeps_lasts link held old new h e w) width.first.link kept.0 old new h.first e (λ n o. w n (inl o)) (λ m o. absurd (none_stored kept.0 m o));
   second = fitting_keeps_lasts width.second kept.1 old new h.second e (λ n o. w n (inr o));
   apart = h.apart;
+  memories_apart = h.memories_apart;
 }
 
 pub command_lasts : (width : Width) (from to : CommandNets) (kept : WidthKept) (old new : Netlist) → WidthCommand width from to kept old → Extends old new → WidthCommand width from to kept new

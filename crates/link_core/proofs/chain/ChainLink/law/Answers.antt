@@ -16,9 +16,9 @@ returns-clause-machine g c form from to kept wait up answer back netlist p f b r
     (c.law-2.ensures.machine p.second f.middle to kept.1 wait b.wait answer b.answer netlist p.second_has f.second b.second run endless)
 
 pub returns-clause-ignores_answer : goal.returns-clause-ignores_answer
-returns-clause-ignores_answer g c from to kept netlist f one other v w state same =
-    c.law-2.ensures.ignores_answer f.middle to kept.1 netlist f.second one other v w (λ n o. state n (inr o))
-    (c.law.ensures.ignores_answer from f.middle kept.0 netlist f.first one other v w (λ n o. state n (inl o)) same)
+returns-clause-ignores_answer g c from to kept netlist f one other v w state words same =
+    c.law-2.ensures.ignores_answer f.middle to kept.1 netlist f.second one other v w (λ n o. state n (inr o)) (λ m memory o. words m memory (inr o))
+    (c.law.ensures.ignores_answer from f.middle kept.0 netlist f.first one other v w (λ n o. state n (inl o)) (λ m memory o. words m memory (inl o)) same)
 
 pub returns-clause-straight : goal.returns-clause-straight
 returns-clause-straight g c form from to kept wait up answer back netlist p f b run endless =

@@ -1,6 +1,7 @@
 use Rattle.std.proofs.Common.{◌+◌, ◌^◌, ◌<◌, length, sym, subst}
 use Rattle.std.specs.Prelude.{Some, IsSomeAnd, unwrap_or, option_map, IfSome}
-use Rattle.net_parts.specs.Growth.{GrowsBy, WaitsWithout}
+use Rattle.net_parts.specs.Growth.{WaitsWithout}
+use Rattle.net_parts.specs.Memories.{BackwardGrows, BackwardMemories}
 use Rattle.net_parts.specs.Laws.{if_ok, on_ok, grows_none}
 use Rattle.netlist.specs.Nets.{NetValue}
 use Rattle.command_nets.specs.declared.nets.AnswerNets.{AnswerNets}
@@ -20,7 +21,7 @@ returns-in-Some-clause-made g c =
     c.emit_answer.ensures.made
 
 pub returns-in-Some-clause-grows : goal.returns-in-Some-clause-grows
-returns-in-Some-clause-grows g c = subst (λ link. GrowsBy (unwrap_or (option_map g.L.Link.answer_nets link) 0) c.args.builder.now c.emit_answer.new.builder) (sym c.in-Some.is) c.emit_answer.ensures.grows
+returns-in-Some-clause-grows g c = subst (λ link. BackwardGrows (unwrap_or (option_map g.L.Link.memories link) 0) (unwrap_or (option_map g.L.Link.answer_nets link) 0) c.args.builder.now c.emit_answer.new.builder) (sym c.in-Some.is) c.emit_answer.ensures.grows
 
 pub returns-in-Some-clause-waits : goal.returns-in-Some-clause-waits
 returns-in-Some-clause-waits g c n apart w = c.emit_answer.ensures.waits n (λ o. apart (subst (λ kept. IsSomeAnd kept (λ held. g.L.Link.owns held n)) (sym c.unwrap.ensures) o)) w
@@ -47,10 +48,17 @@ pub returns-in-Some-clause-wait : goal.returns-in-Some-clause-wait
 returns-in-Some-clause-wait g c = c.emit_answer.ensures.wait
 
 pub returns-in-None-clause-grows : goal.returns-in-None-clause-grows
-returns-in-None-clause-grows g c = subst (λ link. GrowsBy (unwrap_or (option_map g.L.Link.answer_nets link) 0) c.args.builder.now c.args.builder.now) (sym c.in-None.is) (grows_none _)
+returns-in-None-clause-grows g c = subst (λ link. BackwardGrows (unwrap_or (option_map g.L.Link.memories link) 0) (unwrap_or (option_map g.L.Link.answer_nets link) 0) c.args.builder.now c.args.builder.now) (sym c.in-None.is) (grows_none _)
 
 pub returns-in-None-clause-waits : goal.returns-in-None-clause-waits
 returns-in-None-clause-waits g c n apart w = w
 
 pub returns-in-None-clause-full : goal.returns-in-None-clause-full
 returns-in-None-clause-full g c e = cc
+
+pub returns-in-Some-clause-written : goal.returns-in-Some-clause-written
+returns-in-Some-clause-written g c =
+    on_ok c.emit_answer.result _ (BackwardMemories (unwrap_or (option_map g.L.Link.memories c.args.self.now.link) 0) (λ m. IsSomeAnd c.args.kept (λ held. g.L.Link.owns_memories held m)) c.args.builder.now c.emit_answer.new.builder)
+    (λ out. subst (λ link. BackwardMemories (unwrap_or (option_map g.L.Link.memories link) 0) (λ m. IsSomeAnd c.args.kept (λ held. g.L.Link.owns_memories held m)) c.args.builder.now c.emit_answer.new.builder) (sym c.in-Some.is)
+    (subst (λ kept. BackwardMemories (g.L.Link.memories c.in-Some.link) (λ m. IsSomeAnd kept (λ held. g.L.Link.owns_memories held m)) c.args.builder.now c.emit_answer.new.builder) (sym c.unwrap.ensures) out))
+    c.emit_answer.ensures.written

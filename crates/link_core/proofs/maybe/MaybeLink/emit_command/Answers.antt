@@ -1,6 +1,7 @@
 use Rattle.std.proofs.Common.{sym, subst, ap, ◌∙◌, ◌+◌, ◌^◌, ◌<◌, length, inl}
 use Rattle.std.specs.Prelude.{Some, unwrap_or, option_map, IfSome}
-use Rattle.net_parts.specs.Growth.{GrowsBy}
+use Rattle.net_parts.specs.Memories.{ForwardGrows, ForwardMemories}
+use Rattle.link_core.specs.Rooms.{WithRoomFor}
 use Rattle.command_nets.specs.Nets.{widths_of}
 use Rattle.link_core.specs.MaybeNets.{kept_of, command_of}
 use Rattle.net_parts.specs.Laws.{grows_none}
@@ -8,7 +9,7 @@ use Rattle.net_parts.specs.Refusing.{handed_on}
 use Rattle.link_core.proofs.maybe.MaybeLink.emit_command.Goals as goal
 
 pub returns-in_err-to-in-Some-clause-grows : goal.returns-in_err-to-in-Some-clause-grows
-returns-in_err-to-in-Some-clause-grows g c = subst (λ link. GrowsBy (unwrap_or (option_map g.L.Link.command_nets link) 0) c.args.builder.now c.emit_command.new.builder) (sym c.in-Some.is) c.emit_command.ensures.grows
+returns-in_err-to-in-Some-clause-grows g c = subst (λ link. ForwardGrows (unwrap_or (option_map g.L.Link.memories link) 0) (unwrap_or (option_map g.L.Link.command_nets link) 0) c.args.builder.now c.emit_command.new.builder) (sym c.in-Some.is) c.emit_command.ensures.grows
 
 pub returns-in_ok-to-in-Some-clause-widths : goal.returns-in_ok-to-in-Some-clause-widths
 returns-in_ok-to-in-Some-clause-widths g c =
@@ -22,7 +23,7 @@ returns-in_ok-to-in-Some-clause-made g c =
     subst (λ link. command_of g.L.Link.command_in link c.args.from c.in_ok-to-in-Some.to (Some c.in_ok-to-in-Some.held) c.emit_command.new.builder) (sym c.in-Some.is) c.in_ok-to-in-Some.ensures.made
 
 pub returns-in_ok-to-in-Some-clause-grows : goal.returns-in_ok-to-in-Some-clause-grows
-returns-in_ok-to-in-Some-clause-grows g c = subst (λ link. GrowsBy (unwrap_or (option_map g.L.Link.command_nets link) 0) c.args.builder.now c.emit_command.new.builder) (sym c.in-Some.is) c.emit_command.ensures.grows
+returns-in_ok-to-in-Some-clause-grows g c = subst (λ link. ForwardGrows (unwrap_or (option_map g.L.Link.memories link) 0) (unwrap_or (option_map g.L.Link.command_nets link) 0) c.args.builder.now c.emit_command.new.builder) (sym c.in-Some.is) c.emit_command.ensures.grows
 
 pub emit_command-requires-clause-from : goal.emit_command-requires-clause-from
 emit_command-requires-clause-from g c = c.requires.from
@@ -34,13 +35,19 @@ pub returns-in_err-to-in-Some-clause-waits : goal.returns-in_err-to-in-Some-clau
 returns-in_err-to-in-Some-clause-waits g c n w = c.emit_command.ensures.waits n w
 
 pub returns-in_err-to-in-Some-clause-full : goal.returns-in_err-to-in-Some-clause-full
-returns-in_err-to-in-Some-clause-full g c e = subst (λ link. 2 ^ 20 < length c.args.builder.now.lines + unwrap_or (option_map g.L.Link.command_nets link) 0) (sym c.in-Some.is) (c.emit_command.ensures.full (handed_on _ _ _ _ c.in_err-to-in-Some.was c.from_residual.ensures.1 e))
+returns-in_err-to-in-Some-clause-full g c e =
+    subst (λ link. WithRoomFor (unwrap_or (option_map g.L.Link.memories link) 0) c.args.builder.now (2 ^ 20 < length c.args.builder.now.lines + unwrap_or (option_map g.L.Link.command_nets link) 0)) (sym c.in-Some.is)
+    (c.emit_command.ensures.full (handed_on _ _ _ _ c.in_err-to-in-Some.was c.from_residual.ensures.1 e))
 
 pub returns-in_ok-to-in-Some-clause-waits : goal.returns-in_ok-to-in-Some-clause-waits
 returns-in_ok-to-in-Some-clause-waits g c n w = c.emit_command.ensures.waits n w
 
 pub returns-in_ok-to-in-Some-clause-full : goal.returns-in_ok-to-in-Some-clause-full
 returns-in_ok-to-in-Some-clause-full g c e = cc
+
+pub returns-in_ok-to-in-Some-clause-written : goal.returns-in_ok-to-in-Some-clause-written
+returns-in_ok-to-in-Some-clause-written g c =
+    subst (λ link. ForwardMemories (unwrap_or (option_map g.L.Link.memories link) 0) (g.L.Link.owns_memories c.in_ok-to-in-Some.held) c.args.builder.now c.emit_command.new.builder) (sym c.in-Some.is) c.in_ok-to-in-Some.ensures.written
 
 pub returns-in_ok-to-in-Some-clause-command : goal.returns-in_ok-to-in-Some-clause-command
 returns-in_ok-to-in-Some-clause-command g c = c.in_ok-to-in-Some.ensures.command
@@ -55,7 +62,7 @@ pub returns-in_ok-to-in-Some-clause-newly : goal.returns-in_ok-to-in-Some-clause
 returns-in_ok-to-in-Some-clause-newly g c n w = c.in_ok-to-in-Some.ensures.newly n w
 
 pub returns-in-None-clause-grows : goal.returns-in-None-clause-grows
-returns-in-None-clause-grows g c = subst (λ link. GrowsBy (unwrap_or (option_map g.L.Link.command_nets link) 0) c.args.builder.now c.args.builder.now) (sym c.in-None.is) (grows_none _)
+returns-in-None-clause-grows g c = subst (λ link. ForwardGrows (unwrap_or (option_map g.L.Link.memories link) 0) (unwrap_or (option_map g.L.Link.command_nets link) 0) c.args.builder.now c.args.builder.now) (sym c.in-None.is) (grows_none _)
 
 pub returns-in-None-clause-waits : goal.returns-in-None-clause-waits
 returns-in-None-clause-waits g c n w = w
@@ -74,3 +81,6 @@ returns-in-None-clause-own_wait g c n o = absurd o
 
 pub returns-in-None-clause-newly : goal.returns-in-None-clause-newly
 returns-in-None-clause-newly g c n w = inl w
+
+pub returns-in-None-clause-written : goal.returns-in-None-clause-written
+returns-in-None-clause-written g c = subst (λ link. ForwardMemories (unwrap_or (option_map g.L.Link.memories link) 0) (λ m. ⊥) c.args.builder.now c.args.builder.now) (sym c.in-None.is) (λ m o. o)

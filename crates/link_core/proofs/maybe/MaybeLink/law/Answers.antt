@@ -2,7 +2,7 @@ use Rattle.std.proofs.Common.{◌≡◌, refl, sym, subst}
 use Rattle.command_nets.specs.Nets.{port_in}
 use Rattle.link_core.specs.Form.{KeepsLaw, KeepsStraight}
 use Rattle.link_core.specs.MaybeNets.{form_of, runs_of, command_of, answer_of}
-use Rattle.link_core.proofs.Between.{at_pass, pass_between, pass_straight_between, of_some}
+use Rattle.link_core.proofs.Between.{at_pass, pass_between, pass_straight_between, of_some, kept_ignores}
 use Rattle.link_core.proofs.maybe.MaybeLink.law.Goals as goal
 
 pub returns-in-None-clause-keeps : goal.returns-in-None-clause-keeps
@@ -39,3 +39,8 @@ returns-in-Some-clause-straight g c form from to kept wait up answer back netlis
     of_some g.L.Link.command_in g.L.Link.answer_in c.in-Some.link from to kept wait up answer back netlist (KeepsStraight form (port_in form.up run from up back) (port_in form.down run to wait answer) end)
     (λ held x y. c.law.ensures.straight form from to held wait up answer back netlist (subst (λ link. form_of g.L.Link.is_straight link form) c.in-Some.is p) x y run endless end)
     (subst (λ link. command_of g.L.Link.command_in link from to kept netlist) c.in-Some.is f) (subst (λ link. answer_of g.L.Link.answer_in link kept wait answer up back netlist) c.in-Some.is b)
+
+pub returns-in-Some-clause-ignores_answer : goal.returns-in-Some-clause-ignores_answer
+returns-in-Some-clause-ignores_answer g c from to kept netlist f one other v w state words same =
+    kept_ignores g.L.Link.command_in g.L.Link.owns g.L.Link.owns_memories c.in-Some.link from to kept netlist one other (λ held before owned stored shown. c.law.ensures.ignores_answer from to held netlist before one other v w owned stored shown)
+    (subst (λ link. command_of g.L.Link.command_in link from to kept netlist) c.in-Some.is f) state words same

@@ -20,5 +20,5 @@ returns-clause-straight c form from to kept wait up answer back netlist p f b ru
     }
 
 pub returns-clause-ignores_answer : goal.returns-clause-ignores_answer
-returns-clause-ignores_answer c from to kept netlist f one other v w state same =
+returns-clause-ignores_answer c from to kept netlist f one other v w state words same =
     cutter_ignores c.args.self.now from to kept netlist one other f v w state same

@@ -9,4 +9,4 @@ pub returns-clause-machine : goal.returns-clause-machine
 returns-clause-machine c form from to kept wait up answer back netlist p f b run endless = select_runs_between c.args.self.now form from to kept wait up answer back netlist p f b run endless
 
 pub returns-clause-ignores_answer : goal.returns-clause-ignores_answer
-returns-clause-ignores_answer c from to kept netlist f one other v w state same = select_ignores c.args.self.now from to kept netlist f one other v w state same
+returns-clause-ignores_answer c from to kept netlist f one other v w state words same = select_ignores c.args.self.now from to kept netlist f one other v w state same

@@ -11,7 +11,7 @@ pub returns-clause-straight : goal.returns-clause-straight
 returns-clause-straight c form from to kept wait up answer back netlist p f b run endless end = absurd p
 
 pub returns-clause-ignores_answer : goal.returns-clause-ignores_answer
-returns-clause-ignores_answer c from to kept netlist f one other v w state same = split_ignores _ from to kept netlist one other f v w state same
+returns-clause-ignores_answer c from to kept netlist f one other v w state words same = split_ignores _ from to kept netlist one other f v w state same
 
 pub returns-clause-keeps : goal.returns-clause-keeps
 returns-clause-keeps c form from to kept wait up answer back netlist p f b run endless end joins =
