@@ -22,7 +22,7 @@ use Rattle.mm_split.specs.Pieces.{has_lane, is_marked, count_of, those}
 use Rattle.mm_split.specs.Parts.{shows_part, count_in, IsAbove, IsBeatBelow, number_of, here_of, touched_of}
 use Rattle.mm_links.specs.Splits.{SplitState, RunsAsSplit, opens, completes, added, nothing, put_piece, split_at, asked_at, are_same}
 use Rattle.mm_split.specs.SplitNets.{IsSplitForm, SplitCommand, SplitAnswer}
-use Rattle.mm_split.specs.Registers.{group_of}
+use Rattle.mm_split.specs.Registers.{group_of, low_group_of}
 use Rattle.mm_split.specs.Comings.{NextAre, TellsComing}
 use Rattle.mm_links.specs.Selects.{takes_read}
 use Rattle.mm_split.proofs.Masks.{those_or_first, same_by_masks, those_count}
@@ -81,12 +81,12 @@ last_low s o n false t e h low = refl
 last_low false o n true t e h low = cc
 last_low true false n true t e h low = cc
 
-stepped : (t s : Bool) (place limit : ℕ) → (t ≡ false → s ≡ true → suc place < limit) → (if t || s then (if t then 0 else (place + 1) % limit) else place) ≡ (if t then 0 else if s then suc place else place)
+stepped : (t s : Bool) (place limit : ℕ) → (t ≡ false → s ≡ true → suc place < limit) → (if t then 0 else if s then (place + 1) % limit else place) ≡ (if t then 0 else if s then suc place else place)
 stepped true s place limit h = refl
 stepped false true place limit h = let less = h refl refl in mod-eq_of_lt {n = place + 1} {m = limit} (omega (arith, less)) ∙ omega arith
 stepped false false place limit h = refl
 
-counted_on : (v t : Bool) (come limit : ℕ) → (t ≡ false → suc come < limit) → (if v then (if t then 0 else (come + 1) % limit) else come) ≡ (if v then (if t then 0 else suc come) else come)
+counted_on : (v t : Bool) (come limit : ℕ) → (t ≡ false → suc come < limit) → (if v && t then 0 else if v then (come + 1) % limit else come) ≡ (if v then (if t then 0 else suc come) else come)
 counted_on true true come limit h = refl
 counted_on true false come limit h = let less = h refl in mod-eq_of_lt {n = come + 1} {m = limit} (omega (arith, less)) ∙ omega arith
 counted_on false t come limit h = refl
@@ -99,7 +99,7 @@ counted_few : (t : Bool) (reads room : ℕ) → reads ≤ room → (t ≡ true �
 counted_few true reads room few h = let less = h refl in omega (arith, less)
 counted_few false reads room few h = omega (arith, few)
 
-gathered_on : (v t : Bool) (next more old : Word) (low code : ℕ) → next.word ≡ (if v then (if t then 0 else low) else old.word) → next.code ≡ (if v then (if t then 0 else code) else old.code) → (t ≡ false → low ≡ more.word) → code ≡ more.code →
+gathered_on : (v t : Bool) (next more old : Word) (low code : ℕ) → next.word ≡ (if v && t then 0 else if v then low else old.word) → next.code ≡ (if v && t then 0 else if v then code else old.code) → (t ≡ false → low ≡ more.word) → code ≡ more.code →
     next ≡ (if v then (if t then nothing else more) else old)
 gathered_on true true next more old low code e g h k = rw (e, g) refl
 gathered_on true false next more old low code e g h k = let w = e ∙ h refl in let r = g ∙ k in rw (w, r) refl
@@ -209,7 +209,7 @@ module _ (split : Split) (form : Form) (kept : SplitKept) (wait up : NetValue) (
   step : (c : ℕ) → values_of (cycle_of run (suc c)) (group_of kept.registers) ≡ values_of (cycle_of run c) (group_of b.next)
   step c = sym (ap (λ k. values_of (cycle_of run k) (group_of kept.registers)) (next_of c)) ∙ b.moves run (c + 2) (endless (c + 2)) c (omega arith)
 
-  starts : values_of (cycle_of run 0) (group_of kept.registers) ≡ all_low (group_of kept.registers)
+  starts : values_of (cycle_of run 0) (low_group_of kept.registers) ≡ all_low (low_group_of kept.registers)
   starts = f.starts run 1 (endless 1) (omega arith)
 
   nexts : (c : ℕ) → NextAre kept.sizes kept.registers kept.from kept.part b.taken b.coming answer.valid back.valid b.next (cycle_of run c)
@@ -253,11 +253,14 @@ module _ (split : Split) (form : Form) (kept : SplitKept) (wait up : NetValue) (
   pub place_next : (c : ℕ) → state.place (suc c) ≡ (if takes above c then 0 else if takes below c then suc (state.place c) else state.place c)
   place_next c =
       ap first_value (step c) ∙ (nexts c).place
-      ∙ ap₂ (λ t s. if t || s then (if t then 0 else (run.net c kept.registers.place.number + 1) % 2 ^ kept.sizes.place_bits) else run.net c kept.registers.place.number) (sym (taken_above c)) (sym (taken_below c))
+      ∙ ap₂ (λ t s. if t then 0 else if s then (run.net c kept.registers.place.number + 1) % 2 ^ kept.sizes.place_bits else run.net c kept.registers.place.number) (sym (taken_above c)) (sym (taken_below c))
       ∙ stepped (takes above c) (takes below c) (run.net c kept.registers.place.number) (2 ^ kept.sizes.place_bits) (more_parts c)
 
   completes_is : (c : ℕ) → is_raised (run.net c b.coming.completes.number) ≡ completes state c
   completes_is c = (tells c).completes ∙ ap (λ n. nat_lt n (suc (suc (run.net c kept.registers.come.number)))) (sym (those_count (is_marked (run.net c kept.registers.set.number)) kept.sizes.pieces))
+
+  pub valid : (c : ℕ) → is_raised (run.net c back.valid.number) ≡ (is_raised (run.net c answer.valid.number) && completes state c)
+  valid c = b.valid (cycle_of run c) (valued c) ∙ ap (λ t. is_raised (run.net c answer.valid.number) && t) (completes_is c)
 
   more_come : (c : ℕ) → completes state c ≡ false → suc (run.net c kept.registers.come.number) < 2 ^ kept.sizes.place_bits
   more_come c e =
@@ -270,7 +273,7 @@ module _ (split : Split) (form : Form) (kept : SplitKept) (wait up : NetValue) (
   pub come_next : (c : ℕ) → state.come (suc c) ≡ (if is_raised (run.net c answer.valid.number) then (if completes state c then 0 else suc (state.come c)) else state.come c)
   come_next c =
       ap (λ l. first_value (drop 3 l)) (step c) ∙ (nexts c).come
-      ∙ ap (λ t. if is_raised (run.net c answer.valid.number) then (if t then 0 else (run.net c kept.registers.come.number + 1) % 2 ^ kept.sizes.place_bits) else run.net c kept.registers.come.number) (completes_is c)
+      ∙ ap (λ t. if t then 0 else if is_raised (run.net c answer.valid.number) then (run.net c kept.registers.come.number + 1) % 2 ^ kept.sizes.place_bits else run.net c kept.registers.come.number) (valid c)
       ∙ counted_on (is_raised (run.net c answer.valid.number)) (completes state c) (run.net c kept.registers.come.number) (2 ^ kept.sizes.place_bits) (more_come c)
 
   -- ---- the count of reads
@@ -291,7 +294,7 @@ module _ (split : Split) (form : Form) (kept : SplitKept) (wait up : NetValue) (
       ∙ ap (λ t. (run.net c kept.registers.reads.number + one_if (t && not (is_raised (raw c).levels.write))) - one_if (is_raised (run.net c back.valid.number))) (sym (taken_above c))
 
   reads_few : (c : ℕ) → run.net c kept.registers.reads.number ≤ split.reads
-  reads_few zero = let none : run.net 0 kept.registers.reads.number ≡ 0 = ap (λ l. first_value (drop 2 l)) starts in omega (arith, none)
+  reads_few zero = let none : run.net 0 kept.registers.reads.number ≡ 0 = ap (λ l. first_value (drop 1 l)) starts in omega (arith, none)
   reads_few (suc c) = let few = reads_few c in let next = reads_step c few in let most = counted_few (takes_read above c) (run.net c kept.registers.reads.number) split.reads few (room_for c) in omega (arith, next, most)
 
   pub reads_next : (c : ℕ) → state.reads (suc c) ≡ (state.reads c + one_if (takes_read above c)) - one_if (is_raised (run.net c back.valid.number))
@@ -328,14 +331,11 @@ module _ (split : Split) (form : Form) (kept : SplitKept) (wait up : NetValue) (
   pub code : (c : ℕ) → run.net c back.code.number ≡ (added below state c).code
   code c = ap (λ (n : NetValue). run.net c n.number) b.code_is ∙ (tells c).code
 
-  pub valid : (c : ℕ) → is_raised (run.net c back.valid.number) ≡ (is_raised (run.net c answer.valid.number) && completes state c)
-  valid c = b.valid (cycle_of run c) (valued c) ∙ ap (λ t. is_raised (run.net c answer.valid.number) && t) (completes_is c)
-
   pub gathered_next : (c : ℕ) → state.gathered (suc c) ≡ (if is_raised (run.net c answer.valid.number) then (if completes state c then nothing else added below state c) else state.gathered c)
   gathered_next c =
       gathered_on (is_raised (run.net c answer.valid.number)) (completes state c) (state.gathered (suc c)) (added below state c) (state.gathered c) (run.net c b.coming.low.number) (run.net c b.coming.code.number)
-      (ap (λ l. first_value (drop 4 l)) (step c) ∙ (nexts c).word ∙ ap (λ t. if is_raised (run.net c answer.valid.number) then (if t then 0 else run.net c b.coming.low.number) else run.net c kept.registers.word.number) (completes_is c))
-      (ap (λ l. first_value (drop 5 l)) (step c) ∙ (nexts c).code ∙ ap (λ t. if is_raised (run.net c answer.valid.number) then (if t then 0 else run.net c b.coming.code.number) else run.net c kept.registers.code.number) (completes_is c))
+      (ap (λ l. first_value (drop 4 l)) (step c) ∙ (nexts c).word ∙ ap (λ t. if t then 0 else if is_raised (run.net c answer.valid.number) then run.net c b.coming.low.number else run.net c kept.registers.word.number) (valid c))
+      (ap (λ l. first_value (drop 5 l)) (step c) ∙ (nexts c).code ∙ ap (λ t. if t then 0 else if is_raised (run.net c answer.valid.number) then run.net c b.coming.code.number else run.net c kept.registers.code.number) (valid c))
       (low_word c) (tells c).code
 
   pub runs_as_split : RunsAsSplit split.reads (port_in form.up run kept.from up back) (port_in form.down run kept.part.below wait answer) state
@@ -346,11 +346,11 @@ module _ (split : Split) (form : Form) (kept : SplitKept) (wait up : NetValue) (
     place_begins = ap first_value starts;
     place_next = place_next;
     set_next = set_next;
-    reads_begin = ap (λ l. first_value (drop 2 l)) starts;
+    reads_begin = ap (λ l. first_value (drop 1 l)) starts;
     reads_next = reads_next;
-    come_begins = ap (λ l. first_value (drop 3 l)) starts;
+    come_begins = ap (λ l. first_value (drop 2 l)) starts;
     come_next = come_next;
-    gathered_begins = (let w : run.net 0 kept.registers.word.number ≡ 0 = ap (λ l. first_value (drop 4 l)) starts in let r : run.net 0 kept.registers.code.number ≡ 0 = ap (λ l. first_value (drop 5 l)) starts in rw (w, r) refl);
+    gathered_begins = (let w : run.net 0 kept.registers.word.number ≡ 0 = ap (λ l. first_value (drop 3 l)) starts in let r : run.net 0 kept.registers.code.number ≡ 0 = ap (λ l. first_value (drop 4 l)) starts in rw (w, r) refl);
     gathered_next = gathered_next;
     valid = valid;
     word = word;

@@ -48,18 +48,24 @@ pub record TellsComing (sizes : Sizes) (registers : SplitRegisters) (answer : An
 -- what the registers take
 pub record NextAre (sizes : Sizes) (registers : SplitRegisters) (from : CommandNets) (part : Part) (taken : Taken) (coming : Coming) (arrives valid : NetValue) (next : SplitRegisters) (cycle : Cycle) : Type 0 where
   pub place : cycle.net next.place.number
-      ≡ (if is_raised (cycle.net taken.above.number) || is_raised (cycle.net taken.below.number)
-      then (if is_raised (cycle.net taken.above.number) then 0 else (cycle.net registers.place.number + 1) % 2 ^ sizes.place_bits)
+      ≡ (if is_raised (cycle.net taken.above.number) then 0
+      else if is_raised (cycle.net taken.below.number) then (cycle.net registers.place.number + 1) % 2 ^ sizes.place_bits
       else cycle.net registers.place.number)
   pub set : cycle.net next.set.number ≡ (if is_raised (cycle.net taken.below.number) && not (is_raised (cycle.net part.below.write.number)) then cycle.net part.asked.number else cycle.net registers.set.number)
   pub reads : cycle.net registers.reads.number < 31 → cycle.net next.reads.number
       ≡ (cycle.net registers.reads.number + one_if (is_raised (cycle.net taken.above.number) && not (is_raised (cycle.net from.write.number)))) - one_if (is_raised (cycle.net valid.number))
   pub come : cycle.net next.come.number
-      ≡ (if is_raised (cycle.net arrives.number) then (if is_raised (cycle.net coming.completes.number) then 0 else (cycle.net registers.come.number + 1) % 2 ^ sizes.place_bits) else cycle.net registers.come.number)
+      ≡ (if is_raised (cycle.net valid.number) then 0
+      else if is_raised (cycle.net arrives.number) then (cycle.net registers.come.number + 1) % 2 ^ sizes.place_bits
+      else cycle.net registers.come.number)
   pub word : cycle.net next.word.number
-      ≡ (if is_raised (cycle.net arrives.number) then (if is_raised (cycle.net coming.completes.number) then 0 else cycle.net coming.low.number) else cycle.net registers.word.number)
+      ≡ (if is_raised (cycle.net valid.number) then 0
+      else if is_raised (cycle.net arrives.number) then cycle.net coming.low.number
+      else cycle.net registers.word.number)
   pub code : cycle.net next.code.number
-      ≡ (if is_raised (cycle.net arrives.number) then (if is_raised (cycle.net coming.completes.number) then 0 else cycle.net coming.code.number) else cycle.net registers.code.number)
+      ≡ (if is_raised (cycle.net valid.number) then 0
+      else if is_raised (cycle.net arrives.number) then cycle.net coming.code.number
+      else cycle.net registers.code.number)
 
 -- ---- what stands lasts. No contract reads these proofs
 

@@ -1,7 +1,8 @@
 -- The registers of a splitter.
-use Rattle.std.specs.Prelude.{◌≡◌, ℕ, ◌-◌, ◌*◌, List, [], ◌∷◌}
+use Rattle.std.specs.Prelude.{◌≡◌, ℕ, ◌-◌, ◌*◌, ◌^◌, ◌<◌, List, [], ◌∷◌}
 use Rattle.netlist.specs.Nets.{NetValue}
 use Rattle.netlist.specs.Netlists.{Netlist, IsWaiting}
+use Rattle.netlist.specs.Runs.{Run, IsRun}
 use Rattle.netlist.specs.Longer.{Extends}
 use Rattle.net_parts.specs.Nets.{IsNetOfWidth}
 use Rattle.net_parts.specs.Laws.{net_lasts}
@@ -12,6 +13,10 @@ use Rattle.mm_split.specs.declared.registers.SplitRegisters.{SplitRegisters}
 
 abbrev pub group_of : SplitRegisters → List NetValue
 group_of made = made.place ∷ made.set ∷ made.reads ∷ made.come ∷ made.word ∷ made.code ∷ []
+
+-- those that begin at 0
+abbrev pub low_group_of : SplitRegisters → List NetValue
+low_group_of made = made.place ∷ made.reads ∷ made.come ∷ made.word ∷ made.code ∷ []
 
 abbrev pub owns : SplitRegisters → ℕ → Type 0
 owns made n = InGroup (group_of made) n
@@ -25,10 +30,11 @@ pub record AreRegisterNets (netlist : Netlist) (sizes : Sizes) (made : SplitRegi
   pub word : IsNetOfWidth netlist made.word ((sizes.pieces - 1) * (sizes.narrow_bytes * 8))
   pub code : IsNetOfWidth netlist made.code 2
 
--- they begin at 0 and wait
+-- the mask of pieces begins full and the others at 0, and they wait
 pub record AreRegisters (netlist : Netlist) (sizes : Sizes) (made : SplitRegisters) : Type 0 where
   pub nets : AreRegisterNets netlist sizes made
-  pub starts : StartAllLow netlist (group_of made)
+  pub starts : StartAllLow netlist (low_group_of made)
+  pub full : (run : Run) (cycles : ℕ) → IsRun netlist run cycles → 0 < cycles → run.net 0 made.set.number ≡ 2 ^ sizes.pieces - 1
   pub wait : AreWaiting netlist (group_of made)
 
 -- ---- what stands lasts. No contract reads these proofs; the law of the splitter cites them
@@ -47,6 +53,7 @@ pub registers_last : (old new : Netlist) (sizes : Sizes) (made : SplitRegisters)
 registers_last old new sizes made e w h = record {
   nets = register_nets_last old new sizes made e h.nets;
   starts = λ run cycles r. h.starts run cycles (e.runs run cycles r);
+  full = λ run cycles r. h.full run cycles (e.runs run cycles r);
   wait = record { start = h.wait.start; numbers = h.wait.numbers; wait = λ n o. w n o (h.wait.wait n o) };
 }
 

@@ -135,22 +135,22 @@ pub(crate) fn take(
     })
 }
 
-/// What a register takes: where the first bit is high another net, or 0 where the second one is too; and else itself.
+/// What a register takes: 0 where the first bit is high, another net where the second one is, and else itself.
 #[tactic(auto, using(net_parts::specs::Laws::growing))]
 fn step(
     builder: &mut Builder,
     register: Net,
-    moves: Net,
     clears: Net,
+    moves: Net,
     next: Net,
 ) -> Result<Net, NetFault>
     requires register { IsNet builder.old register }
-    requires moves { IsBit builder.old moves }
     requires clears { IsBit builder.old clears }
+    requires moves { IsBit builder.old moves }
     requires next { IsNetOfWidth builder.old next register.width }
     ensures net { IfOk result (λ net. IsNetOfWidth builder.new net register.width) }
     ensures value { IfOk result (λ net. Always builder.new (λ cycle. cycle.net net.number
-        ≡ (if is_raised (cycle.net moves.number) then (if is_raised (cycle.net clears.number) then 0 else cycle.net next.number) else cycle.net register.number))) }
+        ≡ (if is_raised (cycle.net clears.number) then 0 else if is_raised (cycle.net moves.number) then cycle.net next.number else cycle.net register.number))) }
     ensures adds { AddsNets 3 builder.old builder.new }
     ensures full { result ≡ Err NetFault.TooManyNets → 2 ^ 20 < length builder.old.lines + 3 }
 {
@@ -158,19 +158,19 @@ fn step(
         bits: builder.width(register),
         value: 0,
     };
-    let taken = MuxWord(Wire(clears), zeros, Bus(next));
-    MuxWord(Wire(moves), taken, Bus(register)).emit_word(builder)
+    let taken = MuxWord(Wire(moves), Bus(next), Bus(register));
+    MuxWord(Wire(clears), zeros, taken).emit_word(builder)
 }
 
-/// What a count takes that goes on by one, or back to 0.
+/// What a count takes that goes back to 0 where the first bit is high, and on by one where the second one is.
 #[tactic(auto, using(net_parts::specs::Laws::growing))]
-fn step_on(builder: &mut Builder, register: Net, moves: Net, clears: Net) -> Result<Net, NetFault>
+fn step_on(builder: &mut Builder, register: Net, clears: Net, moves: Net) -> Result<Net, NetFault>
     requires register { IsNet builder.old register }
-    requires moves { IsBit builder.old moves }
     requires clears { IsBit builder.old clears }
+    requires moves { IsBit builder.old moves }
     ensures net { IfOk result (λ net. IsNetOfWidth builder.new net register.width) }
     ensures value { IfOk result (λ net. Always builder.new (λ cycle. cycle.net net.number
-        ≡ (if is_raised (cycle.net moves.number) then (if is_raised (cycle.net clears.number) then 0 else (cycle.net register.number + 1) % 2 ^ register.width) else cycle.net register.number))) }
+        ≡ (if is_raised (cycle.net clears.number) then 0 else if is_raised (cycle.net moves.number) then (cycle.net register.number + 1) % 2 ^ register.width else cycle.net register.number))) }
     ensures adds { AddsNets 5 builder.old builder.new }
     ensures full { result ≡ Err NetFault.TooManyNets → 2 ^ 20 < length builder.old.lines + 5 }
 {
@@ -179,7 +179,7 @@ fn step_on(builder: &mut Builder, register: Net, moves: Net, clears: Net) -> Res
         value: 1,
     };
     let next = Add(Bus(register), one).emit_word(builder)?;
-    step(builder, register, moves, clears, next)
+    step(builder, register, clears, moves, next)
 }
 
 /// What the count of reads takes, in five bits: one more where a read comes, one less where one goes.
@@ -225,27 +225,14 @@ pub(crate) fn next_registers(
     ensures adds { AddsNets 30 builder.old builder.new }
     ensures full { result ≡ Err NetFault.TooManyNets → 2 ^ 20 < length builder.old.lines + 30 }
 {
-    let moves = Or(Wire(taken.above), Wire(taken.below)).emit(builder)?;
-    let place = step_on(builder, registers.place, moves, taken.above)?;
+    let place = step_on(builder, registers.place, taken.above, taken.below)?;
     let reads_below = And(Wire(taken.below), Not(Wire(part.below.write)));
     let set = MuxWord(reads_below, Bus(part.asked), Bus(registers.set)).emit_word(builder)?;
     let reads_above = And(Wire(taken.above), Not(Wire(from.write))).emit(builder)?;
     let reads = count_reads(builder, registers.reads, reads_above, valid)?;
-    let come = step_on(builder, registers.come, arrives, coming.completes)?;
-    let word = step(
-        builder,
-        registers.word,
-        arrives,
-        coming.completes,
-        coming.low,
-    )?;
-    let code = step(
-        builder,
-        registers.code,
-        arrives,
-        coming.completes,
-        coming.code,
-    )?;
+    let come = step_on(builder, registers.come, valid, arrives)?;
+    let word = step(builder, registers.word, valid, arrives, coming.low)?;
+    let code = step(builder, registers.code, valid, arrives, coming.code)?;
     Ok(SplitRegisters {
         place,
         set,

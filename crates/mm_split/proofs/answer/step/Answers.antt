@@ -6,4 +6,4 @@ pub emit_word-requires : goal.emit_word-requires
 emit_word-requires c =
     let wide = c.width.ensures.value in
     let bounds = c.width.ensures.bounds in
-    (c.requires.moves, (c.requires.clears, (bounds.0, bounds.1, none_fits _), c.requires.next.is_net, wide ∙ sym c.requires.next.has_width), c.requires.register, wide)
+    (c.requires.clears, (bounds.0, bounds.1, none_fits _), (c.requires.moves, c.requires.next.is_net, c.requires.register, c.requires.next.has_width), wide ∙ sym c.requires.next.has_width)

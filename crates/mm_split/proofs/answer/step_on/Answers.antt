@@ -31,8 +31,8 @@ emit_word-requires c =
 
 pub returns-clause-value : goal.returns-clause-value
 returns-clause-value c =
-    if_ok c.step.result _ (λ net. Always c.step.new.builder (λ cycle. cycle.net net.number ≡ (if is_raised (cycle.net c.args.moves.number) then (if is_raised (cycle.net c.args.clears.number) then 0 else (cycle.net c.args.register.number + 1) % 2 ^ c.args.register.width) else cycle.net c.args.register.number)))
+    if_ok c.step.result _ (λ net. Always c.step.new.builder (λ cycle. cycle.net net.number ≡ (if is_raised (cycle.net c.args.clears.number) then 0 else if is_raised (cycle.net c.args.moves.number) then (cycle.net c.args.register.number + 1) % 2 ^ c.args.register.width else cycle.net c.args.register.number)))
     (λ net value cycle v. (
     let v0 = c.step.ensures.adds.grows.extends.valuations cycle v in
-    value cycle v ∙ ap (λ x. if is_raised (cycle.net c.args.moves.number) then (if is_raised (cycle.net c.args.clears.number) then 0 else x) else cycle.net c.args.register.number) (c.in_ok-next.ensures.value cycle v0)))
+    value cycle v ∙ ap (λ x. if is_raised (cycle.net c.args.clears.number) then 0 else if is_raised (cycle.net c.args.moves.number) then x else cycle.net c.args.register.number) (c.in_ok-next.ensures.value cycle v0)))
     c.step.ensures.value
