@@ -1,8 +1,8 @@
 -- The nets of a beat with its empty symbols set to 0 are the machine that clears them.
-use Rattle.std.proofs.Common.{◌≡◌, ℕ, suc, ◌+◌, ◌-◌, ◌*◌, ◌/◌, ◌%◌, ◌^◌, ◌<◌, ◌≤◌, Bool, true, false, ◌==◌, nat_lt, if◌then◌else◌, refl, sym, subst, ap, ◌∙◌, arith}
-use Rattle.std.proofs.lemmas.Bool.{ltb-true, ltb-false}
+use Rattle.std.proofs.Common.{◌≡◌, ℕ, suc, ◌+◌, ◌-◌, ◌*◌, ◌/◌, ◌%◌, ◌^◌, ◌<◌, ◌≤◌, Bool, true, false, ◌==◌, nat_eq, nat_lt, if◌then◌else◌, refl, sym, subst, ap, ◌∙◌, arith}
+use Rattle.std.proofs.lemmas.Bool.{ltb-true, ltb-false, le-ltb, ne_eqb}
 use Rattle.std.proofs.Math.Nat.{div-eq_of_lt}
-use Rattle.std.proofs.Math.Pow.{shr_mod}
+use Rattle.std.proofs.Math.Pow.{shr_mod, pow_mono}
 use Rattle.netlist.specs.Nets.{NetValue}
 use Rattle.netlist.specs.Netlists.{Netlist}
 use Rattle.netlist.specs.Runs.{Cycle, Run, Always, cycle_of, IsEndlessRun, IsValuation}
@@ -35,6 +35,14 @@ low_all x low fits = let none : x / 2 ^ low ≡ 0 = div-eq_of_lt {n = x} {m = 2 
 pub more_cleared : (count number empty more cleared shorter o e : ℕ) → number ≡ count → more ≡ (if nat_lt number empty then 1 else 0) → shorter ≡ o → e ≡ (if more == 0 then cleared else shorter) → e ≡ (if nat_lt count empty then o else cleared)
 more_cleared count number empty more cleared shorter o e at is shorts chosen =
     chosen_by (nat_lt count empty) more cleared shorter e (is ∙ ap (λ n. if nat_lt n empty then 1 else 0) at) chosen ∙ ap (λ n. if nat_lt count empty then n else cleared) shorts
+
+-- no number of so many bits is above the largest one
+pub none_above : (count empty limit cleared shorter : ℕ) → count + 1 ≡ limit → empty < limit → cleared ≡ (if nat_lt count empty then shorter else cleared)
+none_above count empty limit cleared shorter largest fits = ap (λ t. if t then shorter else cleared) (sym (le-ltb count empty (omega (arith, largest, fits))))
+
+-- and of 8 bits or more the largest one is 255 at least
+pub not_largest : (bits number : ℕ) → number < 128 → 8 ≤ bits → nat_eq (number + 1) (2 ^ bits) ≡ false
+not_largest bits number small many = let large : 2 ^ 8 ≤ 2 ^ bits = pow_mono many in ne_eqb (number + 1) (2 ^ bits) (λ same. omega (arith, small, large, same))
 
 -- so many of the lowest symbols are cleared, where they are empty
 pub record AreCleared (bits done : ℕ) (word empty made : NetValue) (old new : Netlist) : Type 0 where

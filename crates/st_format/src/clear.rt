@@ -1,7 +1,7 @@
 //! The empty symbols of each beat set to 0: a beat goes straight through, and no state is kept. It makes six nets for each symbol
 //! and four more at most, and a beat passes in each cycle at any pace. Its law is that of `clear_is_a_stage`.
 
-ghost use Rattle.std.specs.Prelude.{◌≡◌, ◌+◌, ◌*◌, ◌^◌, ◌<◌, ◌≤◌, nat_lt, if◌then◌else◌, length, IfOk};
+ghost use Rattle.std.specs.Prelude.{◌≡◌, ◌+◌, ◌*◌, ◌^◌, ◌<◌, ◌≤◌, nat_eq, nat_lt, if◌then◌else◌, length, IfOk};
 ghost use Rattle.netlist.specs.Netlists.{IsNet};
 ghost use Rattle.netlist.specs.Runs.{Always};
 ghost use Rattle.net_parts.specs.Nets.{IsNetOfWidth};
@@ -62,7 +62,15 @@ fn clear_low(builder: &mut Builder, word: Net, low: u8) -> Result<Net, NetFault>
     builder.concat(high, zeros)
 }
 
-/// The word with one more symbol cleared where more are empty.
+/// Whether this is the largest number of so many bits.
+fn is_largest(number: u8, bits: u8) -> bool
+    requires { number < 128 }
+    ensures { result ≡ nat_eq (number + 1) (2 ^ bits) }
+{
+    bits < 8 && number + 1 == 1 << bits
+}
+
+/// The word with one more symbol cleared where more are empty. Where `empty` can't tell more, that is never.
 #[tactic(auto, using(net_parts::specs::Laws::growing))]
 fn clear_more(
     builder: &mut Builder,
@@ -85,6 +93,9 @@ fn clear_more(
     ensures full { result ≡ Err NetFault.TooManyNets → 2 ^ 20 < length builder.old.lines + 6 }
 {
     let width = builder.width(empty);
+    if is_largest(count, width) {
+        return Ok(cleared);
+    }
     let number = constant(builder, width, count)?;
     let more = builder.less(number, empty)?;
     let shorter = clear_low(builder, word, bits * count + bits)?;

@@ -1,9 +1,10 @@
-use Rattle.std.proofs.Common.{◌≡◌, ◌+◌, ◌*◌, nat_lt, if◌then◌else◌, ◌∙◌, arith}
+use Rattle.std.proofs.Common.{◌≡◌, ◌+◌, ◌*◌, ◌^◌, ◌<◌, nat_lt, if◌then◌else◌, sym, subst, ◌∙◌, arith}
+use Rattle.std.proofs.lemmas.Bool.{eqb-true}
 use Rattle.netlist.specs.Runs.{Always}
 use Rattle.net_parts.specs.Nets.{IsNetOfWidth}
-use Rattle.net_parts.specs.Laws.{extends_twice, grows_once, adds_twice, adds_fewer, if_ok}
+use Rattle.net_parts.specs.Laws.{extends_twice, grows_once, adds_twice, adds_fewer, if_ok, net_fits}
 use Rattle.st_format.specs.ClearNets.{without_low}
-use Rattle.st_format.proofs.ClearLaw.{more_cleared}
+use Rattle.st_format.proofs.ClearLaw.{more_cleared, none_above}
 use Rattle.stage_core.specs.Refusing.{handed_on}
 use Rattle.st_format.proofs.clear.clear_more.Goals as goal
 
@@ -23,6 +24,12 @@ returns-clause-value c =
     let v0 = c.constant.ensures.adds.grows.extends.valuations cycle v1 in
     more_cleared c.args.count _ (cycle.net c.args.empty.number) _ (cycle.net c.args.cleared.number) _ _ _ (c.in_ok-number.ensures.value cycle v1) (c.in_ok-more.ensures.value cycle v2).1 (c.in_ok-shorter.ensures.value cycle v3) (value cycle v4).1))
     c.mux.ensures.value
+
+pub returns-then-is_largest-clause-value : goal.returns-then-is_largest-clause-value
+returns-then-is_largest-clause-value c cycle v =
+    let largest = eqb-true _ _ (sym c.is_largest.ensures ∙ c.if-is_largest.true) in
+    let fits = subst (λ w. cycle.net c.args.empty.number < 2 ^ w) (sym c.width-width.ensures.value) (net_fits _ _ c.requires.empty cycle v) in
+    none_above c.args.count _ _ _ _ largest fits
 
 pub returns-clause-adds : goal.returns-clause-adds
 returns-clause-adds c = adds_fewer _ _ _ _ (omega arith) (adds_twice _ _ _ _ _ (adds_twice _ _ _ _ _ (adds_twice _ _ _ _ _ c.constant.ensures.adds (grows_once _ _ c.less.ensures.extends c.less.ensures.grows)) c.clear_low.ensures.adds) (grows_once _ _ c.mux.ensures.extends c.mux.ensures.grows))
