@@ -28,7 +28,7 @@ use Rattle.mm_agent.specs.declared.reads.HeldReads.TheVariants.{Never, Counts, R
 use Rattle.mm_agent.specs.declared.waits.HeldWait.{HeldWait}
 use Rattle.mm_agent.specs.declared.waits.HeldWait.TheVariants.{Given, Soon, Counts as Stands}
 use Rattle.command_nets.specs.Ports.{HasNet, value_or, all_ones}
-use Rattle.mm_agent.specs.Agents.{bursts, needs_queue, BearsOneTag, GivesAnswer, agent_signals, agent_view}
+use Rattle.mm_agent.specs.Agents.{counts_words, needs_queue, BearsOneTag, GivesAnswer, agent_signals, agent_view}
 use Rattle.mm_agent.specs.Reads.{held_queue, AreReadsHeld, ReadsGoOn}
 use Rattle.mm_agent.specs.Answers.{AreAnswersGiven, IsAnswerTag}
 use Rattle.mm_agent.specs.Waits.{wait_by, shows_beat, IsWaitHeld, WaitGoesOn}
@@ -242,7 +242,7 @@ module _ (several : Bool) (port : AgentPort) (nets : AgentNets) (command : Comma
 
   -- reads of several hosts or of several words aren't counted
   one_host : (unanswered full : NetValue) → HoldsAsNeeded (Counts unanswered full) → AreReadsHeld netlist port command.read h.shown (Counts unanswered full) → several ≡ false
-  one_host unanswered full needed k = or_first several (bursts port) (no_queue (several || bursts port) port.reads port.readdatavalid needed k.reads k.kind)
+  one_host unanswered full needed k = or_first several (counts_words port) (no_queue (several || counts_words port) port.reads port.readdatavalid needed k.reads k.kind)
 
   -- ---- a queue
 
@@ -255,13 +255,13 @@ module _ (several : Bool) (port : AgentPort) (nets : AgentNets) (command : Comma
 
     same_queue : (c : ℕ) → c ≤ end → queue_at U came c ≡ queue_in traffic run c
     same_queue = queue_same U came traffic run end (λ c lt. sym (ap is_raised ((g (cycle_of run c) (val c)).valid))) (λ c lt. takes_it c)
-        (λ c lt some. ap (λ n. one_read (run.net c command.tag.number) n) (sym (words_asked (bursts port) command.count (cycle_of run c) (λ plain. fit.one_word plain c lt some))))
+        (λ c lt some. ap (λ n. one_read (run.net c command.tag.number) n) (sym (words_asked (counts_words port) command.count (cycle_of run c) (λ plain. fit.one_word plain c lt some))))
 
     in_room : (c : ℕ) → c < end → IsTakenInRoom queue traffic (cycle_of run c)
     in_room c lt some = (
       none_while_full (R c) (is_raised (run.net c queue.full.number)) (N c)
           (ap (λ t. R c && not t) (sym (l (cycle_of run c) (val c))) ∙ sym (q.is_taken (cycle_of run c) (val c)) ∙ some),
-      some_asked (bursts port) command.count (cycle_of run c) (λ bursts. fit.some_words bursts c lt (takes_it c ∙ some)),
+      some_asked (counts_words port) command.count (cycle_of run c) (λ several. fit.some_words several c lt (takes_it c ∙ some)),
     )
 
     shows_it : (c : ℕ) → c ≤ end → ShowsQueue queue (queue_in traffic run c) (cycle_of run c)
@@ -368,8 +368,8 @@ module _ (several : Bool) (port : AgentPort) (nets : AgentNets) (command : Comma
     entries : {t count : ℕ} → t ≡ tag → count ≡ 1 → ◌≡◌ {A = Entry} (record { tag = t; left = count }) (one_word tag)
     entries {t} {count} e f = ap (λ n. record { tag = n; left = count }) e ∙ ap (λ n. record { tag = tag; left = n }) f
 
-    no_burst : IsFalse (bursts port)
-    no_burst = or_second several (bursts port) (no_queue (several || bursts port) port.reads port.readdatavalid needed k.reads k.kind)
+    no_burst : IsFalse (counts_words port)
+    no_burst = or_second several (counts_words port) (no_queue (several || counts_words port) port.reads port.readdatavalid needed k.reads k.kind)
 
   shown_is : port.reads ≡ true → (c : ℕ) → value_or 0 made.read (cycle_of run c) ≡ run.net c h.shown.number
   shown_is some c = ap (λ (o : Option NetValue). value_or 0 o (cycle_of run c)) (h.read ∙ where_it_reads port.reads (Some h.shown) None some)

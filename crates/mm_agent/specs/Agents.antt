@@ -1,5 +1,5 @@
 -- The nets at the ports of an agent, what they are in a run, and the nets that are made for it.
-use Rattle.std.specs.Prelude.{◌≡◌, ℕ, ◌*◌, ◌%◌, Bool, true, not, ◌&&◌, ◌||◌, nat_eq, if◌then◌else◌, Option, Some, None}
+use Rattle.std.specs.Prelude.{◌≡◌, ℕ, ◌*◌, ◌%◌, Bool, true, not, ◌&&◌, ◌||◌, nat_eq, nat_lt, if◌then◌else◌, Option, Some, None}
 use Rattle.iface_roles.specs.declared.records.AgentPort.{AgentPort}
 use Rattle.iface_roles.specs.Proper.{span_of}
 use Rattle.netlist.specs.Nets.{NetValue}
@@ -23,6 +23,10 @@ has_address port = not (nat_eq port.address_bits 0)
 abbrev pub bursts : AgentPort → Bool
 bursts port = not (nat_eq port.burst_bits 0)
 
+-- a read may ask for more than one word. A burstcount of one bit is always 1
+abbrev pub counts_words : AgentPort → Bool
+counts_words port = nat_lt 1 port.burst_bits
+
 -- no beat stands before it is accepted
 pub record AcceptsAtOnce (port : AgentPort) : Type 0 where
   pub read : port.read_wait ≡ 0
@@ -30,15 +34,15 @@ pub record AcceptsAtOnce (port : AgentPort) : Type 0 where
 
 -- unanswered reads are to be kept in a queue: they are of several hosts or have several words, and words answer them at any time
 abbrev pub needs_queue : Bool → AgentPort → Bool
-needs_queue several port = (several || bursts port) && (port.reads && port.readdatavalid)
+needs_queue several port = (several || counts_words port) && (port.reads && port.readdatavalid)
 
 -- the net that tells how many words a read asks for, where it may be more than one
 abbrev pub count_of : AgentPort → CommandNets → Option NetValue
-count_of port command = if bursts port then Some command.count else None
+count_of port command = if counts_words port then Some command.count else None
 
 -- how many bits tell that, on a net of such a width
 abbrev pub count_bits : AgentPort → ℕ → Option ℕ
-count_bits port width = if bursts port then Some width else None
+count_bits port width = if counts_words port then Some width else None
 
 -- what an agent gives
 pub record AreAgentNets (netlist : Netlist) (port : AgentPort) (nets : AgentNets) : Type 0 where

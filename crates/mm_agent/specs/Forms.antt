@@ -22,7 +22,7 @@ use Rattle.read_queues.specs.declared.queue.ReadTraffic.{ReadTraffic}
 use Rattle.read_queues.specs.Queues.{RunsAsQueue, runs_last}
 use Rattle.mm_agent.specs.declared.nets.AgentNets.{AgentNets}
 use Rattle.mm_agent.specs.declared.nets.AgentMade.{AgentMade}
-use Rattle.mm_agent.specs.Agents.{AreAgentNets, agent_lasts, AcceptsAtOnce, needs_queue, count_of, BearsOneTag, PlacesAddress, GivesAnswer, read_of, shape_above, bursts, agent_view}
+use Rattle.mm_agent.specs.Agents.{AreAgentNets, agent_lasts, AcceptsAtOnce, needs_queue, count_of, BearsOneTag, PlacesAddress, GivesAnswer, read_of, shape_above, counts_words, agent_view}
 use Rattle.mm_agent.specs.Reads.{owns_reads, sets_reads, held_queue, hold_nets, finish_nets, AreReadsHeld, ReadsGoOn, reads_last, reads_go_on}
 use Rattle.mm_agent.specs.Answers.{tag_nets, AreAnswersGiven, IsAnswerTag, answers_last, answer_tag_lasts}
 use Rattle.mm_agent.specs.Waits.{owns_wait, IsWaitHeld, WaitGoesOn, wait_lasts, wait_goes_on}
@@ -120,11 +120,11 @@ port_above port command made run = port_in (shape_above port) run command made.w
 abbrev pub tagged_above : AgentPort → CommandNets → AgentMade → Run → TaggedPort
 tagged_above port command made run = record { port = port_above port command made run; answer_tag = λ c. run.net c made.answer_tag.number }
 
--- what the part asks of the commands: no kind that the agent lacks, and reads of one word where it has no bursts, else of one at least
+-- what the part asks of the commands: no kind that the agent lacks, and reads of one word where they may have no more, else of one at least
 pub record AreFitFor (port : AgentPort) (up : Port) (end : ℕ) : Type 0 where
   pub kinds : ServesKinds (agent_side port) up end
-  pub one_word : IsFalse (bursts port) → (c : ℕ) → c < end → IsTrue (takes_read up c) → up.commands.count c ≡ 1
-  pub some_words : IsTrue (bursts port) → (c : ℕ) → c < end → IsTrue (takes_read up c) → 1 ≤ up.commands.count c
+  pub one_word : IsFalse (counts_words port) → (c : ℕ) → c < end → IsTrue (takes_read up c) → up.commands.count c ≡ 1
+  pub some_words : IsTrue (counts_words port) → (c : ℕ) → c < end → IsTrue (takes_read up c) → 1 ≤ up.commands.count c
 
 -- the run has a state with which it is one of the machine of an agent
 pub record IsAgentRun (port : AgentPort) (nets : AgentNets) (command : CommandNets) (made : AgentMade) (run : Run) (end : ℕ) : Type 0 where

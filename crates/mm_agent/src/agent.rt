@@ -7,7 +7,7 @@ ghost use Rattle.net_parts.specs.Nets.{IsNetOfWidth, IsRegister};
 ghost use Rattle.net_parts.specs.Growth.{GrowsBy, GrowsInMemory, StillWait, WaitsWithout, StillWaitForWrite, WriteWaitsWithout};
 ghost use Rattle.command_nets.specs.Nets.{AreCommandNets};
 ghost use Rattle.read_queues.specs.Held.{owns_queue, AreWordsOf};
-ghost use Rattle.mm_agent.specs.Agents.{AreAgentNets, BearsOneTag, AreMadeNets, read_of, bursts, needs_queue, count_of, count_bits};
+ghost use Rattle.mm_agent.specs.Agents.{AreAgentNets, BearsOneTag, AreMadeNets, read_of, counts_words, needs_queue, count_of, count_bits};
 ghost use Rattle.mm_agent.specs.Reads.{held_queue, IsReadQueue};
 ghost use Rattle.mm_agent.specs.Forms.{part_nets, agent_nets, agent_memories, HasNoRoom, owns, sets, traffic_of, IsAgentPart, IgnoresAnswer, RunsAsAgent};
 
@@ -21,7 +21,7 @@ use iface_roles::AgentPort;
 use netlist::{Builder, Net, NetFault};
 use read_queues::{HeldReadQueue, ReadTraffic, finish_queue, make_queue};
 
-/// A queue of the unanswered reads, by their tags, and by their words where an agent has bursts.
+/// A queue of the unanswered reads, by their tags, and by their words where they may have more than one.
 #[derive(Clone, Copy)]
 struct TagQueue {
     queue: HeldReadQueue,
@@ -34,21 +34,28 @@ fn read_of(port: &AgentPort, shown: Net) -> Option<Net>
     if port.reads { Some(shown) } else { None }
 }
 
+/// Whether a read may ask for more than one word.
+fn counts_words(port: &AgentPort) -> bool
+    ensures { result ≡ counts_words port.now }
+{
+    1 < port.burst_bits
+}
+
 /// Whether unanswered reads are to be kept in a queue.
 fn needs_queue(port: &AgentPort, several: bool) -> bool
     ensures { result ≡ needs_queue several port.now }
 {
-    (several || port.burst_bits != 0) && port.reads && port.readdatavalid
+    (several || counts_words(port)) && port.reads && port.readdatavalid
 }
 
 /// How many words a read asks for, where it may be more than one.
 fn count_of(port: &AgentPort, command: &CommandNets) -> Option<Net>
     ensures { result ≡ count_of port.now command.now }
 {
-    if port.burst_bits == 0 {
-        None
-    } else {
+    if counts_words(port) {
         Some(command.count)
+    } else {
+        None
     }
 }
 
@@ -56,10 +63,10 @@ fn count_of(port: &AgentPort, command: &CommandNets) -> Option<Net>
 fn count_bits(port: &AgentPort, width: u8) -> Option<u8>
     ensures { result ≡ count_bits port.now width }
 {
-    if port.burst_bits == 0 {
-        None
-    } else {
+    if counts_words(port) {
         Some(width)
+    } else {
+        None
     }
 }
 
@@ -182,7 +189,7 @@ fn emit_queued(
     requires reaches { span_of port.now ≤ 2 ^ command.now.address.width }
     requires tag { several ≡ false → BearsOneTag builder.old command.now }
     requires needed { needs_queue several port.now ≡ true }
-    requires words { bursts port.now ≡ true → command.now.count.width + command.now.tag.width ≤ 128 }
+    requires words { counts_words port.now ≡ true → command.now.count.width + command.now.tag.width ≤ 128 }
     ensures nets { IfOk result (λ made. AreMadeNets builder.new port.now command.now made) }
     ensures part { IfOk result (λ made. IsAgentPart builder.new several port.now nets.now command.now made) }
     ensures one_tag { IfOk result (λ made. several ≡ false → made.answer_tag ≡ command.now.tag) }
@@ -206,7 +213,7 @@ fn emit_queued(
 /// Makes what an agent is shown of a command in bytes, and the wait and the answers above, from the nets at its ports.
 ///
 /// Where commands of several hosts come, each answer bears the tag of the read that it answers; else all commands bear one tag. The
-/// tag and the count of a read of an agent with bursts fit one word of a memory. After an error the builder is to be dropped: a register or a memory may stand in it that waits.
+/// tag and the count of a read of several words fit one word of a memory. After an error the builder is to be dropped: a register or a memory may stand in it that waits.
 pub fn emit_agent(
     builder: &mut Builder,
     port: &AgentPort,
@@ -219,7 +226,7 @@ pub fn emit_agent(
     requires command { AreCommandNets builder.old command.now }
     requires reaches { span_of port.now ≤ 2 ^ command.now.address.width }
     requires tag { several ≡ false → BearsOneTag builder.old command.now }
-    requires words { bursts port.now ≡ true → command.now.count.width + command.now.tag.width ≤ 128 }
+    requires words { counts_words port.now ≡ true → command.now.count.width + command.now.tag.width ≤ 128 }
     ensures nets { IfOk result (λ made. AreMadeNets builder.new port.now command.now made) }
     ensures part { IfOk result (λ made. IsAgentPart builder.new several port.now nets.now command.now made) }
     ensures one_tag { IfOk result (λ made. several ≡ false → made.answer_tag ≡ command.now.tag) }

@@ -16,7 +16,7 @@ use Rattle.mm_agent.specs.declared.reads.HeldReads.{HeldReads}
 use Rattle.mm_agent.specs.declared.reads.HeldReads.TheVariants.{Never, Counts, Row, Queued}
 use Rattle.mm_agent.specs.declared.nets.AgentNets.{AgentNets}
 use Rattle.mm_agent.specs.declared.nets.AgentMade.{AgentMade}
-use Rattle.mm_agent.specs.Agents.{bursts}
+use Rattle.mm_agent.specs.Agents.{counts_words}
 use Rattle.mm_agent.specs.Reads.{held_queue, ReadsCount, CountsOn, AreReadsHeld, ReadsGoOn}
 use Rattle.mm_agent.specs.Forms.{part_lasts}
 use Rattle.mm_agent.specs.Forms.{IsAgentPart as IsMadePart}
@@ -117,8 +117,8 @@ made_bounds : (grown done : Netlist) (several : Bool) (port : AgentPort) (nets :
     HasAtMost done (bound_of port) command made.waitrequest made.answer
 made_bounds grown done several port nets command made words part grows alone valid longer e run endless c =
     let later = part_lasts grown longer several port nets command made part (extends_twice grown done longer grows e) in
-    let plain : bursts port ≡ false = ap (λ n. not (nat_eq n 0)) words in
-    let none = part.queued ∙ ap (λ (b : Bool). (b || bursts port) && (port.reads && port.readdatavalid)) alone ∙ ap (λ (b : Bool). b && (port.reads && port.readdatavalid)) plain in
+    let plain : counts_words port ≡ false = ap (nat_lt 1) words in
+    let none = part.queued ∙ ap (λ (b : Bool). (b || counts_words port) && (port.reads && port.readdatavalid)) alone ∙ ap (λ (b : Bool). b && (port.reads && port.readdatavalid)) plain in
     counted longer port command.read later.shown later.busy made.answer.valid made.waitrequest made.reads later.held later.on none valid run endless c
 
 -- ---- behind the arbiter of one host alone, which is a wire

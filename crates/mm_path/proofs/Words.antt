@@ -1,6 +1,7 @@
--- Reads for an agent without bursts ask for one word, and those for one with bursts for one at least.
-use Rattle.std.proofs.Common.{◌≡◌, ℕ, ◌<◌, ◌≤◌, zero, suc, Bool, true, false, not, ◌||◌, cond, nat_eq, refl, sym, ap, subst, ◌∙◌, arith, IsTrue}
+-- Reads for an agent whose reads have one word ask for one, and those for another for one at least.
+use Rattle.std.proofs.Common.{◌≡◌, ℕ, ◌<◌, ◌≤◌, zero, suc, Bool, true, false, not, ◌||◌, nat_lt, refl, sym, ap, subst, ◌∙◌, arith, IsTrue}
 use Rattle.std.specs.Bool.{IsFalse}
+use Rattle.std.proofs.lemmas.Bool.{ltb-false}
 use Rattle.iface_roles.specs.declared.records.AgentPort.{AgentPort}
 use Rattle.histories.specs.History.{is_raised}
 use Rattle.mm_runs.specs.Views.{Shape, Signals, Levels}
@@ -12,18 +13,16 @@ use Rattle.mm_parts.specs.Queue.{takes_read}
 use Rattle.memory_sides.specs.Sides.{burst_width}
 use Rattle.memory_plans.specs.Systems.{side_of_agent, memory_system}
 use Rattle.link_rules.specs.Plans.{PlanTable}
-use Rattle.mm_agent.specs.Agents.{bursts, shape_above}
+use Rattle.mm_agent.specs.Agents.{counts_words, shape_above}
 use Rattle.mm_agent.specs.Forms.{AreFitFor}
 use Rattle.mm_path.specs.Maps.{IsAgentOf}
 use Rattle.mm_path.proofs.Entries.{both}
 
 -- without burstcount its width counts as 1
-plain_width : (bits : ℕ) → IsFalse (not (nat_eq bits 0)) → burst_width bits ≡ 1
-plain_width bits plain = by (nat_eq bits 0) refl
-  where
-    by : (b : Bool) → nat_eq bits 0 ≡ b → cond (nat_eq bits 0) 1 bits ≡ 1
-    by true e = ap (λ b. cond b 1 bits) e
-    by false e = absurd (let no : true ≡ false = sym (ap not e) ∙ plain in cc)
+plain_width : (bits : ℕ) → IsFalse (nat_lt 1 bits) → burst_width bits ≡ 1
+plain_width zero plain = refl
+plain_width (suc zero) plain = refl
+plain_width (suc (suc bits)) plain = absurd (let most = ltb-false 1 (suc (suc bits)) plain in omega (arith, most))
 
 module _ (shape : Shape) (signals : Signals) (accepts : ℕ → Bool) (end : ℕ) (legal : AreLegal shape signals accepts end) where
   abbrev pub is_read : ℕ → Bool
@@ -59,7 +58,7 @@ module _ (shape : Shape) (signals : Signals) (accepts : ℕ → Bool) (end : ℕ
       by false e before = presented (suc c) within reads (let here = shown (suc c) reads in rw (here, e) refl)
 
 module _ (plan : PlanTable) (agent : ℕ) (port : AgentPort) (is : IsAgentOf plan agent port) (up : Port) (shape : up.shape ≡ shape_above port) (end : ℕ) (fit : IsFit (memory_system plan) agent up end) where
-  one_word : IsFalse (bursts port) → (c : ℕ) → c < end → IsTrue (takes_read up c) → up.commands.count c ≡ 1
+  one_word : IsFalse (counts_words port) → (c : ℕ) → c < end → IsTrue (takes_read up c) → up.commands.count c ≡ 1
   one_word plain c within taken =
       let bounds = in_bounds up.shape up.commands.signals (takes up) end fit.legal.legal c within (both (takes up c) (is_raised (up.commands.read c)) taken).1 in
       let width : up.shape.burst_bits ≡ 1 = ap (λ (s : Shape). s.burst_bits) shape ∙ plain_width port.burst_bits plain in
@@ -68,8 +67,8 @@ module _ (plan : PlanTable) (agent : ℕ) (port : AgentPort) (is : IsAgentOf pla
       let most = bounds.1 in
       omega (arith, least, most, longest)
 
-  some_words : IsTrue (bursts port) → (c : ℕ) → c < end → IsTrue (takes_read up c) → 1 ≤ up.commands.count c
-  some_words bursts c within taken = (in_bounds up.shape up.commands.signals (takes up) end fit.legal.legal c within (both (takes up c) (is_raised (up.commands.read c)) taken).1).0
+  some_words : IsTrue (counts_words port) → (c : ℕ) → c < end → IsTrue (takes_read up c) → 1 ≤ up.commands.count c
+  some_words several c within taken = (in_bounds up.shape up.commands.signals (takes up) end fit.legal.legal c within (both (takes up c) (is_raised (up.commands.read c)) taken).1).0
 
   pub are_fit : AreFitFor port up end
   are_fit = record {

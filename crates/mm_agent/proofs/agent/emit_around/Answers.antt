@@ -16,7 +16,7 @@ use Rattle.read_queues.specs.Queues.{RunsAsQueue}
 use Rattle.mm_agent.specs.declared.nets.AgentMade.{AgentMade}
 use Rattle.mm_agent.specs.declared.reads.HeldReads.{HeldReads}
 use Rattle.mm_agent.specs.declared.reads.HeldReads.TheVariants.{Never, Counts, Row, Queued}
-use Rattle.mm_agent.specs.Agents.{AreMadeNets, bursts}
+use Rattle.mm_agent.specs.Agents.{AreMadeNets, counts_words}
 use Rattle.mm_agent.specs.Reads.{owns_reads, held_queue}
 use Rattle.mm_agent.specs.Forms.{part_nets, QueueGoesOn, AnyQueueGoesOn, part_lasts, queue_goes_on}
 use Rattle.mm_agent.proofs.Machine.{machine}
@@ -70,7 +70,7 @@ finish_queue-requires-clause-tag c = rw c.traffic_of-traffic.ensures (record {
 pub finish_queue-requires-clause-count : goal.finish_queue-requires-clause-count
 finish_queue-requires-clause-count c =
     let grown = extends_twice _ _ _ c.emit_part.ensures.grows.extends c.unless.ensures.adds.grows.extends in
-    rw c.traffic_of-traffic.ensures (count_told (bursts c.args.port.now) _ c.args.command.now.count c.args.queue.words (grown.nets _ _ c.requires.command.count) c.requires.words)
+    rw c.traffic_of-traffic.ensures (count_told (counts_words c.args.port.now) _ c.args.command.now.count c.args.queue.words (grown.nets _ _ c.requires.command.count) c.requires.words)
 
 pub finish_queue-requires-clause-valid : goal.finish_queue-requires-clause-valid
 finish_queue-requires-clause-valid c = rw c.traffic_of-traffic.ensures (net_lasts _ _ _ _ c.unless.ensures.adds.grows.extends c.in_ok-made.ensures.nets.answer.valid)

@@ -7,7 +7,7 @@ use Rattle.net_parts.specs.Refusing.{handed_on}
 use Rattle.command_nets.specs.declared.nets.CommandNets.{CommandNets}
 use Rattle.command_nets.specs.Groups.{command_lasts}
 use Rattle.read_queues.specs.Held.{owns_queue, bits_of, AreWordsOf}
-use Rattle.mm_agent.specs.Agents.{bursts, count_bits, BearsOneTag, agent_lasts}
+use Rattle.mm_agent.specs.Agents.{counts_words, count_bits, BearsOneTag, agent_lasts}
 use Rattle.mm_agent.specs.Memories.{write_within, memory_grows_fewer}
 use Rattle.mm_agent.proofs.agent.emit_queued.Goals as goal
 
@@ -39,20 +39,20 @@ pub emit_around-requires-clause-command : goal.emit_around-requires-clause-comma
 emit_around-requires-clause-command c = command_lasts _ _ _ c.make_queue.ensures.grows.extends c.requires.command
 
 pub make_queue-requires-clause-some_count : goal.make_queue-requires-clause-some_count
-make_queue-requires-clause-some_count c bits e = some_bits (bursts c.args.port.now) _ bits c.width.ensures.bounds.0 (sym c.count_bits-counts.ensures ∙ e)
+make_queue-requires-clause-some_count c bits e = some_bits (counts_words c.args.port.now) _ bits c.width.ensures.bounds.0 (sym c.count_bits-counts.ensures ∙ e)
 
 pub make_queue-requires-clause-small : goal.make_queue-requires-clause-small
 make_queue-requires-clause-small c =
     let counts = c.count_bits-counts.ensures ∙ ap (count_bits c.args.port.now) c.width.ensures.value in
     let small = c.width-bits.ensures.bounds in
     let tag = c.width-bits.ensures.value in
-    rw (counts, tag) (fits_word (bursts c.args.port.now) c.args.command.now.count.width c.args.command.now.tag.width (omega (arith, small.1, tag)) c.requires.words)
+    rw (counts, tag) (fits_word (counts_words c.args.port.now) c.args.command.now.count.width c.args.command.now.tag.width (omega (arith, small.1, tag)) c.requires.words)
 
 pub emit_around-requires-clause-tag : goal.emit_around-requires-clause-tag
 emit_around-requires-clause-tag c one = one_tag_lasts _ _ _ (c.requires.tag one) c.make_queue.ensures.grows.extends
 
 pub emit_around-requires-clause-queue : goal.emit_around-requires-clause-queue
-emit_around-requires-clause-queue c = record { reads = and_first _ _ (and_second (c.args.several || bursts c.args.port.now) _ c.requires.needed); kind = and_second c.args.port.now.reads _ (and_second (c.args.several || bursts c.args.port.now) _ c.requires.needed); made = c.in_ok-queue.ensures.made; bound = c.in_ok-queue.ensures.bound ∙ c.bound_on.ensures.bound }
+emit_around-requires-clause-queue c = record { reads = and_first _ _ (and_second (c.args.several || counts_words c.args.port.now) _ c.requires.needed); kind = and_second c.args.port.now.reads _ (and_second (c.args.several || counts_words c.args.port.now) _ c.requires.needed); made = c.in_ok-queue.ensures.made; bound = c.in_ok-queue.ensures.bound ∙ c.bound_on.ensures.bound }
 
 pub emit_around-requires-clause-queue_tag : goal.emit_around-requires-clause-queue_tag
 emit_around-requires-clause-queue_tag c = record { is_net = c.in_ok-queue.ensures.made.tag_net; has_width = c.in_ok-queue.ensures.tag ∙ c.width-bits.ensures.value }
