@@ -12,12 +12,12 @@ use Rattle.netlist.specs.Runs.{Cycle, Run, cycle_of, IsEndlessRun, IsValuation}
 use Rattle.net_parts.specs.Groups.{InGroup}
 use Rattle.net_parts.specs.Laws.{net_fits}
 use Rattle.mm_runs.specs.Views.{Shape}
-use Rattle.mm_runs.specs.Commands.{Burst, byte_address, burst_before, longest_burst}
+use Rattle.mm_runs.specs.Commands.{Burst, byte_address, burst_before}
 use Rattle.mm_machines.specs.Link.{Port, takes}
 use Rattle.mm_machines.specs.Machines.{Raw, IsFitBeat, ShowsFitBeats}
 use Rattle.mm_links.specs.Links.{LinkForm, IsLink}
 use Rattle.mm_links.specs.Selects.{takes_read}
-use Rattle.mm_links.specs.Cutters.{Rest, CutterState, IsPlaceIn, RunsAsCutter, behind_burst, whole_read, read_burst_of, first_burst, reach_longest, cut_form}
+use Rattle.mm_links.specs.Cutters.{Rest, CutterState, IsPlaceIn, RunsAsCutter, behind_burst, whole_read, read_burst_of, first_burst, Reach, cut_form}
 use Rattle.command_nets.specs.declared.nets.CommandNets.{CommandNets}
 use Rattle.command_nets.specs.declared.nets.AnswerNets.{AnswerNets}
 use Rattle.command_nets.specs.Nets.{raw_in, port_in, ShowSame}
@@ -26,7 +26,7 @@ use Rattle.link_core.specs.Form.{Form}
 use Rattle.mm_burst.specs.declared.cutter.Cutter.{Cutter}
 use Rattle.mm_burst.specs.declared.cutter.CutterKept.{CutterKept}
 use Rattle.mm_burst.specs.Pieces.{Held, Piece, registers_of, held_in, held_of, piece_in, piece_from, piece_now, shown_piece, behind_piece}
-use Rattle.mm_burst.specs.CutterNets.{IsCutterForm, CutterRuns, CutterCommand, CutterAnswer, address_bits}
+use Rattle.mm_burst.specs.CutterNets.{IsCutterForm, CutterRuns, CutterCommand, CutterAnswer, address_bits, reach_of, longest_of}
 use Rattle.mm_burst.proofs.Levels.{exponent_is}
 use Rattle.mm_burst.proofs.Steps.{IsBelow, Matches, place_of, accepted_where, shown_where, piece_top, is_below, held_top, rest_step, place_step, beat_is}
 
@@ -49,6 +49,10 @@ below_limit w n lanes bytes wide e f =
     let twice : 2 ^ wide ≡ 2 ^ most * 2 = ap (λ k. 2 ^ k) (f ∙ one_more) ∙ pow-suc 2 most in
     let some : 1 ≤ 2 ^ w = one-le-pow w 2 (omega arith) in
     omega (arith, first, second, parts, twice, some)
+
+-- what fits so many bits fits more
+fits_wider : (few bits value : ℕ) → few ≤ bits → value < 2 ^ few → value < 2 ^ bits
+fits_wider few bits value more fits = let wide : 2 ^ few ≤ 2 ^ bits = pow_mono more in omega (arith, wide, fits)
 
 and_right : (a b : Bool) → (a && b) ≡ true → b ≡ true
 and_right true b e = e
@@ -83,7 +87,10 @@ module _ (s : Cutter) (from to : CommandNets) (kept : CutterKept) (wait up : Net
   down_port = port_in below run to wait answer
 
   abbrev longest : ℕ
-  longest = longest_burst s.below_bits
+  longest = longest_of s
+
+  abbrev reach : Reach
+  reach = reach_of s
 
   abbrev limit : ℕ
   limit = 2 ^ kept.registers.next.width
@@ -116,10 +123,10 @@ module _ (s : Cutter) (from to : CommandNets) (kept : CutterKept) (wait up : Net
   taken c = (sends c || shown c) && not (waits c)
 
   abbrev piece : ℕ → Piece
-  piece c = piece_from longest (start c) (raw c) (held c)
+  piece c = piece_from reach (start c) (raw c) (held c)
 
   piece_is : (c : ℕ) → piece_in (cycle_of run c) kept.piece ≡ piece c
-  piece_is c = f.piece (cycle_of run c) (valued c) ∙ ap (λ n. piece_from longest n (raw c) (held c)) (sym (bytes_are above s.word_bytes (raw c).levels.address same units))
+  piece_is c = f.piece (cycle_of run c) (valued c) ∙ ap (λ n. piece_from reach n (raw c) (held c)) (sym (bytes_are above s.word_bytes (raw c).levels.address same units))
 
   shows_piece : (c : ℕ) → raw_in (cycle_of run c) to ≡ shown_piece longest (raw c).levels.word (piece c)
   shows_piece c = f.shows (cycle_of run c) (valued c) ∙ ap (λ (p : Piece). shown_piece longest (raw c).levels.word p) (piece_is c)
@@ -158,12 +165,12 @@ module _ (s : Cutter) (from to : CommandNets) (kept : CutterKept) (wait up : Net
   start_top c =
       let is = bytes_are above s.word_bytes (raw c).levels.address same units in
       let address = net_fits netlist from.address f.from_nets.address (cycle_of run c) (valued c) in
-      let count = subst (λ k. (raw c).levels.count < 2 ^ k) f.count (net_fits netlist from.count f.from_nets.count (cycle_of run c) (valued c)) in
+      let count : (raw c).levels.count < 2 ^ s.count_bits = fits_wider from.count.width s.count_bits (raw c).levels.count f.count (net_fits netlist from.count f.from_nets.count (cycle_of run c) (valued c)) in
       let words : (raw c).levels.count * above.word_bytes ≤ 2 ^ s.count_bits * above.word_bytes = mul-le-mul_right above.word_bytes (omega (arith, count)) in
       omega (arith, is, address, words)
 
   within_top : (c : ℕ) → (nat_lt 0 (held c).left ≡ true → (held c).next + (held c).left * above.word_bytes ≤ top) → (piece c).address + (piece c).left * above.word_bytes ≤ top
-  within_top c old = piece_top longest (start c) above.word_bytes top (raw c) (held c) (sends c) (nat_lt 0 (held c).left) (writes c) (shown c) (and_right (is_raised (held c).reads) (nat_lt 0 (held c).left)) old (start_top c)
+  within_top c old = piece_top reach (start c) above.word_bytes top (raw c) (held c) (sends c) (nat_lt 0 (held c).left) (writes c) (shown c) (and_right (is_raised (held c).reads) (nat_lt 0 (held c).left)) old (start_top c)
 
   held_within : (c : ℕ) → nat_lt 0 (held c).left ≡ true → (held c).next + (held c).left * above.word_bytes ≤ top
   held_within zero some = absurd (none_some (held 0).left (ap (λ (h : Held). h.left) begins) some)
@@ -178,8 +185,8 @@ module _ (s : Cutter) (from to : CommandNets) (kept : CutterKept) (wait up : Net
 
   abbrev rest_by : Rest → Bool → Bool → Bool → Raw → Rest
   rest_by rest sending takes reads raw =
-      if sending then (if takes then behind_burst (reach_longest longest) above.word_bytes rest else rest)
-      else if reads then behind_burst (reach_longest longest) above.word_bytes (whole_read above raw) else rest
+      if sending then (if takes then behind_burst reach above.word_bytes rest else rest)
+      else if reads then behind_burst reach above.word_bytes (whole_read above raw) else rest
 
   pub rest_at : ℕ → Rest
   rest_at zero = record { left = 0; address = 0; command = nothing_shown }
@@ -195,7 +202,7 @@ module _ (s : Cutter) (from to : CommandNets) (kept : CutterKept) (wait up : Net
       ∙ ap (λ t. rest_by (rest_at c) (sends c) (taken c) (t && not (writes c)) (raw c)) (up_taken c) in
       subst (λ (r : Rest). Matches r (held (suc c))) (sym rest)
       (subst (Matches (rest_by (rest_at c) (sends c) (taken c) ((not (sends c) && taken c) && not (writes c)) (raw c))) (sym (moved c))
-      (rest_step longest limit above (raw c) (held c) (rest_at c) (sends c) (nat_lt 0 (held c).left) (writes c) (shown c) (taken c) m.sends refl (λ e. m.kept (m.sends ∙ e)) (fits c)))
+      (rest_step reach limit above (raw c) (held c) (rest_at c) (sends c) (nat_lt 0 (held c).left) (writes c) (shown c) (taken c) m.sends refl (λ e. m.kept (m.sends ∙ e)) (fits c)))
 
   -- ---- the write burst under way
 
@@ -207,7 +214,7 @@ module _ (s : Cutter) (from to : CommandNets) (kept : CutterKept) (wait up : Net
   place_at (suc c) fit =
       subst (λ (h : Held). IsPlaceIn above.word_bytes (burst (suc c)) (place_of h)) (sym (moved c))
       (subst (λ t. IsPlaceIn above.word_bytes (burst_past t) (place_of (behind_piece above.word_bytes limit (held c) (piece c) (taken c)))) (sym (up_taken c))
-      (place_step longest limit above (raw c) (held c) (burst c) (sends c) (writes c) (taken c) refl refl (place_at c (λ k less. fit k (omega (arith, less)))) fitting (fits c)))
+      (place_step reach limit above (raw c) (held c) (burst c) (sends c) (writes c) (taken c) refl refl (place_at c (λ k less. fit k (omega (arith, less)))) fitting (fits c)))
     where
       burst_past : Bool → Burst
       burst_past t = if t && writes c then (if nat_eq (burst c).left 0 then record { left = (raw c).levels.count - 1; done = 1; first = start c } else record { left = (burst c).left - 1; done = (burst c).done + 1; first = (burst c).first }) else burst c
@@ -218,15 +225,15 @@ module _ (s : Cutter) (from to : CommandNets) (kept : CutterKept) (wait up : Net
   abbrev state : CutterState
   state = record { place = λ c. place_of (held c); rest = rest_at }
 
-  pub is_cutter_run : RunsAsCutter (reach_longest longest) longest up_port down_port state
+  pub is_cutter_run : RunsAsCutter reach longest up_port down_port state
   unfolding rest_at
   is_cutter_run = record {
     shown = λ c. below_shown c ∙ ap (λ t. if t then true else shown c) (sym (matches c).sends);
     beat = λ c stands. (
         let m = matches c in
         shows_piece c
-        ∙ beat_is longest above (raw c) (held c) (rest_at c) (sends c) (nat_lt 0 (held c).left) (writes c) (shown c) refl refl (λ e. m.kept (m.sends ∙ e)) (sym (or_where (sends c) (shown c)) ∙ sym (below_shown c) ∙ stands)
-        ∙ ap (λ t. if t then read_burst_of (reach_longest longest) (rest_at c) else first_burst (reach_longest longest) longest above (place_of (held c)) (raw c)) (sym m.sends));
+        ∙ beat_is reach longest above (raw c) (held c) (rest_at c) (sends c) (nat_lt 0 (held c).left) (writes c) (shown c) refl refl (λ e. m.kept (m.sends ∙ e)) (sym (or_where (sends c) (shown c)) ∙ sym (below_shown c) ∙ stands)
+        ∙ ap (λ t. if t then read_burst_of reach (rest_at c) else first_burst reach longest above (place_of (held c)) (raw c)) (sym m.sends));
     accepts = λ c. up_taken c ∙ ap₂ (λ t k. not t && k) (sym (matches c).sends) (sym (down_taken c));
     place = place_at;
     rest_begins = refl;
@@ -254,10 +261,10 @@ cutter_ignores s from to kept netlist one other f v w registers same =
     shows one v ∙ ap₂ shown_by same held_same ∙ sym (shows other w)
   where
     shown_by : Raw → Held → Raw
-    shown_by raw held = shown_piece (longest_burst s.below_bits) raw.levels.word (piece_now (longest_burst s.below_bits) s.word_bytes raw held)
+    shown_by raw held = shown_piece (longest_of s) raw.levels.word (piece_now (reach_of s) s.word_bytes raw held)
 
     shows : (cycle : Cycle) → IsValuation netlist cycle → raw_in cycle to ≡ shown_by (raw_in cycle from) (held_in cycle kept.registers)
-    shows cycle v = f.shows cycle v ∙ ap (λ (p : Piece). shown_piece (longest_burst s.below_bits) (cycle.net from.word.number) p) (f.piece cycle v)
+    shows cycle v = f.shows cycle v ∙ ap (λ (p : Piece). shown_piece (longest_of s) (cycle.net from.word.number) p) (f.piece cycle v)
 
     held_same : held_in one kept.registers ≡ held_in other kept.registers
     held_same =

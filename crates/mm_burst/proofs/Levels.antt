@@ -1,12 +1,14 @@
 -- What the nets show, as numbers.
-use Rattle.std.proofs.Common.{◌≡◌, ℕ, zero, suc, ◌+◌, ◌-◌, ◌*◌, ◌/◌, ◌%◌, ◌^◌, ◌<◌, ◌≤◌, Bool, true, false, ◌||◌, min, if◌then◌else◌, nat_lt, nat_eq, refl, sym, subst, ap, ◌∙◌, arith}
+use Rattle.std.proofs.Common.{◌≡◌, ℕ, zero, suc, ◌+◌, ◌-◌, ◌*◌, ◌/◌, ◌%◌, ◌^◌, ◌<◌, ◌≤◌, Bool, true, false, ◌&&◌, ◌||◌, min, if◌then◌else◌, ◌==◌, nat_lt, nat_eq, refl, sym, subst, ap, ap₂, ◌∙◌, arith, tests}
 use Rattle.std.proofs.Math.Nat.{mod-eq_of_lt, add-mod_right, add-mod-mod, mod-eq-sub-div-mul, div-mul-le_self, div-lt_iff_lt-mul, pow-suc, one-le-pow}
 use Rattle.std.proofs.Math.Pow.{pow_mono}
 use Rattle.std.proofs.lemmas.Nat.{pow-add, pow_pos}
-use Rattle.std.proofs.lemmas.Bool.{ltb-true, ltb-false, ne_eqb}
+use Rattle.std.proofs.lemmas.Bool.{ltb-true, ltb-false, le-ltb, ne_eqb, eqb-true}
 use Rattle.histories.specs.History.{is_raised, one_if}
 use Rattle.mm_machines.specs.Machines.{Raw}
+use Rattle.net_parts.specs.Growth.{fit_nets}
 use Rattle.command_nets.specs.Levels.{level_is}
+use Rattle.mm_links.specs.Cutters.{Reach, beats_of}
 use Rattle.mm_burst.specs.CutterNets.{lane_exponent}
 use Rattle.mm_burst.specs.Pieces.{Held, HasRoom, piece_from}
 
@@ -80,9 +82,59 @@ count_is bits left few longest count made some many e f g h =
     smaller true e = let less = ltb-true left longest e in omega (arith, less)
     smaller false e = let most = ltb-false left longest e in omega (arith, most)
 
+-- so many words stand from an address up to the end of its wide word
+pub words_are : (places width most place fitted made : ℕ) → places < width → most ≡ 2 ^ places → place < 2 ^ places → fitted ≡ place % 2 ^ width → made ≡ (most + (2 ^ width - fitted)) % 2 ^ width → made ≡ 2 ^ places - place
+words_are places width most place fitted made few is less e f =
+    let wide : 2 ^ suc places ≤ 2 ^ width = pow_mono (omega (arith, few)) in
+    let twice = pow-suc 2 places in
+    let whole : fitted ≡ place = e ∙ mod-eq_of_lt (omega (arith, less, wide, twice)) in
+    f ∙ ap (λ n. (most + (2 ^ width - n)) % 2 ^ width) whole ∙ less_by most place (2 ^ width) (omega (arith, is, less)) (omega (arith, is, wide, twice)) ∙ ap (λ n. n - place) is
+
+pub above_one : (one step many : ℕ) → is_raised many ≡ nat_lt one step → one ≡ 1 → is_raised many ≡ nat_lt 1 step
+above_one one step many e f = e ∙ ap (λ n. nat_lt n step) f
+
+-- the count of a burst of a read that ends with its wide word, which has so many beats at most
+pub count_ahead_is : (bits left step few many both count made : ℕ) → step < 2 ^ bits → is_raised few ≡ nat_lt left step → is_raised many ≡ nat_lt 1 step → is_raised both ≡ (is_raised few && is_raised many) → count ≡ (if is_raised both then left else step) → made ≡ count % 2 ^ bits → made ≡ beats_of step left
+count_ahead_is bits left step few many both count made fits e f g h k =
+    k ∙ mod-eq_of_lt (subst (λ n. n < 2 ^ bits) (sym is) (small (nat_eq step 1) refl)) ∙ is
+  where
+    chosen : count ≡ (if nat_lt left step && nat_lt 1 step then left else step)
+    chosen = h ∙ ap (λ b. if b then left else step) (g ∙ ap₂ (λ x y. x && y) e f)
+
+    small : (one : Bool) → nat_eq step 1 ≡ one → (if one then 1 else min step left) < 2 ^ bits
+    small true e = let same = eqb-true step 1 e in omega (arith, same, fits)
+    small false e = omega (arith, fits)
+
+    is : count ≡ (if nat_eq step 1 then 1 else min step left)
+    is = chosen ∙ by_one (nat_eq step 1) refl
+      where
+        by_less : (less : Bool) → nat_lt left step ≡ less → nat_lt 1 step ≡ true → (if less && nat_lt 1 step then left else step) ≡ min step left
+        by_less true e m = let l = ltb-true left step e in rw m (omega (arith, l))
+        by_less false e m = let l = ltb-false left step e in omega (arith, l)
+
+        none : (less : Bool) → (if less && false then left else step) ≡ step
+        none true = refl
+        none false = refl
+
+        by_many : (many : Bool) → nat_lt 1 step ≡ many → nat_eq step 1 ≡ false → (if nat_lt left step && many then left else step) ≡ min step left
+        by_many true m o = subst (λ b. (if nat_lt left step && b then left else step) ≡ min step left) m (by_less (nat_lt left step) refl m)
+        by_many false m o = let most = ltb-false 1 step m in let zero_is : step ≡ 0 = grind (arith, tests, o, most) in none (nat_lt left step) ∙ omega (arith, zero_is)
+
+        by_one : (one : Bool) → nat_eq step 1 ≡ one → (if nat_lt left step && nat_lt 1 step then left else step) ≡ (if one then 1 else min step left)
+        by_one true o = let same = eqb-true step 1 o in let no : nat_lt 1 step ≡ false = le-ltb 1 step (omega (arith, same)) in rw no (none (nat_lt left step) ∙ same)
+        by_one false o = by_many (nat_lt 1 step) refl o
+
 -- what follows a piece is a part of what is left
-pub has_room : (longest start : ℕ) (raw : Raw) (held : Held) → HasRoom (piece_from longest start raw held)
-has_room longest start raw held e = let less = ltb-true (piece_from longest start raw held).step (piece_from longest start raw held).left e in omega (arith, less)
+pub has_room : (reach : Reach) (start : ℕ) (raw : Raw) (held : Held) → HasRoom (piece_from reach start raw held)
+has_room reach start raw held e = let less = ltb-true (piece_from reach start raw held).step (piece_from reach start raw held).left e in omega (arith, less)
+
+-- the most nets that fitting takes
+pub fits_in_two : (bits wanted : ℕ) → fit_nets bits wanted ≤ 2
+fits_in_two bits wanted = by_test (bits == wanted)
+  where
+    by_test : (t : Bool) → (if t then 0 else 2) ≤ 2
+    by_test true = omega arith
+    by_test false = omega arith
 
 -- ---- bits
 

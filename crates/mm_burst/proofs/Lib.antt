@@ -1,3 +1,4 @@
 mod CutterLaw
 mod Levels
 mod Steps
+pub mod WayLaws

@@ -1,5 +1,5 @@
 -- What the registers of a cutter keep from cycle to cycle: the read that it sends by itself, and the write burst under way.
-use Rattle.std.proofs.Common.{◌≡◌, ℕ, zero, suc, ◌+◌, ◌-◌, ◌*◌, ◌%◌, ◌<◌, ◌≤◌, Bool, true, false, not, ◌&&◌, ◌||◌, if◌then◌else◌, nat_lt, nat_eq, refl, sym, subst, ap, ◌∙◌, arith, add-mul, mul-le-mul_right}
+use Rattle.std.proofs.Common.{◌≡◌, ℕ, zero, suc, ◌+◌, ◌-◌, ◌*◌, ◌%◌, ◌<◌, ◌≤◌, Bool, true, false, not, ◌&&◌, ◌||◌, if◌then◌else◌, nat_lt, nat_eq, refl, sym, subst, ap, ap₂, ◌∙◌, arith, add-mul, mul-le-mul_right}
 use Rattle.std.specs.Prelude.{IsTrue}
 use Rattle.std.proofs.Math.Nat.{mod-eq_of_lt}
 use Rattle.std.proofs.lemmas.Bool.{lt-ltb, ltb-true, ltb-false, ne_eqb}
@@ -7,7 +7,7 @@ use Rattle.histories.specs.History.{is_raised, one_if}
 use Rattle.mm_runs.specs.Views.{Shape}
 use Rattle.mm_runs.specs.Commands.{Burst, byte_address}
 use Rattle.mm_machines.specs.Machines.{Raw, IsFitBeat}
-use Rattle.mm_links.specs.Cutters.{Rest, Place, IsPlaceIn, beats_of, read_burst_of, behind_burst, whole_read, write_of_burst, reach_longest}
+use Rattle.mm_links.specs.Cutters.{Rest, Place, Reach, IsPlaceIn, beats_of, read_burst_of, behind_burst, whole_read, write_of_burst}
 use Rattle.command_nets.specs.Groups.{is_shown}
 use Rattle.mm_burst.specs.Pieces.{Held, Piece, piece_by, shown_piece, behind_piece}
 
@@ -68,12 +68,12 @@ shown_where false false false = refl
 
 -- ---- no address wraps
 
-pub piece_top : (longest start bytes top : ℕ) (raw : Raw) (held : Held) (sends some write shown : Bool) → (sends ≡ true → some ≡ true) → (some ≡ true → held.next + held.left * bytes ≤ top) → start + raw.levels.count * bytes ≤ top →
-    (piece_by longest start raw held sends some write shown).address + (piece_by longest start raw held sends some write shown).left * bytes ≤ top
-piece_top longest start bytes top raw held true some write shown s old new = old (s refl)
-piece_top longest start bytes top raw held false true true shown s old new = old refl
-piece_top longest start bytes top raw held false true false shown s old new = new
-piece_top longest start bytes top raw held false false write shown s old new = new
+pub piece_top : (reach : Reach) (start bytes top : ℕ) (raw : Raw) (held : Held) (sends some write shown : Bool) → (sends ≡ true → some ≡ true) → (some ≡ true → held.next + held.left * bytes ≤ top) → start + raw.levels.count * bytes ≤ top →
+    (piece_by reach start raw held sends some write shown).address + (piece_by reach start raw held sends some write shown).left * bytes ≤ top
+piece_top reach start bytes top raw held true some write shown s old new = old (s refl)
+piece_top reach start bytes top raw held false true true shown s old new = old refl
+piece_top reach start bytes top raw held false true false shown s old new = new
+piece_top reach start bytes top raw held false false write shown s old new = new
 
 pub is_below : (bytes limit top : ℕ) (piece : Piece) → piece.address + piece.left * bytes ≤ top → top < limit → IsBelow bytes limit piece
 is_below bytes limit top piece most few follows =
@@ -108,49 +108,50 @@ pub record Matches (rest : Rest) (held : Held) : Type 0 where
   pub sends : nat_lt 0 rest.left ≡ (is_raised held.reads && nat_lt 0 held.left)
   pub kept : nat_lt 0 rest.left ≡ true → IsKept rest held
 
--- the registers behind a burst of a read
+-- the registers behind a burst of a read of at most so many beats
 abbrev behind_read : ℕ → ℕ → ℕ → ℕ → ℕ → ℕ → ℕ → ℕ → Held
-behind_read longest bytes limit left address enables more tag = record {
-  left = if nat_lt longest left then left - longest else 0;
-  next = (address + longest * bytes) % limit;
+behind_read far bytes limit left address enables more tag = record {
+  left = if nat_lt far left then left - far else 0;
+  next = (address + far * bytes) % limit;
   reads = 1;
   enables = enables;
   more = more;
   tag = tag;
 }
 
-read_on : (longest bytes limit left address : ℕ) (rest : Rest) (enables more tag : ℕ) → left ≡ rest.left → address ≡ rest.address → enables ≡ rest.command.levels.enables → more ≡ rest.command.more → tag ≡ rest.command.tag →
-    (nat_lt longest left ≡ true → (address + longest * bytes) % limit ≡ address + longest * bytes) → Matches (behind_burst (reach_longest longest) bytes rest) (behind_read longest bytes limit left address enables more tag)
-read_on longest bytes limit left address rest enables more tag e0 e1 e2 e3 e4 below =
-    let count : (if nat_lt longest left then left - longest else 0) ≡ rest.left - longest = count_behind left longest ∙ ap (λ n. n - longest) e0 in
+read_on : (reach : Reach) (bytes limit left address : ℕ) (rest : Rest) (enables more tag : ℕ) → left ≡ rest.left → address ≡ rest.address → enables ≡ rest.command.levels.enables → more ≡ rest.command.more → tag ≡ rest.command.tag →
+    (nat_lt (reach address) left ≡ true → (address + reach address * bytes) % limit ≡ address + reach address * bytes) → Matches (behind_burst reach bytes rest) (behind_read (reach address) bytes limit left address enables more tag)
+read_on reach bytes limit left address rest enables more tag e0 e1 e2 e3 e4 below =
+    let far : reach address ≡ reach rest.address = ap reach e1 in
+    let count : (if nat_lt (reach address) left then left - reach address else 0) ≡ rest.left - reach rest.address = count_behind left (reach address) ∙ ap₂ (λ n k. n - k) e0 far in
     record {
       sends = ap (nat_lt 0) (sym count);
       kept = λ some. record {
         left = count;
-        next = below (follows_where left longest (ap (λ n. nat_lt 0 (n - longest)) e0 ∙ some)) ∙ ap (λ n. n + longest * bytes) e1;
+        next = below (follows_where left (reach address) (ap₂ (λ n k. nat_lt 0 (n - k)) e0 far ∙ some)) ∙ ap₂ (λ n k. n + k * bytes) e1 far;
         enables = e2;
         more = e3;
         tag = e4;
       };
     }
 
-pub rest_step : (longest limit : ℕ) (shape : Shape) (raw : Raw) (held : Held) (rest : Rest) (sends some write shown taken : Bool) →
+pub rest_step : (reach : Reach) (limit : ℕ) (shape : Shape) (raw : Raw) (held : Held) (rest : Rest) (sends some write shown taken : Bool) →
     nat_lt 0 rest.left ≡ sends → (is_raised held.reads && nat_lt 0 held.left) ≡ sends → (sends ≡ true → IsKept rest held) →
-    IsBelow shape.word_bytes limit (piece_by longest (byte_address shape raw.levels.address) raw held sends some write shown) →
-    Matches (if sends then (if taken then behind_burst (reach_longest longest) shape.word_bytes rest else rest) else if (not sends && taken) && not write then behind_burst (reach_longest longest) shape.word_bytes (whole_read shape raw) else rest)
-    (behind_piece shape.word_bytes limit held (piece_by longest (byte_address shape raw.levels.address) raw held sends some write shown) taken)
-rest_step longest limit shape raw held rest true some true shown true e f kept below =
-    let k = kept refl in read_on longest shape.word_bytes limit held.left held.next rest held.enables held.more held.tag k.left k.next k.enables k.more k.tag below
-rest_step longest limit shape raw held rest true some false shown true e f kept below =
-    let k = kept refl in read_on longest shape.word_bytes limit held.left held.next rest held.enables held.more held.tag k.left k.next k.enables k.more k.tag below
-rest_step longest limit shape raw held rest true some write shown false e f kept below =
+    IsBelow shape.word_bytes limit (piece_by reach (byte_address shape raw.levels.address) raw held sends some write shown) →
+    Matches (if sends then (if taken then behind_burst reach shape.word_bytes rest else rest) else if (not sends && taken) && not write then behind_burst reach shape.word_bytes (whole_read shape raw) else rest)
+    (behind_piece shape.word_bytes limit held (piece_by reach (byte_address shape raw.levels.address) raw held sends some write shown) taken)
+rest_step reach limit shape raw held rest true some true shown true e f kept below =
+    let k = kept refl in read_on reach shape.word_bytes limit held.left held.next rest held.enables held.more held.tag k.left k.next k.enables k.more k.tag below
+rest_step reach limit shape raw held rest true some false shown true e f kept below =
+    let k = kept refl in read_on reach shape.word_bytes limit held.left held.next rest held.enables held.more held.tag k.left k.next k.enables k.more k.tag below
+rest_step reach limit shape raw held rest true some write shown false e f kept below =
     let k = kept refl in record { sends = e ∙ sym f; kept = λ _. record { left = k.left; next = k.next; enables = k.enables; more = k.more; tag = k.tag } }
-rest_step longest limit shape raw held rest false some write shown false e f kept below = record { sends = e ∙ sym f; kept = λ s. absurd (cc) }
-rest_step longest limit shape raw held rest false some true shown true e f kept below = record { sends = e; kept = λ s. absurd (cc) }
-rest_step longest limit shape raw held rest false true false shown true e f kept below =
-    read_on longest shape.word_bytes limit raw.levels.count (byte_address shape raw.levels.address) (whole_read shape raw) raw.levels.enables raw.more raw.tag refl refl refl refl refl below
-rest_step longest limit shape raw held rest false false false shown true e f kept below =
-    read_on longest shape.word_bytes limit raw.levels.count (byte_address shape raw.levels.address) (whole_read shape raw) raw.levels.enables raw.more raw.tag refl refl refl refl refl below
+rest_step reach limit shape raw held rest false some write shown false e f kept below = record { sends = e ∙ sym f; kept = λ s. absurd (cc) }
+rest_step reach limit shape raw held rest false some true shown true e f kept below = record { sends = e; kept = λ s. absurd (cc) }
+rest_step reach limit shape raw held rest false true false shown true e f kept below =
+    read_on reach shape.word_bytes limit raw.levels.count (byte_address shape raw.levels.address) (whole_read shape raw) raw.levels.enables raw.more raw.tag refl refl refl refl refl below
+rest_step reach limit shape raw held rest false false false shown true e f kept below =
+    read_on reach shape.word_bytes limit raw.levels.count (byte_address shape raw.levels.address) (whole_read shape raw) raw.levels.enables raw.more raw.tag refl refl refl refl refl below
 
 -- ---- the write burst under way
 
@@ -183,14 +184,14 @@ burst_by free shape raw burst =
     then record { left = raw.levels.count - 1; done = 1; first = byte_address shape raw.levels.address }
     else record { left = burst.left - 1; done = burst.done + 1; first = burst.first }
 
-write_on : (longest limit : ℕ) (shape : Shape) (raw : Raw) (held : Held) (burst : Burst) (shown free : Bool) → held.left ≡ burst.left → (0 < burst.left → held.next ≡ burst.first + burst.done * shape.word_bytes) → nat_eq burst.left 0 ≡ free →
-    IsBelow shape.word_bytes limit (piece_by longest (byte_address shape raw.levels.address) raw held false (not free) true shown) →
-    IsPlaceIn shape.word_bytes (burst_by free shape raw burst) (place_of (behind_piece shape.word_bytes limit held (piece_by longest (byte_address shape raw.levels.address) raw held false (not free) true shown) true))
-write_on longest limit shape raw held burst shown true e at free below = record {
+write_on : (reach : Reach) (limit : ℕ) (shape : Shape) (raw : Raw) (held : Held) (burst : Burst) (shown free : Bool) → held.left ≡ burst.left → (0 < burst.left → held.next ≡ burst.first + burst.done * shape.word_bytes) → nat_eq burst.left 0 ≡ free →
+    IsBelow shape.word_bytes limit (piece_by reach (byte_address shape raw.levels.address) raw held false (not free) true shown) →
+    IsPlaceIn shape.word_bytes (burst_by free shape raw burst) (place_of (behind_piece shape.word_bytes limit held (piece_by reach (byte_address shape raw.levels.address) raw held false (not free) true shown) true))
+write_on reach limit shape raw held burst shown true e at free below = record {
   left = count_behind raw.levels.count 1;
   address = λ some. below (lt-ltb 1 raw.levels.count (omega (arith, some)));
 }
-write_on longest limit shape raw held burst shown false e at free below = record {
+write_on reach limit shape raw held burst shown false e at free below = record {
   left = count_behind held.left 1 ∙ ap (λ n. n - 1) e;
   address = λ some. (
       let is = at (omega (arith, some)) in
@@ -198,17 +199,17 @@ write_on longest limit shape raw held burst shown false e at free below = record
       below (lt-ltb 1 held.left (omega (arith, e, some))) ∙ omega (arith, is, more));
 }
 
-pub place_step : (longest limit : ℕ) (shape : Shape) (raw : Raw) (held : Held) (burst : Burst) (sends write taken : Bool) →
+pub place_step : (reach : Reach) (limit : ℕ) (shape : Shape) (raw : Raw) (held : Held) (burst : Burst) (sends write taken : Bool) →
     (is_raised held.reads && nat_lt 0 held.left) ≡ sends → is_raised raw.levels.write ≡ write → IsPlaceIn shape.word_bytes burst (place_of held) →
     (sends ≡ false → taken ≡ true → IsFitBeat shape burst raw × IsTrue (is_raised raw.levels.read || write)) →
-    IsBelow shape.word_bytes limit (piece_by longest (byte_address shape raw.levels.address) raw held sends (nat_lt 0 held.left) write (is_shown raw)) →
+    IsBelow shape.word_bytes limit (piece_by reach (byte_address shape raw.levels.address) raw held sends (nat_lt 0 held.left) write (is_shown raw)) →
     IsPlaceIn shape.word_bytes (if (not sends && taken) && write then burst_by (nat_eq burst.left 0) shape raw burst else burst)
-    (place_of (behind_piece shape.word_bytes limit held (piece_by longest (byte_address shape raw.levels.address) raw held sends (nat_lt 0 held.left) write (is_shown raw)) taken))
-place_step longest limit shape raw held burst true write false s w at fit below = record { left = at.left; address = at.address }
-place_step longest limit shape raw held burst false write false s w at fit below = record { left = at.left; address = at.address }
-place_step longest limit shape raw held burst true true true s w at fit below = none_in shape.word_bytes burst _ (sym at.left ∙ none_left held s)
-place_step longest limit shape raw held burst true false true s w at fit below = none_in shape.word_bytes burst _ (sym at.left ∙ none_left held s)
-place_step longest limit shape raw held burst false false true s w at fit below = none_in shape.word_bytes burst _ (none_where burst.left (by_left (nat_lt 0 burst.left) refl))
+    (place_of (behind_piece shape.word_bytes limit held (piece_by reach (byte_address shape raw.levels.address) raw held sends (nat_lt 0 held.left) write (is_shown raw)) taken))
+place_step reach limit shape raw held burst true write false s w at fit below = record { left = at.left; address = at.address }
+place_step reach limit shape raw held burst false write false s w at fit below = record { left = at.left; address = at.address }
+place_step reach limit shape raw held burst true true true s w at fit below = none_in shape.word_bytes burst _ (sym at.left ∙ none_left held s)
+place_step reach limit shape raw held burst true false true s w at fit below = none_in shape.word_bytes burst _ (sym at.left ∙ none_left held s)
+place_step reach limit shape raw held burst false false true s w at fit below = none_in shape.word_bytes burst _ (none_where burst.left (by_left (nat_lt 0 burst.left) refl))
   where
     by_left : (some : Bool) → nat_lt 0 burst.left ≡ some → some ≡ false
     by_left false e = refl
@@ -217,11 +218,11 @@ place_step longest limit shape raw held burst false false true s w at fit below 
         clash : (r : Bool) → r ≡ false → (r || false) ≡ true → ⊥
         clash true l h = absurd (cc)
         clash false l h = absurd (cc)
-place_step longest limit shape raw held burst false true true s w at fit below =
+place_step reach limit shape raw held burst false true true s w at fit below =
     let same : held.left ≡ burst.left = sym (place_left held s) ∙ at.left in
     let some : nat_lt 0 held.left ≡ not (nat_eq burst.left 0) = ap (nat_lt 0) same ∙ some_where burst.left in
-    subst (λ t. IsBelow shape.word_bytes limit (piece_by longest (byte_address shape raw.levels.address) raw held false t true (is_shown raw)) → IsPlaceIn shape.word_bytes (burst_by (nat_eq burst.left 0) shape raw burst) (place_of (behind_piece shape.word_bytes limit held (piece_by longest (byte_address shape raw.levels.address) raw held false t true (is_shown raw)) true)))
-    (sym some) (write_on longest limit shape raw held burst (is_shown raw) (nat_eq burst.left 0) same at.address refl) below
+    subst (λ t. IsBelow shape.word_bytes limit (piece_by reach (byte_address shape raw.levels.address) raw held false t true (is_shown raw)) → IsPlaceIn shape.word_bytes (burst_by (nat_eq burst.left 0) shape raw burst) (place_of (behind_piece shape.word_bytes limit held (piece_by reach (byte_address shape raw.levels.address) raw held false t true (is_shown raw)) true)))
+    (sym some) (write_on reach limit shape raw held burst (is_shown raw) (nat_eq burst.left 0) same at.address refl) below
   where
     some_where : (n : ℕ) → nat_lt 0 n ≡ not (nat_eq n 0)
     some_where n = by_test (nat_lt 0 n) (free_where n)
@@ -233,13 +234,13 @@ place_step longest limit shape raw held burst false true true s w at fit below =
 -- ---- the beat below
 
 -- a burst of a read
-read_shown : (longest left address enables more tag : ℕ) (rest : Rest) → left ≡ rest.left → address ≡ rest.address → enables ≡ rest.command.levels.enables → more ≡ rest.command.more → tag ≡ rest.command.tag →
+read_shown : (reach : Reach) (left address enables more tag : ℕ) (rest : Rest) → left ≡ rest.left → address ≡ rest.address → enables ≡ rest.command.levels.enables → more ≡ rest.command.more → tag ≡ rest.command.tag →
     ◌≡◌ {A = Raw} (record {
-      levels = record { read = 1; write = 0; address = address; word = 0; enables = enables; count = beats_of longest left };
-      more = if nat_lt longest left && true then 1 else more;
+      levels = record { read = 1; write = 0; address = address; word = 0; enables = enables; count = beats_of (reach address) left };
+      more = if nat_lt (reach address) left && true then 1 else more;
       tag = tag;
-    }) (read_burst_of (reach_longest longest) rest)
-read_shown longest left address enables more tag rest e0 e1 e2 e3 e4 = rw (and_true (nat_lt longest left), e0, e1, e2, e3, e4) refl
+    }) (read_burst_of reach rest)
+read_shown reach left address enables more tag rest e0 e1 e2 e3 e4 = rw (and_true (nat_lt (reach address) left), e0, e1, e2, e3, e4) refl
 
 -- a beat of a write, by whether it is the first of its burst
 write_shown : (longest : ℕ) (shape : Shape) (raw : Raw) (left address : ℕ) (place : Place) (free : Bool) → place.left ≡ left → place.address ≡ address → nat_eq place.left 0 ≡ free →
@@ -250,24 +251,24 @@ write_shown : (longest : ℕ) (shape : Shape) (raw : Raw) (left address : ℕ) (
     }) (write_of_burst longest shape place raw)
 write_shown longest shape raw left address place free e0 e1 e2 = rw (and_false (nat_lt 1 (if free then raw.levels.count else left)), e2, e0, e1) refl
 
-pub beat_is : (longest : ℕ) (shape : Shape) (raw : Raw) (held : Held) (rest : Rest) (sends some write shown : Bool) →
+pub beat_is : (reach : Reach) (longest : ℕ) (shape : Shape) (raw : Raw) (held : Held) (rest : Rest) (sends some write shown : Bool) →
     (is_raised held.reads && nat_lt 0 held.left) ≡ sends → nat_lt 0 held.left ≡ some → (sends ≡ true → IsKept rest held) → (sends || shown) ≡ true →
-    shown_piece longest raw.levels.word (piece_by longest (byte_address shape raw.levels.address) raw held sends some write shown)
-    ≡ (if sends then read_burst_of (reach_longest longest) rest else if write then write_of_burst longest shape (place_of held) raw else read_burst_of (reach_longest longest) (whole_read shape raw))
-beat_is longest shape raw held rest true some true shown s l kept e =
-    let k = kept refl in read_shown longest held.left held.next held.enables held.more held.tag rest k.left k.next k.enables k.more k.tag
-beat_is longest shape raw held rest true some false shown s l kept e =
-    let k = kept refl in read_shown longest held.left held.next held.enables held.more held.tag rest k.left k.next k.enables k.more k.tag
-beat_is longest shape raw held rest false some write false s l kept e = absurd (cc)
-beat_is longest shape raw held rest false true false true s l kept e =
-    read_shown longest raw.levels.count (byte_address shape raw.levels.address) raw.levels.enables raw.more raw.tag (whole_read shape raw) refl refl refl refl refl
-beat_is longest shape raw held rest false false false true s l kept e =
-    read_shown longest raw.levels.count (byte_address shape raw.levels.address) raw.levels.enables raw.more raw.tag (whole_read shape raw) refl refl refl refl refl
-beat_is longest shape raw held rest false true true true s l kept e =
+    shown_piece longest raw.levels.word (piece_by reach (byte_address shape raw.levels.address) raw held sends some write shown)
+    ≡ (if sends then read_burst_of reach rest else if write then write_of_burst longest shape (place_of held) raw else read_burst_of reach (whole_read shape raw))
+beat_is reach longest shape raw held rest true some true shown s l kept e =
+    let k = kept refl in read_shown reach held.left held.next held.enables held.more held.tag rest k.left k.next k.enables k.more k.tag
+beat_is reach longest shape raw held rest true some false shown s l kept e =
+    let k = kept refl in read_shown reach held.left held.next held.enables held.more held.tag rest k.left k.next k.enables k.more k.tag
+beat_is reach longest shape raw held rest false some write false s l kept e = absurd (cc)
+beat_is reach longest shape raw held rest false true false true s l kept e =
+    read_shown reach raw.levels.count (byte_address shape raw.levels.address) raw.levels.enables raw.more raw.tag (whole_read shape raw) refl refl refl refl refl
+beat_is reach longest shape raw held rest false false false true s l kept e =
+    read_shown reach raw.levels.count (byte_address shape raw.levels.address) raw.levels.enables raw.more raw.tag (whole_read shape raw) refl refl refl refl refl
+beat_is reach longest shape raw held rest false true true true s l kept e =
     let same = place_left held s in
     let free : nat_eq (place_of held).left 0 ≡ false = ap (λ n. nat_eq n 0) same ∙ free_where held.left ∙ ap not l in
     write_shown longest shape raw held.left held.next (place_of held) false same refl free
-beat_is longest shape raw held rest false false true true s l kept e =
+beat_is reach longest shape raw held rest false false true true s l kept e =
     let same = place_left held s in
     let free : nat_eq (place_of held).left 0 ≡ true = ap (λ n. nat_eq n 0) same ∙ free_where held.left ∙ ap not l in
     write_shown longest shape raw held.left held.next (place_of held) true same refl free

@@ -1,5 +1,5 @@
 -- The cutter of bursts as a link: its form, and what its two calls leave in a netlist.
-use Rattle.std.specs.Prelude.{◌≡◌, ℕ, ◌+◌, ◌*◌, ◌^◌, ◌<◌, ◌≤◌, not, ◌&&◌, ◌||◌, max, nat_lt, if◌then◌else◌}
+use Rattle.std.specs.Prelude.{◌≡◌, ℕ, ◌+◌, ◌*◌, ◌^◌, ◌≤◌, not, ◌&&◌, ◌||◌, max, nat_lt, nat_eq, if◌then◌else◌, IsFalse}
 use Rattle.histories.specs.History.{is_raised}
 use Rattle.iface_roles.specs.Proper.{IsWordSize}
 use Rattle.netlist.specs.Nets.{NetValue}
@@ -7,9 +7,8 @@ use Rattle.netlist.specs.Netlists.{Netlist, IsWaiting}
 use Rattle.netlist.specs.Runs.{Always}
 use Rattle.netlist.specs.Longer.{Extends}
 use Rattle.net_parts.specs.Groups.{AreWaiting, InGroup, StartAllLow, TakeAllNext}
-use Rattle.mm_runs.specs.Commands.{longest_burst}
 use Rattle.mm_machines.specs.Link.{Target, Port}
-use Rattle.mm_links.specs.Cutters.{CutterState, RunsAsCutter, IsCutPlan, reach_longest, cut_form}
+use Rattle.mm_links.specs.Cutters.{Reach, CutterState, RunsAsCutter, IsCutPlan, cut_form}
 use Rattle.command_nets.specs.declared.nets.CommandNets.{CommandNets}
 use Rattle.command_nets.specs.declared.nets.AnswerNets.{AnswerNets}
 use Rattle.command_nets.specs.Nets.{Widths, AreCommandNets, raw_in}
@@ -18,34 +17,43 @@ use Rattle.link_core.specs.Form.{Form}
 use Rattle.mm_burst.specs.declared.cutter.Cutter.{Cutter}
 use Rattle.mm_burst.specs.declared.cutter.CutterKept.{CutterKept}
 use Rattle.mm_burst.specs.declared.registers.CutterRegisters.{CutterRegisters}
-use Rattle.mm_burst.specs.Pieces.{registers_of, AreRegisters, held_in, ArePieceNets, FitsRegisters, piece_in, piece_now, HasRoom, shown_piece, behind_piece, registers_last, piece_lasts}
+use Rattle.mm_burst.specs.Pieces.{reach_by, longest_by, registers_of, AreRegisters, held_in, ArePieceNets, FitsRegisters, piece_in, piece_now, HasRoom, shown_piece, behind_piece, registers_last, piece_lasts}
 
--- from counts of so many bits to counts of fewer
+-- from counts of so many bits to counts of no more, which tell the words of a wide word where reads are cut at its end
 pub record IsCutter (s : Cutter) : Type 0 where
   pub word : IsWordSize s.word_bytes
   pub some : 1 ≤ s.below_bits
-  pub fewer : s.below_bits < s.count_bits
+  pub fewer : s.below_bits ≤ s.count_bits
   pub few : s.count_bits ≤ 11
+  pub places : IsFalse (nat_eq s.place_bits 0) → s.below_bits ≡ s.place_bits + 1
 
--- words of so many bytes, whose bursts are cut into those that the lower count tells
+-- how its reads are cut, and the most beats of its write bursts
+abbrev pub reach_of : Cutter → Reach
+reach_of s = reach_by s.place_bits s.word_bytes s.below_bits
+
+abbrev pub longest_of : Cutter → ℕ
+longest_of s = longest_by s.place_bits s.below_bits
+
+-- words of so many bytes, whose bursts are cut so
 pub record IsCutterForm (s : Cutter) (form : Form) : Type 0 where
-  pub plan : IsCutPlan (reach_longest (longest_burst s.below_bits)) (longest_burst s.below_bits) form.up form.down
+  pub plan : IsCutPlan (reach_of s) (longest_of s) form.up form.down
   pub words : form.up.word_bytes ≡ s.word_bytes
   pub bytes : form.up.unit_bytes ≡ 1
   pub is : form.link ≡ cut_form form.link.target
 
 -- the machine, with its state
 pub record CutterRuns (s : Cutter) (target : Target) (up down : Port) : Type 0 where
-  pub plan : IsCutPlan (reach_longest (longest_burst s.below_bits)) (longest_burst s.below_bits) up.shape down.shape
+  pub plan : IsCutPlan (reach_of s) (longest_of s) up.shape down.shape
   pub state : CutterState
-  pub run : RunsAsCutter (reach_longest (longest_burst s.below_bits)) (longest_burst s.below_bits) up down state
+  pub run : RunsAsCutter (reach_of s) (longest_of s) up down state
 
 -- the nets of a command, whose address reaches all bytes of a word
 pub record TakesWidths (s : Cutter) (widths : Widths) : Type 0 where
   pub is : IsCutter s
   pub word : widths.word ≡ s.word_bytes * 8
   pub enables : widths.enables ≡ s.word_bytes
-  pub count : widths.count ≡ s.count_bits
+  pub some : 1 ≤ widths.count
+  pub count : widths.count ≤ s.count_bits
   pub reach : s.word_bytes ≤ 2 ^ widths.address
   pub few : widths.address ≤ 64
 
@@ -77,11 +85,11 @@ pub record CutterKeeps (s : Cutter) (kept : CutterKept) (netlist : Netlist) : Ty
 pub record CutterCommand (s : Cutter) (from to : CommandNets) (kept : CutterKept) (netlist : Netlist) : Type 0 where
   pub is : IsCutter s
   pub from_nets : AreCommandNets netlist from
-  pub count : from.count.width ≡ s.count_bits
+  pub count : from.count.width ≤ s.count_bits
   pub address : kept.registers.next.width ≡ address_bits from.address.width s.count_bits (lane_exponent s.word_bytes)
   pub starts : StartAllLow netlist (registers_of kept.registers)
-  pub piece : Always netlist (λ cycle. piece_in cycle kept.piece ≡ piece_now (longest_burst s.below_bits) s.word_bytes (raw_in cycle from) (held_in cycle kept.registers))
-  pub shows : Always netlist (λ cycle. raw_in cycle to ≡ shown_piece (longest_burst s.below_bits) (cycle.net from.word.number) (piece_in cycle kept.piece))
+  pub piece : Always netlist (λ cycle. piece_in cycle kept.piece ≡ piece_now (reach_of s) s.word_bytes (raw_in cycle from) (held_in cycle kept.registers))
+  pub shows : Always netlist (λ cycle. raw_in cycle to ≡ shown_piece (longest_of s) (cycle.net from.word.number) (piece_in cycle kept.piece))
 
 -- after the second call: it waits while the cutter sends by itself, answers are wires, and the registers take these nets
 pub record CutterAnswer (s : Cutter) (kept : CutterKept) (wait : NetValue) (answer : AnswerNets) (up : NetValue) (back : AnswerNets) (netlist : Netlist) : Type 0 where

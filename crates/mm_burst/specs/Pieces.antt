@@ -1,12 +1,13 @@
 -- The registers of a cutter of bursts, and what it makes of them and of the beat above in a cycle.
-use Rattle.std.specs.Prelude.{◌≡◌, ℕ, ◌+◌, ◌-◌, ◌*◌, ◌%◌, ◌≤◌, Bool, true, not, ◌&&◌, ◌||◌, nat_lt, List, [], ◌∷◌, drop, if◌then◌else◌}
+use Rattle.std.specs.Prelude.{◌≡◌, ℕ, ◌+◌, ◌-◌, ◌*◌, ◌%◌, ◌^◌, ◌≤◌, Bool, true, not, ◌&&◌, ◌||◌, nat_lt, nat_eq, List, [], ◌∷◌, drop, if◌then◌else◌}
 use Rattle.histories.specs.History.{is_raised, one_if}
 use Rattle.netlist.specs.Nets.{NetValue}
 use Rattle.netlist.specs.Netlists.{Netlist, IsNet}
 use Rattle.netlist.specs.Runs.{Cycle}
 use Rattle.netlist.specs.Longer.{Extends}
+use Rattle.mm_runs.specs.Commands.{longest_burst}
 use Rattle.mm_machines.specs.Machines.{Raw}
-use Rattle.mm_links.specs.Cutters.{beats_of}
+use Rattle.mm_links.specs.Cutters.{Reach, beats_of, reach_longest, reach_words}
 use Rattle.net_parts.specs.Nets.{IsBit, IsNetOfWidth}
 use Rattle.net_parts.specs.Laws.{net_lasts}
 use Rattle.command_nets.specs.Groups.{first_value, is_shown}
@@ -56,6 +57,16 @@ held_of values = record {
   tag = first_value (drop 5 values);
 }
 
+-- ---- how reads are cut
+
+-- like writes, or up to the end of a wide word, in which 2 ^ places words of so many bytes stand
+abbrev pub reach_by : ℕ → ℕ → ℕ → Reach
+reach_by places bytes below = if nat_eq places 0 then reach_longest (longest_burst below) else reach_words bytes (2 ^ places)
+
+-- the most beats of a write burst
+abbrev pub longest_by : ℕ → ℕ → ℕ
+longest_by places below = if nat_eq places 0 then longest_burst below else 1
+
 -- ---- the piece of a burst that a cycle may show below
 
 pub record Piece : Type 0 where
@@ -72,18 +83,19 @@ pub record Piece : Type 0 where
 
 -- by the beat above, whose byte address is `start`, by the registers, and by the bits that tell of what kind it is: the cutter
 -- sends by itself, some beats of a burst are left, a write stands above, anything does
-abbrev pub piece_by : ℕ → ℕ → Raw → Held → Bool → Bool → Bool → Bool → Piece
-piece_by longest start raw held sends some write shown =
+abbrev pub piece_by : Reach → ℕ → Raw → Held → Bool → Bool → Bool → Bool → Piece
+piece_by reach start raw held sends some write shown =
     let writes = write && not sends in
     let old = sends || (some && writes) in
     let left = if old then held.left else raw.levels.count in
-    let step = if writes then 1 else longest in
+    let address = if old then held.next else start in
+    let step = if writes then 1 else reach address in
     record {
       sends = sends;
       shows = sends || shown;
       writes = writes;
       left = left;
-      address = if old then held.next else start;
+      address = address;
       step = step;
       follows = nat_lt step left;
       enables = if sends then held.enables else raw.levels.enables;
@@ -91,17 +103,17 @@ piece_by longest start raw held sends some write shown =
       tag = if sends then held.tag else raw.tag;
     }
 
-abbrev pub piece_from : ℕ → ℕ → Raw → Held → Piece
-piece_from longest start raw held = piece_by longest start raw held (is_raised held.reads && nat_lt 0 held.left) (nat_lt 0 held.left) (is_raised raw.levels.write) (is_shown raw)
+abbrev pub piece_from : Reach → ℕ → Raw → Held → Piece
+piece_from reach start raw held = piece_by reach start raw held (is_raised held.reads && nat_lt 0 held.left) (nat_lt 0 held.left) (is_raised raw.levels.write) (is_shown raw)
 
-abbrev pub piece_now : ℕ → ℕ → Raw → Held → Piece
-piece_now longest bytes raw held = piece_from longest (raw.levels.address - raw.levels.address % bytes) raw held
+abbrev pub piece_now : Reach → ℕ → Raw → Held → Piece
+piece_now reach bytes raw held = piece_from reach (raw.levels.address - raw.levels.address % bytes) raw held
 
 -- where another one follows, it has no more beats than are left
 abbrev pub HasRoom : Piece → Type 0
 HasRoom piece = piece.follows ≡ true → piece.step ≤ piece.left
 
--- the beat below
+-- the beat below, where a write burst has at most so many beats
 abbrev pub shown_piece : ℕ → ℕ → Piece → Raw
 shown_piece longest word piece = record {
   levels = record {
@@ -110,7 +122,7 @@ shown_piece longest word piece = record {
     address = piece.address;
     word = if piece.writes then word else 0;
     enables = piece.enables;
-    count = beats_of longest piece.left;
+    count = beats_of (if piece.writes then longest else piece.step) piece.left;
   };
   more = if piece.follows && not piece.writes then 1 else piece.more;
   tag = piece.tag;

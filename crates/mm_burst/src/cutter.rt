@@ -2,18 +2,19 @@
 //! its first burst and sends the others by itself; the beats of a write come from above. Answers are wires. Its law is that of
 //! `cut_is_a_link`.
 
-ghost use Rattle.std.specs.Prelude.{◌≡◌, ◌*◌, ℕ};
+ghost use Rattle.std.specs.Prelude.{◌≡◌, ◌+◌, ◌*◌, ℕ};
+ghost use Rattle.mm_burst.specs.Ways.{more_nets};
 ghost use Rattle.mm_burst.specs.CutterNets.{IsCutterForm, CutterRuns, TakesWidths, given_widths, owns_cutter, CutterKeeps, CutterCommand, CutterAnswer, cutter_keeps_lasts, cutter_command_lasts, cutter_answer_lasts};
 
 use crate::addresses::{start_of, wide_bits};
 use crate::bits::longest_net;
-use crate::pieces::{PieceNets, make_piece};
+use crate::pieces::{PieceNets, Way, make_piece};
 use crate::registers::{CutterRegisters, hold_registers, next_registers};
 use crate::shows::below;
 use command_nets::{AnswerNets, CommandNets, either, lane_bits, unless};
 use link_core::Link;
 use mm_links::bursts::{cut_goes_in_step, cut_is_a_link, cut_is_straight};
-use net_parts::set_all_next;
+use net_parts::{fit_bits, set_all_next};
 use netlist::{Builder, Net, NetFault};
 
 /// A link from bursts that so many bits count to those that fewer bits count.
@@ -21,10 +22,12 @@ use netlist::{Builder, Net, NetFault};
 pub struct Cutter {
     /// The bytes of a word, on both sides.
     pub word_bytes: u8,
-    /// The bits of the count above.
+    /// The most bits of the count above.
     pub count_bits: u8,
     /// The bits of the count below; 1 for single beats.
     pub below_bits: u8,
+    /// The bits of a word's place in a wide one, at whose end reads are cut, where writes go beat by beat; 0 where reads are cut like writes.
+    pub place_bits: u8,
 }
 
 /// The registers, and what is shown below.
@@ -51,7 +54,7 @@ impl Link for Cutter {
 
     ghost gives_words = { λ s bits. s.word_bytes * 8 };
 
-    ghost command_nets = { λ s. 50 };
+    ghost command_nets = { λ s. 50 + 7 * more_nets s.place_bits };
 
     ghost answer_nets = { λ s. 20 };
 
@@ -67,19 +70,28 @@ impl Link for Cutter {
 
     ghost answer_in = { λ s kept wait answer up back netlist. CutterAnswer s kept wait answer up back netlist };
 
+    #[tactic(auto, using(net_parts::specs::Laws::growing))]
     fn emit_command(
         &self,
         builder: &mut Builder,
         from: CommandNets,
     ) -> Result<(CommandNets, CutterKept), NetFault> {
+        let bits = builder.width(from.count);
+        let count = fit_bits(builder, from.count, bits, self.count_bits)?;
+        let from = CommandNets { count, ..from };
         let lanes = lane_bits(self.word_bytes);
         let address_bits = builder.width(from.address);
         let bits = wide_bits(address_bits, self.count_bits, lanes);
         let start = start_of(builder, from.address, lanes, bits)?;
         let longest = longest_net(builder, self.count_bits, self.below_bits)?;
         let registers = hold_registers(builder, &from, start)?;
-        let piece = make_piece(builder, &from, &registers, start, longest, self.below_bits)?;
-        let to = below(builder, &piece, from.word, longest, self.below_bits)?;
+        let way = Way {
+            lanes,
+            place_bits: self.place_bits,
+            below_bits: self.below_bits,
+        };
+        let piece = make_piece(builder, &from, &registers, start, longest, &way)?;
+        let to = below(builder, &piece, from.word, longest, &way)?;
         Ok((to, CutterKept { registers, piece }))
     }
 

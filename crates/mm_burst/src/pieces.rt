@@ -1,6 +1,6 @@
 //! The piece of a burst that may be shown below: one of the burst under way, or the first one of that above.
 
-ghost use Rattle.std.specs.Prelude.{◌≡◌, ◌+◌, ◌-◌, ◌^◌, ◌<◌, ◌≤◌, not, ◌&&◌, ◌||◌, nat_lt, if◌then◌else◌, length, IfOk};
+ghost use Rattle.std.specs.Prelude.{◌≡◌, ◌+◌, ◌*◌, ◌-◌, ◌^◌, ◌<◌, ◌≤◌, not, ◌&&◌, ◌||◌, nat_lt, if◌then◌else◌, length, IfOk};
 ghost use Rattle.histories.specs.History.{is_raised};
 ghost use Rattle.netlist.specs.Netlists.{IsNet};
 ghost use Rattle.netlist.specs.Runs.{Always};
@@ -8,12 +8,14 @@ ghost use Rattle.net_parts.specs.Nets.{IsBit, IsNetOfWidth};
 ghost use Rattle.net_parts.specs.Growth.{AddsNets};
 ghost use Rattle.mm_runs.specs.Commands.{longest_burst};
 ghost use Rattle.command_nets.specs.Nets.{AreCommandNets, raw_in};
-ghost use Rattle.mm_burst.specs.Pieces.{AreRegisters, held_in, ArePieceNets, FitsRegisters, piece_in, piece_from};
+ghost use Rattle.mm_links.specs.Cutters.{reach_words};
+ghost use Rattle.mm_burst.specs.Ways.{IsWay, more_nets};
+ghost use Rattle.mm_burst.specs.Pieces.{reach_by, AreRegisters, held_in, ArePieceNets, FitsRegisters, piece_in, piece_from};
 
 use crate::bits::{is_less, is_some, pick};
 use crate::registers::CutterRegisters;
 use command_nets::{CommandNets, both, either, shown, unless};
-use net_parts::constant;
+use net_parts::{constant, fit_bits};
 use netlist::{Builder, Net, NetFault};
 
 /// What may be shown below in a cycle.
@@ -76,29 +78,86 @@ fn kind_of(
     Ok(Kind { sends, writes, old })
 }
 
+/// How a cutter cuts reads.
+#[derive(Clone, Copy)]
+pub(crate) struct Way {
+    /// The bits of a byte's place in a word.
+    pub lanes: u8,
+    /// The bits of a word's place in a wide word, at whose end reads are cut; 0 where they are cut like writes.
+    pub place_bits: u8,
+    /// The bits of the count below.
+    pub below_bits: u8,
+}
+
+/// How many words there are from an address up to the end of its wide word, where `longest` shows how many one has.
+#[tactic(auto, using(net_parts::specs::Laws::growing))]
+fn words_ahead(
+    builder: &mut Builder,
+    address: Net,
+    longest: Net,
+    way: &Way,
+) -> Result<Net, NetFault>
+    requires address { IsNet builder.old address }
+    requires longest { IsNet builder.old longest }
+    requires some { 1 ≤ way.now.place_bits }
+    requires within { way.now.lanes + way.now.place_bits ≤ address.width }
+    requires wide { way.now.place_bits < longest.width }
+    requires most { Always builder.old (λ cycle. cycle.net longest.number ≡ 2 ^ way.now.place_bits) }
+    ensures net { IfOk result (λ made. IsNetOfWidth builder.new made longest.width) }
+    ensures value { IfOk result (λ made. Always builder.new (λ cycle. cycle.net made.number ≡ reach_words (2 ^ way.now.lanes) (2 ^ way.now.place_bits) (cycle.net address.number))) }
+    ensures adds { AddsNets 4 builder.old builder.new }
+    ensures full { result ≡ Err NetFault.TooManyNets → 2 ^ 20 < length builder.old.lines + 4 }
+{
+    let place = builder.slice(address, way.lanes + way.place_bits - 1, way.lanes)?;
+    let wanted = builder.width(longest);
+    let bits = builder.width(place);
+    let fitted = fit_bits(builder, place, bits, wanted)?;
+    builder.sub(longest, fitted)
+}
+
+/// How many beats the next burst of a read may have, where `longest` shows the most that one has.
+fn reach_net(builder: &mut Builder, address: Net, longest: Net, way: &Way) -> Result<Net, NetFault>
+    requires address { IsNet builder.old address }
+    requires longest { IsNet builder.old longest }
+    requires way { IsWay way.now address.width longest.width }
+    requires most { Always builder.old (λ cycle. cycle.net longest.number ≡ longest_burst way.now.below_bits) }
+    ensures net { IfOk result (λ made. IsNetOfWidth builder.new made longest.width) }
+    ensures value { IfOk result (λ made. Always builder.new (λ cycle. cycle.net made.number ≡ reach_by way.now.place_bits (2 ^ way.now.lanes) way.now.below_bits (cycle.net address.number))) }
+    ensures adds { AddsNets (4 * more_nets way.now.place_bits) builder.old builder.new }
+    ensures full { result ≡ Err NetFault.TooManyNets → 2 ^ 20 < length builder.old.lines + 4 * more_nets way.now.place_bits }
+{
+    if way.place_bits == 0 {
+        return Ok(longest);
+    }
+    words_ahead(builder, address, longest, way)
+}
+
 /// How many beats the piece may have, where `longest` shows the most that a read has.
 #[tactic(auto, using(net_parts::specs::Laws::growing))]
 fn step_of(
     builder: &mut Builder,
     writes: Net,
+    address: Net,
     longest: Net,
-    below_bits: u8,
+    way: &Way,
 ) -> Result<Net, NetFault>
     requires writes { IsBit builder.old writes }
+    requires address { IsNet builder.old address }
     requires longest { IsNet builder.old longest }
-    requires some { 1 ≤ below_bits }
-    requires most { Always builder.old (λ cycle. cycle.net longest.number ≡ longest_burst below_bits) }
+    requires way { IsWay way.now address.width longest.width }
+    requires most { Always builder.old (λ cycle. cycle.net longest.number ≡ longest_burst way.now.below_bits) }
     ensures net { IfOk result (λ step. IsNetOfWidth builder.new step longest.width) }
-    ensures value { IfOk result (λ step. Always builder.new (λ cycle. cycle.net step.number ≡ (if is_raised (cycle.net writes.number) then 1 else longest_burst below_bits))) }
-    ensures adds { AddsNets 2 builder.old builder.new }
-    ensures full { result ≡ Err NetFault.TooManyNets → 2 ^ 20 < length builder.old.lines + 2 }
+    ensures value { IfOk result (λ step. Always builder.new (λ cycle. cycle.net step.number ≡ (if is_raised (cycle.net writes.number) then 1 else reach_by way.now.place_bits (2 ^ way.now.lanes) way.now.below_bits (cycle.net address.number)))) }
+    ensures adds { AddsNets (2 + 4 * more_nets way.now.place_bits) builder.old builder.new }
+    ensures full { result ≡ Err NetFault.TooManyNets → 2 ^ 20 < length builder.old.lines + (2 + 4 * more_nets way.now.place_bits) }
 {
-    if below_bits == 1 {
+    if way.below_bits == 1 {
         return Ok(longest);
     }
+    let reach = reach_net(builder, address, longest, way)?;
     let bits = builder.width(longest);
     let one = constant(builder, bits, 1)?;
-    pick(builder, writes, one, longest)
+    pick(builder, writes, one, reach)
 }
 
 /// What all pieces of a command share.
@@ -146,7 +205,7 @@ pub(crate) fn make_piece(
     registers: &CutterRegisters,
     start: Net,
     longest: Net,
-    below_bits: u8,
+    way: &Way,
 ) -> Result<PieceNets, NetFault>
     requires from { AreCommandNets builder.old from.now }
     requires registers { AreRegisters builder.old registers.now }
@@ -155,18 +214,18 @@ pub(crate) fn make_piece(
     requires tag { registers.now.tag.width ≡ from.now.tag.width }
     requires start { IsNetOfWidth builder.old start registers.now.next.width }
     requires longest { IsNetOfWidth builder.old longest registers.now.left.width }
-    requires some { 1 ≤ below_bits }
-    requires most { Always builder.old (λ cycle. cycle.net longest.number ≡ longest_burst below_bits) }
+    requires way { IsWay way.now registers.now.next.width registers.now.left.width }
+    requires most { Always builder.old (λ cycle. cycle.net longest.number ≡ longest_burst way.now.below_bits) }
     ensures nets { IfOk result (λ piece. ArePieceNets builder.new piece) }
     ensures fits { IfOk result (λ piece. FitsRegisters registers.now piece) }
-    ensures value { IfOk result (λ piece. Always builder.new (λ cycle. piece_in cycle piece ≡ piece_from (longest_burst below_bits) (cycle.net start.number) (raw_in cycle from.now) (held_in cycle registers.now))) }
-    ensures adds { AddsNets 16 builder.old builder.new }
-    ensures full { result ≡ Err NetFault.TooManyNets → 2 ^ 20 < length builder.old.lines + 16 }
+    ensures value { IfOk result (λ piece. Always builder.new (λ cycle. piece_in cycle piece ≡ piece_from (reach_by way.now.place_bits (2 ^ way.now.lanes) way.now.below_bits) (cycle.net start.number) (raw_in cycle from.now) (held_in cycle registers.now))) }
+    ensures adds { AddsNets (16 + 4 * more_nets way.now.place_bits) builder.old builder.new }
+    ensures full { result ≡ Err NetFault.TooManyNets → 2 ^ 20 < length builder.old.lines + (16 + 4 * more_nets way.now.place_bits) }
 {
     let kind = kind_of(builder, from, registers)?;
     let left = pick(builder, kind.old, registers.left, from.count)?;
     let address = pick(builder, kind.old, registers.next, start)?;
-    let step = step_of(builder, kind.writes, longest, below_bits)?;
+    let step = step_of(builder, kind.writes, address, longest, way)?;
     let follows = is_less(builder, step, left)?;
     let above = shown(builder, from)?;
     let shows = either(builder, kind.sends, above)?;

@@ -6,6 +6,7 @@ use Rattle.iface_roles.specs.declared.records.AgentPort.{AgentPort}
 use Rattle.command_nets.specs.Nets.{Widths}
 use Rattle.mm_burst.specs.declared.cutter.Cutter.{Cutter}
 use Rattle.mm_burst.specs.CutterNets as cutter
+use Rattle.mm_burst.specs.Ways.{more_nets}
 use Rattle.mm_select.specs.declared.select.Select.{Select}
 use Rattle.mm_select.specs.SelectNets.{given_widths}
 use Rattle.mm_split.specs.declared.split.Split.{Split}
@@ -17,23 +18,23 @@ use Rattle.mm_width.specs.Pairs.{MayAskOf, cutter_between, widths_between, width
 -- ---- nets
 
 -- so many for each link that is there
-abbrev for_links : (cutter select split dropper : ℕ) → Width → ℕ
+abbrev for_links : (cutter : Cutter → ℕ) (select split dropper : ℕ) → Width → ℕ
 for_links cutter select split dropper width =
     let fitting = width.second in
-    unwrap_or (option_map (λ (s : Cutter). cutter) width.first.link) 0
+    unwrap_or (option_map cutter width.first.link) 0
     + ((unwrap_or (option_map (λ (s : Select). select) fitting.first.first.link) 0 + unwrap_or (option_map (λ (s : Split). split) fitting.first.second.link) 0)
     + unwrap_or (option_map (λ (s : Dropper). dropper) fitting.second.link) 0)
 
 -- the most nets of the first call, and of the second
 abbrev pub nets_of : Width → ℕ
-nets_of width = for_links 50 41 337 31 width
+nets_of width = for_links (λ s. 50 + 7 * more_nets s.place_bits) 41 337 31 width
 
 abbrev pub answers_of : Width → ℕ
-answers_of width = for_links 20 69 239 49 width
+answers_of width = for_links (λ s. 20) 69 239 49 width
 
 -- and its memories: there are none
 abbrev pub memories_of : Width → ℕ
-memories_of width = for_links 0 0 0 0 width
+memories_of width = for_links (λ s. 0) 0 0 0 width
 
 abbrev none_each : {L : Type 0} → Option L → ℕ
 none_each {L} link = unwrap_or (option_map (λ (s : L). 0) link) 0
@@ -54,7 +55,7 @@ not_both : (m n : ℕ) → nat_lt m n ≡ true → nat_lt n m ≡ true → ⊥
 not_both m n less more = let low = ltb-true m n less in let high = ltb-true n m more in omega (arith, low, high)
 
 -- a lane selector and a splitter don't stand in one row
-few_by : (most cutter select split dropper : ℕ) (cuts narrower wider drops : Bool) (host : HostPort) (agent : AgentPort) (stages : ℕ) → cutter + (select + dropper) ≤ most → cutter + (split + dropper) ≤ most → (narrower ≡ true → wider ≡ true → ⊥) →
+few_by : (most : ℕ) (cutter : Cutter → ℕ) (select split dropper : ℕ) (cuts narrower wider drops : Bool) (host : HostPort) (agent : AgentPort) (stages : ℕ) → cutter (cutter_between host agent) + (select + dropper) ≤ most → cutter (cutter_between host agent) + (split + dropper) ≤ most → (narrower ≡ true → wider ≡ true → ⊥) →
     for_links cutter select split dropper (record { first = record { link = cutter_if cuts host agent }; second = fitting_by narrower wider drops host agent stages }) ≤ most
 few_by most cutter select split dropper cuts true true drops host agent stages selects splits never = absurd (never refl refl)
 few_by most cutter select split dropper true true false true host agent stages selects splits never = omega (arith, selects)
@@ -70,15 +71,15 @@ few_by most cutter select split dropper false false true false host agent stages
 few_by most cutter select split dropper false false false true host agent stages selects splits never = omega (arith, selects)
 few_by most cutter select split dropper false false false false host agent stages selects splits never = omega (arith, selects)
 
-few_links : (most cutter select split dropper : ℕ) (host : HostPort) (agent : AgentPort) (stages : ℕ) → cutter + (select + dropper) ≤ most → cutter + (split + dropper) ≤ most → for_links cutter select split dropper (width_of host agent stages) ≤ most
+few_links : (most : ℕ) (cutter : Cutter → ℕ) (select split dropper : ℕ) (host : HostPort) (agent : AgentPort) (stages : ℕ) → cutter (cutter_between host agent) + (select + dropper) ≤ most → cutter (cutter_between host agent) + (split + dropper) ≤ most → for_links cutter select split dropper (width_of host agent stages) ≤ most
 few_links most cutter select split dropper host agent stages selects splits =
     few_by most cutter select split dropper (needs_cut host agent) (nat_lt host.word_bytes agent.word_bytes) (nat_lt agent.word_bytes host.word_bytes) (needs_drop host agent) host agent stages selects splits (not_both host.word_bytes agent.word_bytes)
 
 pub few_nets : (host : HostPort) (agent : AgentPort) (stages : ℕ) → nets_of (width_of host agent stages) ≤ 418
-few_nets host agent stages = few_links 418 50 41 337 31 host agent stages (omega arith) (omega arith)
+few_nets host agent stages = few_links 418 (λ s. 50 + 7 * more_nets s.place_bits) 41 337 31 host agent stages (omega arith) (omega arith)
 
 pub few_answers : (host : HostPort) (agent : AgentPort) (stages : ℕ) → answers_of (width_of host agent stages) ≤ 310
-few_answers host agent stages = few_links 310 20 69 239 49 host agent stages (omega arith) (omega arith)
+few_answers host agent stages = few_links 310 (λ s. 20) 69 239 49 host agent stages (omega arith) (omega arith)
 
 -- ---- widths, link by link
 

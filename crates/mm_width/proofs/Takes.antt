@@ -32,10 +32,11 @@ Takes width widths =
 module _ (host : HostPort) (agent : AgentPort) (stages : ℕ) (few : stages ≤ 4) (pair : MayMeet host agent) where
   cut_takes : (cuts : Bool) → cuts ≡ needs_cut host agent → (widths : Widths) → MayAskOf host agent widths → IfSome (cutter_if cuts host agent) (λ s. cutter.TakesWidths s widths)
   cut_takes true c widths may = record {
-    is = record { word = pair.host_word; some = some_between host agent; fewer = ltb-true (bits_between host agent) (burst_width host.burst_bits) (sym c); few = most_width host.burst_bits pair.host_bursts };
+    is = record { word = pair.host_word; some = some_between host agent; fewer = (let fewer = ltb-true (bits_between host agent) (burst_width host.burst_bits) (sym c) in omega (arith, fewer)); few = most_width host.burst_bits pair.host_bursts; places = λ none. absurd (cc) };
     word = may.word;
     enables = may.enables;
-    count = may.count;
+    some = (let some = some_between host agent in let fewer = ltb-true (bits_between host agent) (burst_width host.burst_bits) (sym c) in let count = may.count in omega (arith, some, fewer, count));
+    count = (let count = may.count in omega (arith, count));
     reach = may.reaches_word;
     few = may.few;
   }

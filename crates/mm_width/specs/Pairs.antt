@@ -50,7 +50,7 @@ pub record MayAskOf (host : HostPort) (agent : AgentPort) (widths : Widths) : Ty
 
 -- what cuts the host's bursts, where that is needed
 abbrev pub cutter_between : HostPort → AgentPort → Cutter
-cutter_between host agent = record { word_bytes = host.word_bytes; count_bits = burst_width host.burst_bits; below_bits = bits_between host agent }
+cutter_between host agent = record { word_bytes = host.word_bytes; count_bits = burst_width host.burst_bits; below_bits = bits_between host agent; place_bits = 0 }
 
 -- below the cutter
 abbrev pub widths_between : HostPort → AgentPort → Widths → Widths

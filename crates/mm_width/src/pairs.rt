@@ -54,6 +54,7 @@ pub fn cutter_between(host: &HostPort, agent: &AgentPort) -> Cutter
         word_bytes: host.word_bytes,
         count_bits: burst_width(host.burst_bits),
         below_bits: bits_between(host, agent),
+        place_bits: 0,
     }
 }
 

@@ -1,14 +1,41 @@
-use Rattle.std.proofs.Common.{◌≡◌, ◌^◌, ◌≤◌, ◌%◌, ◌-◌, refl, sym, subst, ap, ap₂, ◌∙◌, inl, inr, arith, length}
-use Rattle.net_parts.specs.Laws.{extends_twice, grows_fewer, adds_grow, grows_twice}
-use Rattle.mm_runs.specs.Commands.{longest_burst}
-use Rattle.command_nets.specs.Nets.{raw_in}
+use Rattle.std.proofs.Common.{◌≡◌, ℕ, ◌+◌, ◌^◌, ◌≤◌, ◌%◌, ◌-◌, Bool, true, false, nat_eq, if◌then◌else◌, refl, sym, subst, ap, ap₂, ◌∙◌, inl, inr, arith, length}
+use Rattle.net_parts.specs.Laws.{extends_twice, grows_fewer, adds_grow, grows_twice, net_fits}
+use Rattle.netlist.specs.Nets.{NetValue}
+use Rattle.netlist.specs.Netlists.{Netlist, IsNet}
+use Rattle.netlist.specs.Longer.{Extends}
+use Rattle.mm_machines.specs.Machines.{Raw}
+use Rattle.net_parts.specs.Fitting.{fits_more}
+use Rattle.command_nets.specs.declared.nets.CommandNets.{CommandNets}
+use Rattle.command_nets.specs.Nets.{AreCommandNets, raw_in}
 use Rattle.command_nets.specs.Groups.{command_lasts}
 use Rattle.net_parts.specs.Groups.{in_row}
-use Rattle.mm_burst.specs.CutterNets.{address_bits}
-use Rattle.mm_burst.specs.Pieces.{registers_of, held_in, HasRoom, piece_from, registers_last, piece_lasts}
-use Rattle.mm_burst.proofs.Levels.{exponent_is, reach_is, has_room}
-use Rattle.net_parts.specs.Refusing.{handed_on}
+use Rattle.mm_burst.specs.CutterNets.{IsCutter, address_bits}
+use Rattle.mm_burst.specs.Ways.{IsWay}
+use Rattle.mm_burst.specs.declared.cutter.Cutter.{Cutter}
+use Rattle.mm_burst.specs.Pieces.{Piece, reach_by, registers_of, held_in, HasRoom, piece_from, registers_last, piece_lasts}
+use Rattle.mm_burst.proofs.Levels.{exponent_is, reach_is, has_room, fits_in_two}
+use Rattle.std.proofs.lemmas.Bool.{eqb-true}
 use Rattle.mm_burst.proofs.cutter.CutterLink.emit_command.Goals as goal
+
+-- the address of a cutter reaches all places of a wide word, and its count all words
+is_way : {s : Cutter} → IsCutter s → (lanes address count : ℕ) → s.count_bits + lanes + 1 ≤ address → count ≡ s.count_bits → IsWay (record { lanes = lanes; place_bits = s.place_bits; below_bits = s.below_bits }) address count
+is_way {s} is lanes address count wide same = record {
+  some = is.some;
+  fewer = (let fewer = is.fewer in omega (arith, fewer, same));
+  within = by_places (nat_eq s.place_bits 0) refl;
+  places = is.places;
+}
+  where
+    by_places : (none : Bool) → nat_eq s.place_bits 0 ≡ none → lanes + s.place_bits ≤ address
+    by_places true e = let zero_is = eqb-true s.place_bits 0 e in omega (arith, zero_is, wide)
+    by_places false e = let fits = is.places e in let fewer = is.fewer in omega (arith, fits, fewer, wide)
+
+-- a command with another count
+fitted_from : (old new : Netlist) (from : CommandNets) (count : NetValue) → Extends old new → AreCommandNets old from → IsNet new count → AreCommandNets new (record from { count = count })
+fitted_from old new from count e h n = let lasts = command_lasts old new from e h in record { read = lasts.read; write = lasts.write; address = lasts.address; word = lasts.word; enables = lasts.enables; count = n; more = lasts.more; tag = lasts.tag }
+
+abbrev counted : Raw → ℕ → Raw
+counted raw count = record raw { levels = record (raw.levels) { count = count } }
 
 pub start_of-requires-clause-reach : goal.start_of-requires-clause-reach
 start_of-requires-clause-reach c = reach_is _ _ (subst (λ n. n ≤ 2 ^ c.args.from.address.width) c.lane_bits-lanes.ensures.power c.requires.widths.reach)
@@ -20,13 +47,13 @@ start_of-requires-clause-wider c =
     omega (arith, wide, wider)
 
 pub hold_registers-requires-clause-like : goal.hold_registers-requires-clause-like
-hold_registers-requires-clause-like c = command_lasts _ _ _ (extends_twice _ _ _ c.start_of.ensures.adds.grows.extends c.longest_net.ensures.adds.grows.extends) c.requires.from
+hold_registers-requires-clause-like c = command_lasts _ _ _ (extends_twice _ _ _ c.start_of.ensures.adds.grows.extends c.longest_net.ensures.adds.grows.extends) (fitted_from _ _ c.args.from c.in_ok-count.count c.fit_bits.ensures.adds.grows.extends c.requires.from c.in_ok-count.ensures.net.is_net)
 
 pub hold_registers-requires-clause-start : goal.hold_registers-requires-clause-start
 hold_registers-requires-clause-start c = c.longest_net.ensures.adds.grows.extends.nets _ _ c.in_ok-start.ensures.net.is_net
 
 pub make_piece-requires-clause-from : goal.make_piece-requires-clause-from
-make_piece-requires-clause-from c = command_lasts _ _ _ (extends_twice _ _ _ c.start_of.ensures.adds.grows.extends (extends_twice _ _ _ c.longest_net.ensures.adds.grows.extends c.hold_registers.ensures.grows.extends)) c.requires.from
+make_piece-requires-clause-from c = command_lasts _ _ _ (extends_twice _ _ _ c.start_of.ensures.adds.grows.extends (extends_twice _ _ _ c.longest_net.ensures.adds.grows.extends c.hold_registers.ensures.grows.extends)) (fitted_from _ _ c.args.from c.in_ok-count.count c.fit_bits.ensures.adds.grows.extends c.requires.from c.in_ok-count.ensures.net.is_net)
 
 pub make_piece-requires-clause-registers : goal.make_piece-requires-clause-registers
 make_piece-requires-clause-registers c = c.in_ok-registers.ensures.registers
@@ -44,7 +71,7 @@ pub make_piece-requires-clause-start : goal.make_piece-requires-clause-start
 make_piece-requires-clause-start c = record { is_net = (extends_twice _ _ _ c.longest_net.ensures.adds.grows.extends c.hold_registers.ensures.grows.extends).nets _ _ c.in_ok-start.ensures.net.is_net; has_width = sym c.in_ok-registers.ensures.next }
 
 pub make_piece-requires-clause-longest : goal.make_piece-requires-clause-longest
-make_piece-requires-clause-longest c = record { is_net = c.hold_registers.ensures.grows.extends.nets _ _ c.in_ok-longest.ensures.net.is_net; has_width = c.in_ok-longest.ensures.net.has_width ∙ sym c.requires.widths.count ∙ sym c.in_ok-registers.ensures.left }
+make_piece-requires-clause-longest c = record { is_net = c.hold_registers.ensures.grows.extends.nets _ _ c.in_ok-longest.ensures.net.is_net; has_width = c.in_ok-longest.ensures.net.has_width ∙ sym c.in_ok-count.ensures.net.has_width ∙ sym c.in_ok-registers.ensures.left }
 
 pub make_piece-requires-clause-most : goal.make_piece-requires-clause-most
 make_piece-requires-clause-most c cycle v = c.in_ok-longest.ensures.value cycle (c.hold_registers.ensures.grows.extends.valuations cycle v)
@@ -53,79 +80,29 @@ pub below-requires-clause-piece : goal.below-requires-clause-piece
 below-requires-clause-piece c = c.in_ok-piece.ensures.nets
 
 pub below-requires-clause-word : goal.below-requires-clause-word
-below-requires-clause-word c = (extends_twice _ _ _ c.start_of.ensures.adds.grows.extends (extends_twice _ _ _ c.longest_net.ensures.adds.grows.extends (extends_twice _ _ _ c.hold_registers.ensures.grows.extends c.make_piece.ensures.adds.grows.extends))).nets _ _ c.requires.from.word
+below-requires-clause-word c = (extends_twice _ _ _ c.fit_bits.ensures.adds.grows.extends (extends_twice _ _ _ c.start_of.ensures.adds.grows.extends (extends_twice _ _ _ c.longest_net.ensures.adds.grows.extends (extends_twice _ _ _ c.hold_registers.ensures.grows.extends c.make_piece.ensures.adds.grows.extends)))).nets _ _ c.requires.from.word
 
 pub below-requires-clause-longest : goal.below-requires-clause-longest
-below-requires-clause-longest c = record { is_net = (extends_twice _ _ _ c.hold_registers.ensures.grows.extends c.make_piece.ensures.adds.grows.extends).nets _ _ c.in_ok-longest.ensures.net.is_net; has_width = c.in_ok-longest.ensures.net.has_width ∙ sym c.requires.widths.count ∙ sym c.in_ok-registers.ensures.left ∙ sym c.in_ok-piece.ensures.fits.left }
+below-requires-clause-longest c = record { is_net = (extends_twice _ _ _ c.hold_registers.ensures.grows.extends c.make_piece.ensures.adds.grows.extends).nets _ _ c.in_ok-longest.ensures.net.is_net; has_width = c.in_ok-longest.ensures.net.has_width ∙ sym c.in_ok-count.ensures.net.has_width ∙ sym c.in_ok-registers.ensures.left ∙ sym c.in_ok-piece.ensures.fits.left }
 
-pub below-requires-clause-fewer : goal.below-requires-clause-fewer
-below-requires-clause-fewer c =
-    let fewer = c.requires.widths.is.fewer in
-    let count = c.requires.widths.count in
-    let left = c.in_ok-registers.ensures.left in
-    let same = c.in_ok-piece.ensures.fits.left in
-    omega (arith, fewer, count, left, same)
+pub make_piece-requires-clause-way : goal.make_piece-requires-clause-way
+make_piece-requires-clause-way c =
+    is_way c.requires.widths.is c.lane_bits-lanes.result _ _ (let wide = c.in_ok-registers.ensures.next ∙ c.in_ok-start.ensures.net.has_width ∙ c.wide_bits-bits.ensures.value in omega (arith, wide)) (c.in_ok-registers.ensures.left ∙ c.in_ok-count.ensures.net.has_width)
+
+pub below-requires-clause-way : goal.below-requires-clause-way
+below-requires-clause-way c =
+    is_way c.requires.widths.is c.lane_bits-lanes.result _ _ (let wide = c.in_ok-piece.ensures.fits.address ∙ c.in_ok-registers.ensures.next ∙ c.in_ok-start.ensures.net.has_width ∙ c.wide_bits-bits.ensures.value in omega (arith, wide))
+    (c.in_ok-piece.ensures.fits.left ∙ c.in_ok-registers.ensures.left ∙ c.in_ok-count.ensures.net.has_width)
+
+pub below-requires-clause-step : goal.below-requires-clause-step
+below-requires-clause-step c cycle v =
+    let way = c.args.self.now in
+    subst (λ (p : Piece). p.step ≡ (if p.writes then 1 else reach_by way.place_bits (2 ^ c.lane_bits-lanes.result) way.below_bits p.address)) (sym (c.in_ok-piece.ensures.value cycle v)) refl
 
 pub below-requires-clause-most : goal.below-requires-clause-most
 below-requires-clause-most c cycle v =
     let v0 = c.make_piece.ensures.adds.grows.extends.valuations cycle v in
     c.in_ok-longest.ensures.value cycle (c.hold_registers.ensures.grows.extends.valuations cycle v0)
-
-pub returns-in_err-start-clause-grows : goal.returns-in_err-start-clause-grows
-returns-in_err-start-clause-grows c = grows_fewer _ _ _ _ (omega arith) (adds_grow _ _ _ c.start_of.ensures.adds)
-
-pub returns-in_err-start-clause-full : goal.returns-in_err-start-clause-full
-returns-in_err-start-clause-full c e =
-    let full = c.start_of.ensures.full (handed_on _ _ _ _ c.in_err-start.was c.from_residual.ensures.1 e) in
-    omega (arith, full)
-
-pub returns-in_err-longest-clause-grows : goal.returns-in_err-longest-clause-grows
-returns-in_err-longest-clause-grows c = grows_fewer _ _ _ _ (omega arith) (grows_twice _ _ _ _ _ (adds_grow _ _ _ c.start_of.ensures.adds) (adds_grow _ _ _ c.longest_net.ensures.adds))
-
-pub returns-in_err-longest-clause-full : goal.returns-in_err-longest-clause-full
-returns-in_err-longest-clause-full c e =
-    let most0 = c.start_of.ensures.adds.most in
-    let full = c.longest_net.ensures.full (handed_on _ _ _ _ c.in_err-longest.was c.from_residual-in_err-longest.ensures.1 e) in
-    omega (arith, most0, full)
-
-pub returns-in_err-registers-clause-grows : goal.returns-in_err-registers-clause-grows
-returns-in_err-registers-clause-grows c = grows_fewer _ _ _ _ (omega arith) (grows_twice _ _ _ _ _ (grows_twice _ _ _ _ _ (adds_grow _ _ _ c.start_of.ensures.adds) (adds_grow _ _ _ c.longest_net.ensures.adds)) c.hold_registers.ensures.grows)
-
-pub returns-in_err-registers-clause-full : goal.returns-in_err-registers-clause-full
-returns-in_err-registers-clause-full c e =
-    let most0 = c.start_of.ensures.adds.most in
-    let most1 = c.longest_net.ensures.adds.most in
-    let full = c.hold_registers.ensures.full (handed_on _ _ _ _ c.in_err-registers.was c.from_residual-in_err-registers.ensures.1 e) in
-    omega (arith, most0, most1, full)
-
-pub returns-in_err-piece-clause-grows : goal.returns-in_err-piece-clause-grows
-returns-in_err-piece-clause-grows c = grows_fewer _ _ _ _ (omega arith) (grows_twice _ _ _ _ _ (grows_twice _ _ _ _ _ (grows_twice _ _ _ _ _ (adds_grow _ _ _ c.start_of.ensures.adds) (adds_grow _ _ _ c.longest_net.ensures.adds)) c.hold_registers.ensures.grows) (adds_grow _ _ _ c.make_piece.ensures.adds))
-
-pub returns-in_err-piece-clause-full : goal.returns-in_err-piece-clause-full
-returns-in_err-piece-clause-full c e =
-    let most0 = c.start_of.ensures.adds.most in
-    let most1 = c.longest_net.ensures.adds.most in
-    let most2 = c.hold_registers.ensures.grows.most in
-    let full = c.make_piece.ensures.full (handed_on _ _ _ _ c.in_err-piece.was c.from_residual-in_err-piece.ensures.1 e) in
-    omega (arith, most0, most1, most2, full)
-
-pub returns-in_err-to-clause-grows : goal.returns-in_err-to-clause-grows
-returns-in_err-to-clause-grows c = grows_fewer _ _ _ _ (omega arith) (grows_twice _ _ _ _ _ (grows_twice _ _ _ _ _ (grows_twice _ _ _ _ _ (grows_twice _ _ _ _ _ (adds_grow _ _ _ c.start_of.ensures.adds) (adds_grow _ _ _ c.longest_net.ensures.adds)) c.hold_registers.ensures.grows) (adds_grow _ _ _ c.make_piece.ensures.adds)) (adds_grow _ _ _ c.below.ensures.adds))
-
-pub returns-in_err-to-clause-full : goal.returns-in_err-to-clause-full
-returns-in_err-to-clause-full c e =
-    let most0 = c.start_of.ensures.adds.most in
-    let most1 = c.longest_net.ensures.adds.most in
-    let most2 = c.hold_registers.ensures.grows.most in
-    let most3 = c.make_piece.ensures.adds.most in
-    let full = c.below.ensures.full (handed_on _ _ _ _ c.in_err-to.was c.from_residual-in_err-to.ensures.1 e) in
-    omega (arith, most0, most1, most2, most3, full)
-
-pub returns-clause-grows : goal.returns-clause-grows
-returns-clause-grows c = grows_fewer _ _ _ _ (omega arith) (grows_twice _ _ _ _ _ (grows_twice _ _ _ _ _ (grows_twice _ _ _ _ _ (grows_twice _ _ _ _ _ (adds_grow _ _ _ c.start_of.ensures.adds) (adds_grow _ _ _ c.longest_net.ensures.adds)) c.hold_registers.ensures.grows) (adds_grow _ _ _ c.make_piece.ensures.adds)) (adds_grow _ _ _ c.below.ensures.adds))
-
-pub returns-clause-full : goal.returns-clause-full
-returns-clause-full c e = cc
 
 pub returns-clause-command : goal.returns-clause-command
 returns-clause-command c = c.in_ok-to.ensures.command
@@ -147,19 +124,19 @@ returns-clause-kept c =
     record {
       is = c.requires.widths.is;
       registers = registers_last _ _ _ (extends_twice _ _ _ c.make_piece.ensures.adds.grows.extends c.below.ensures.adds.grows.extends) c.in_ok-registers.ensures.registers;
-      count = c.in_ok-registers.ensures.left ∙ c.requires.widths.count;
+      count = c.in_ok-registers.ensures.left ∙ c.in_ok-count.ensures.net.has_width;
       piece = piece_lasts _ _ _ c.below.ensures.adds.grows.extends c.in_ok-piece.ensures.nets;
       fits = c.in_ok-piece.ensures.fits;
       within = λ cycle v. (
           let v0 = c.below.ensures.adds.grows.extends.valuations cycle v in
-          subst HasRoom (sym (c.in_ok-piece.ensures.value cycle v0)) (has_room (longest_burst c.args.self.now.below_bits) (cycle.net c.in_ok-start.start.number) (raw_in cycle c.args.from) (held_in cycle c.in_ok-registers.registers)));
+          subst HasRoom (sym (c.in_ok-piece.ensures.value cycle v0)) (has_room (reach_by c.args.self.now.place_bits (2 ^ c.lane_bits-lanes.result) c.args.self.now.below_bits) (cycle.net c.in_ok-start.start.number) (raw_in cycle (record c.args.from { count = c.in_ok-count.count })) (held_in cycle c.in_ok-registers.registers)));
       waits = (let w = c.in_ok-registers.ensures.waits in record { start = w.start; numbers = w.numbers; wait = λ n o. c.below.ensures.adds.grows.waits n (c.make_piece.ensures.adds.grows.waits n (w.wait n o)) });
     }
 
 pub returns-clause-owned : goal.returns-clause-owned
 returns-clause-owned c n o =
     let count = c.in_ok-registers.ensures.count in
-    let before = (extends_twice _ _ _ c.start_of.ensures.adds.grows.extends c.longest_net.ensures.adds.grows.extends).count in
+    let before = (extends_twice _ _ _ c.fit_bits.ensures.adds.grows.extends (extends_twice _ _ _ c.start_of.ensures.adds.grows.extends c.longest_net.ensures.adds.grows.extends)).count in
     let more = (extends_twice _ _ _ c.make_piece.ensures.adds.grows.extends c.below.ensures.adds.grows.extends).count in
     let at = in_row (length c.longest_net.new.builder.lines) (registers_of c.in_ok-registers.registers) c.in_ok-registers.ensures.numbers n o in
     let least = at.least in
@@ -170,7 +147,7 @@ pub returns-clause-made : goal.returns-clause-made
 returns-clause-made c =
     record {
       is = c.requires.widths.is;
-      from_nets = command_lasts _ _ _ (extends_twice _ _ _ c.start_of.ensures.adds.grows.extends (extends_twice _ _ _ c.longest_net.ensures.adds.grows.extends (extends_twice _ _ _ c.hold_registers.ensures.grows.extends (extends_twice _ _ _ c.make_piece.ensures.adds.grows.extends c.below.ensures.adds.grows.extends)))) c.requires.from;
+      from_nets = command_lasts _ _ _ (extends_twice _ _ _ c.fit_bits.ensures.adds.grows.extends (extends_twice _ _ _ c.start_of.ensures.adds.grows.extends (extends_twice _ _ _ c.longest_net.ensures.adds.grows.extends (extends_twice _ _ _ c.hold_registers.ensures.grows.extends (extends_twice _ _ _ c.make_piece.ensures.adds.grows.extends c.below.ensures.adds.grows.extends))))) c.requires.from;
       count = c.requires.widths.count;
       address = (
           let exponent = exponent_is c.args.self.now.word_bytes c.lane_bits-lanes.result c.lane_bits-lanes.ensures.few c.lane_bits-lanes.ensures.power in
@@ -181,8 +158,13 @@ returns-clause-made c =
           let v2 = c.make_piece.ensures.adds.grows.extends.valuations cycle v3 in
           let v1 = c.hold_registers.ensures.grows.extends.valuations cycle v2 in
           let v0 = c.longest_net.ensures.adds.grows.extends.valuations cycle v1 in
+          let fit = c.start_of.ensures.adds.grows.extends.valuations cycle v0 in
+          let before = c.fit_bits.ensures.adds.grows.extends.valuations cycle fit in
+          let same = c.in_ok-count.ensures.value cycle fit ∙ fits_more (cycle.net c.args.from.count.number) c.args.from.count.width c.args.self.now.count_bits (net_fits _ c.args.from.count c.requires.from.count cycle before) c.requires.widths.count in
           c.in_ok-piece.ensures.value cycle v3
-          ∙ ap (λ n. piece_from (longest_burst c.args.self.now.below_bits) n (raw_in cycle c.args.from) (held_in cycle c.in_ok-registers.registers))
+          ∙ ap (λ n. piece_from (reach_by c.args.self.now.place_bits (2 ^ c.lane_bits-lanes.result) c.args.self.now.below_bits) (cycle.net c.in_ok-start.start.number) (counted (raw_in cycle c.args.from) n) (held_in cycle c.in_ok-registers.registers)) same
+          ∙ ap (λ b. piece_from (reach_by c.args.self.now.place_bits b c.args.self.now.below_bits) (cycle.net c.in_ok-start.start.number) (raw_in cycle c.args.from) (held_in cycle c.in_ok-registers.registers)) (sym c.lane_bits-lanes.ensures.power)
+          ∙ ap (λ n. piece_from (reach_by c.args.self.now.place_bits c.args.self.now.word_bytes c.args.self.now.below_bits) n (raw_in cycle c.args.from) (held_in cycle c.in_ok-registers.registers))
           (c.in_ok-start.ensures.value cycle v0 ∙ ap (λ b. cycle.net c.args.from.address.number - cycle.net c.args.from.address.number % b) (sym c.lane_bits-lanes.ensures.power)));
       shows = λ cycle v. c.in_ok-to.ensures.value cycle v;
     }
@@ -193,24 +175,27 @@ returns-clause-own_wait c n o = c.below.ensures.adds.grows.waits n (c.make_piece
 pub returns-clause-newly : goal.returns-clause-newly
 returns-clause-newly c n w =
     elim (c.in_ok-registers.ensures.newly n (c.make_piece.ensures.adds.grows.no_more_wait n (c.below.ensures.adds.grows.no_more_wait n w))) [
-      | inl old ↦ inl (c.start_of.ensures.adds.grows.no_more_wait n (c.longest_net.ensures.adds.grows.no_more_wait n old))
+      | inl old ↦ inl (c.fit_bits.ensures.adds.grows.no_more_wait n (c.start_of.ensures.adds.grows.no_more_wait n (c.longest_net.ensures.adds.grows.no_more_wait n old)))
       | inr p ↦ inr p
     ]
 
-pub returns-in_err-start-clause-waits : goal.returns-in_err-start-clause-waits
-returns-in_err-start-clause-waits c n w = c.start_of.ensures.adds.grows.waits n w
+pub returns-in_err-piece-clause-grows : goal.returns-in_err-piece-clause-grows
+returns-in_err-piece-clause-grows c =
+    let two = fits_in_two c.width-bits.result c.args.self.now.count_bits in
+    grows_fewer _ _ _ _ (omega (arith, two)) (grows_twice _ _ _ _ _ (grows_twice _ _ _ _ _ (grows_twice _ _ _ _ _ (grows_twice _ _ _ _ _ (adds_grow _ _ _ c.fit_bits.ensures.adds) (adds_grow _ _ _ c.start_of.ensures.adds)) (adds_grow _ _ _ c.longest_net.ensures.adds)) c.hold_registers.ensures.grows) (adds_grow _ _ _ c.make_piece.ensures.adds))
 
-pub returns-in_err-longest-clause-waits : goal.returns-in_err-longest-clause-waits
-returns-in_err-longest-clause-waits c n w = c.longest_net.ensures.adds.grows.waits n (c.start_of.ensures.adds.grows.waits n w)
+pub returns-in_err-to-clause-grows : goal.returns-in_err-to-clause-grows
+returns-in_err-to-clause-grows c =
+    let two = fits_in_two c.width-bits.result c.args.self.now.count_bits in
+    grows_fewer _ _ _ _ (omega (arith, two)) (grows_twice _ _ _ _ _ (grows_twice _ _ _ _ _ (grows_twice _ _ _ _ _ (grows_twice _ _ _ _ _ (grows_twice _ _ _ _ _ (adds_grow _ _ _ c.fit_bits.ensures.adds) (adds_grow _ _ _ c.start_of.ensures.adds)) (adds_grow _ _ _ c.longest_net.ensures.adds)) c.hold_registers.ensures.grows) (adds_grow _ _ _ c.make_piece.ensures.adds)) (adds_grow _ _ _ c.below.ensures.adds))
 
-pub returns-in_err-registers-clause-waits : goal.returns-in_err-registers-clause-waits
-returns-in_err-registers-clause-waits c n w = c.hold_registers.ensures.still_wait n (c.longest_net.ensures.adds.grows.waits n (c.start_of.ensures.adds.grows.waits n w))
-
-pub returns-in_err-piece-clause-waits : goal.returns-in_err-piece-clause-waits
-returns-in_err-piece-clause-waits c n w = c.make_piece.ensures.adds.grows.waits n (c.hold_registers.ensures.still_wait n (c.longest_net.ensures.adds.grows.waits n (c.start_of.ensures.adds.grows.waits n w)))
+pub returns-clause-grows : goal.returns-clause-grows
+returns-clause-grows c =
+    let two = fits_in_two c.width-bits.result c.args.self.now.count_bits in
+    grows_fewer _ _ _ _ (omega (arith, two)) (grows_twice _ _ _ _ _ (grows_twice _ _ _ _ _ (grows_twice _ _ _ _ _ (grows_twice _ _ _ _ _ (grows_twice _ _ _ _ _ (adds_grow _ _ _ c.fit_bits.ensures.adds) (adds_grow _ _ _ c.start_of.ensures.adds)) (adds_grow _ _ _ c.longest_net.ensures.adds)) c.hold_registers.ensures.grows) (adds_grow _ _ _ c.make_piece.ensures.adds)) (adds_grow _ _ _ c.below.ensures.adds))
 
 pub returns-in_err-to-clause-waits : goal.returns-in_err-to-clause-waits
-returns-in_err-to-clause-waits c n w = c.below.ensures.adds.grows.waits n (c.make_piece.ensures.adds.grows.waits n (c.hold_registers.ensures.still_wait n (c.longest_net.ensures.adds.grows.waits n (c.start_of.ensures.adds.grows.waits n w))))
+returns-in_err-to-clause-waits c n w = c.below.ensures.adds.grows.waits n (c.make_piece.ensures.adds.grows.waits n (c.hold_registers.ensures.still_wait n (c.longest_net.ensures.adds.grows.waits n (c.start_of.ensures.adds.grows.waits n (c.fit_bits.ensures.adds.grows.waits n w)))))
 
 pub returns-clause-waits : goal.returns-clause-waits
-returns-clause-waits c n w = c.below.ensures.adds.grows.waits n (c.make_piece.ensures.adds.grows.waits n (c.hold_registers.ensures.still_wait n (c.longest_net.ensures.adds.grows.waits n (c.start_of.ensures.adds.grows.waits n w))))
+returns-clause-waits c n w = c.below.ensures.adds.grows.waits n (c.make_piece.ensures.adds.grows.waits n (c.hold_registers.ensures.still_wait n (c.longest_net.ensures.adds.grows.waits n (c.start_of.ensures.adds.grows.waits n (c.fit_bits.ensures.adds.grows.waits n w)))))
