@@ -240,8 +240,8 @@ gather_runs given = record {
   given_begins = refl;
   given_next = λ c. refl;
   valid = λ c. raised_one (is_nonempty (gather_held given (gather_registers given c) c));
-  word = λ c. refl;
-  code = λ c. refl;
+  word = λ c some. refl;
+  code = λ c some. refl;
 }
 
 -- ---- what keeps beats without a lane from an agent

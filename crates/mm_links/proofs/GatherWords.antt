@@ -170,7 +170,7 @@ module _ (room : ℕ) (up down : Port) (state : GatherState) (run : RunsAsGather
         let inside : ((first_entry (state.entries c)).offset + state.given c * b) % down.shape.word_bytes ≡ (first_entry (state.entries c)).offset + state.given c * b =
         place_inside b down.shape.word_bytes (state.given c) (state.entries c) bytes (subst (AllLie b down.shape.word_bytes) (sym now.entries) (lie_drop b down.shape.word_bytes now.done (asked c) (lies c (omega (arith, h))))) (omega (arith, more, few_held_now)) (also.inside more) in
         let same : up_word c ≡ cut b ((first_entry (state.entries c)).offset + state.given c * b) (first_word (held down state c)) =
-        ap₂ (λ w d. word_by w d) (run.word c ∙ ap (λ n. ((first_word (held down state c)).word / 256 ^ n) % 256 ^ up.shape.word_bytes) inside) (run.code c) in
+        ap₂ (λ w d. word_by w d) (run.word c e ∙ ap (λ n. ((first_word (held down state c)).word / 256 ^ n) % 256 ^ up.shape.word_bytes) inside) (run.code c e) in
         ap (λ l. l ++ drop (suc (state.given c)) (expand b (state.entries c) (held down state c))) (words_with c true e ∙ ap (λ w. words_at up c ++ w ∷ []) same)
         ∙ append_assoc (words_at up c) (cut b ((first_entry (state.entries c)).offset + state.given c * b) (first_word (held down state c)) ∷ []) (drop (suc (state.given c)) (expand b (state.entries c) (held down state c)))
         ∙ ap (λ l. words_at up c ++ l) (sym next) ∙ also.given

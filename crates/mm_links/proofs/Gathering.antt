@@ -89,6 +89,28 @@ module _ (law : SelectsBeats) (target : Target) (up down : Port) (many room : �
       one_transfer down.shape (levels_at down.commands.signals c) (burst_before down.shape down.commands.signals (takes down) c) (free_below c) (count_below c) (is_raised (down.commands.write c))
       ∙ ap (transfer_by down.shape (levels_at down.commands.signals c)) (ap is_raised (writes_below c) ∙ e)
 
+  -- ---- single beats below, whatever waits
+
+  pub gather_fits : (end : ℕ) → ShowsFitBeats up end → ShowsFitBeats down end
+  gather_fits end fit c h shown =
+      let above = (and_parts (shows up.commands.signals c) (not (is_shut room up state c)) (sym (shows_same c) ∙ shown)).0 in
+      let fits = fit c h above in
+      let free = free_below c in
+      record {
+        one_kind = ap₂ (λ r w. not (is_raised r && is_raised w)) (reads_below c) (writes_below c) ∙ still_one (is_shut room up state c) (up.commands.read c) (is_raised (up.commands.write c)) fits.one_kind;
+        least = λ f. (let one = count_below c in omega (arith, one));
+        most = λ f. (let one = count_below c in let some = one-le-pow (down.shape.burst_bits - 1) 2 (omega arith) in omega (arith, one, some));
+        finished = λ busy. absurd (no_busy (burst_before down.shape down.commands.signals (takes down) c).left free busy);
+        joined = or_left _ (is_raised (down.commands.more c)) (ap (λ (t : Transfer). t.ends) (below_is c (is_raised (up.commands.write c)) refl));
+      }
+    where
+      still_one : (b : Bool) (r : ℕ) (w : Bool) → IsTrue (not (is_raised r && w)) → IsTrue (not (is_raised (if b then 0 else r) && w))
+      still_one true r w one = refl
+      still_one false r w one = one
+
+      no_busy : (n : ℕ) → n ≡ 0 → IsTrue (nat_lt 0 n) → ⊥
+      no_busy n e busy = let less = ltb-true 0 n busy in omega (arith, e, less)
+
   module _ (end : ℕ) (lie : LieInWords up down.shape end) (legal : AreLegalAt up end) where
     shown_taken : (c : ℕ) → takes up c ≡ true → shows up.commands.signals c ≡ true
     shown_taken c t = (and_parts (shows up.commands.signals c) (not (is_raised (up.commands.waitrequest c))) t).0
@@ -252,47 +274,8 @@ module _ (law : SelectsBeats) (target : Target) (up down : Port) (many room : �
         raw_same : (l l' : Levels) (m m' t t' : ℕ) → l ≡ l' → m ≡ m' → t ≡ t' → (raw_by l m t) ≡ (raw_by l' m' t')
         raw_same l l' m m' t t' p q r = ap₂ (λ x y. raw_by x y t) p q ∙ ap (raw_by l' m') r
 
-    fit_below : (c : ℕ) → c < end → shows down.commands.signals c ≡ true → IsFitBeat down.shape (burst_before down.shape down.commands.signals (takes down) c) (raw_at down c)
-    fit_below c h shown =
-        let above = (and_parts (shows up.commands.signals c) (not (is_shut room up state c)) (sym (shows_same c) ∙ shown)).0 in
-        let fits = fit_when_shown up end c legal h above in
-        let free = free_below c in
-        record {
-          one_kind = ap₂ (λ r w. not (is_raised r && is_raised w)) (reads_below c) (writes_below c) ∙ still_one (is_shut room up state c) (up.commands.read c) (is_raised (up.commands.write c)) fits.one_kind;
-          least = λ f. (let one = count_below c in omega (arith, one));
-          most = λ f. (let one = count_below c in let some = one-le-pow (down.shape.burst_bits - 1) 2 (omega arith) in omega (arith, one, some));
-          finished = λ busy. absurd (no_busy (burst_before down.shape down.commands.signals (takes down) c).left free busy);
-          joined = or_left _ (is_raised (down.commands.more c)) (ap (λ (t : Transfer). t.ends) (below_is c (is_raised (up.commands.write c)) refl));
-        }
-      where
-        still_one : (b : Bool) (r : ℕ) (w : Bool) → IsTrue (not (is_raised r && w)) → IsTrue (not (is_raised (if b then 0 else r) && w))
-        still_one true r w one = refl
-        still_one false r w one = one
-
-        no_busy : (n : ℕ) → n ≡ 0 → IsTrue (nat_lt 0 n) → ⊥
-        no_busy n e busy = let less = ltb-true 0 n busy in omega (arith, e, less)
+    fit_below : ShowsFitBeats down end
+    fit_below = gather_fits end (λ c h shown. fit_when_shown up end c legal h shown)
 
     pub legal_below : AreLegalAt down end
     legal_below = legal_when_shown down.shape down.commands down.answers end fit_below held_on
-
-  -- ---- single beats below, whatever waits
-
-  pub gather_fits : (end : ℕ) → ShowsFitBeats up end → ShowsFitBeats down end
-  gather_fits end fit c h shown =
-      let above = (and_parts (shows up.commands.signals c) (not (is_shut room up state c)) (sym (shows_same c) ∙ shown)).0 in
-      let fits = fit c h above in
-      let free = free_below c in
-      record {
-        one_kind = ap₂ (λ r w. not (is_raised r && is_raised w)) (reads_below c) (writes_below c) ∙ still_one (is_shut room up state c) (up.commands.read c) (is_raised (up.commands.write c)) fits.one_kind;
-        least = λ f. (let one = count_below c in omega (arith, one));
-        most = λ f. (let one = count_below c in let some = one-le-pow (down.shape.burst_bits - 1) 2 (omega arith) in omega (arith, one, some));
-        finished = λ busy. absurd (no_busy (burst_before down.shape down.commands.signals (takes down) c).left free busy);
-        joined = or_left _ (is_raised (down.commands.more c)) (ap (λ (t : Transfer). t.ends) (below_is c (is_raised (up.commands.write c)) refl));
-      }
-    where
-      still_one : (b : Bool) (r : ℕ) (w : Bool) → IsTrue (not (is_raised r && w)) → IsTrue (not (is_raised (if b then 0 else r) && w))
-      still_one true r w one = refl
-      still_one false r w one = one
-
-      no_busy : (n : ℕ) → n ≡ 0 → IsTrue (nat_lt 0 n) → ⊥
-      no_busy n e busy = let less = ltb-true 0 n busy in omega (arith, e, less)

@@ -79,8 +79,8 @@ pub record RunsAsGather (room : ℕ) (up down : Port) (state : GatherState) : Ty
   pub given_next : (c : ℕ) → state.given (suc c) ≡ (if is_last down state c then 0 else if is_nonempty (held down state c) then suc (state.given c) else state.given c)
   pub valid : (c : ℕ) → is_raised (up.answers.valid c) ≡ is_nonempty (held down state c)
   -- a place past the end of the wide word, where no read of a legal side goes, is one from its start on
-  pub word : (c : ℕ) → up.answers.word c ≡ ((first_word (held down state c)).word / 256 ^ (((first_entry (state.entries c)).offset + state.given c * up.shape.word_bytes) % down.shape.word_bytes)) % 256 ^ up.shape.word_bytes
-  pub code : (c : ℕ) → up.answers.code c ≡ (first_word (held down state c)).code
+  pub word : (c : ℕ) → IsTrue (is_nonempty (held down state c)) → up.answers.word c ≡ ((first_word (held down state c)).word / 256 ^ (((first_entry (state.entries c)).offset + state.given c * up.shape.word_bytes) % down.shape.word_bytes)) % 256 ^ up.shape.word_bytes
+  pub code : (c : ℕ) → IsTrue (is_nonempty (held down state c)) → up.answers.code c ≡ (first_word (held down state c)).code
 
 -- narrow words, `many` of which make one word of the agent, which has byte enables
 pub record IsGatherPlan (target : Target) (narrow wide : Shape) (many : ℕ) : Type 0 where
