@@ -18,7 +18,8 @@ use Rattle.mm_links.proofs.OneBeat.{beat_by, reads_in, reads_append, reads_of_on
 use Rattle.mm_links.proofs.Lanes.{SelectsBeats}
 use Rattle.mm_links.specs.Gathers.{RunsAsGather, IsGatherPlan, GatherState, LieInWords, Entry, entry_at, spread}
 use Rattle.mm_links.proofs.Gathered.{AllHave, gathered_bytes, answer_in}
-use Rattle.mm_links.proofs.Gathering.{may, smaller, above_is, below_is, takes_same, enables_below}
+use Rattle.mm_links.proofs.Gathering.{gather_gate, may, smaller, above_is, enables_below}
+use Rattle.mm_links.proofs.Shutting.{takes_same, below_is}
 use Rattle.mm_links.proofs.Expand.{AllSome, AllLie, count_of, cut_entry, expand, pieces_length, expand_length}
 use Rattle.mm_links.proofs.GatherWords.{Stands, stands, words_there, words_front}
 
@@ -124,8 +125,8 @@ module _ (law : SelectsBeats) (target : Target) (up down : Port) (many room : �
 
   down_more : (c : ℕ) → c < end → (t w : Bool) → takes down c ≡ t → is_raised (up.commands.write c) ≡ w → read_beats (only_if t (marked_at down c)) ≡ map lower_of (only_if (t && not w) (part_at c))
   down_more c h false w e f = refl
-  down_more c h true true e f = reads_of_one (marked_at down c) ∙ ap reads_in (below_is law target up down many room state plan run c true f)
-  down_more c h true false e f = reads_of_one (marked_at down c) ∙ ap reads_in (below_is law target up down many room state plan run c false f)
+  down_more c h true true e f = reads_of_one (marked_at down c) ∙ ap reads_in (below_is (gather_gate room up down state run) c true f)
+  down_more c h true false e f = reads_of_one (marked_at down c) ∙ ap reads_in (below_is (gather_gate room up down state run) c false f)
 
   pub up_reads : (c : ℕ) → c ≤ end → read_beats (taken_at up c) ≡ flat_map uppers_of (parts c)
   up_reads zero h = refl
@@ -138,7 +139,7 @@ module _ (law : SelectsBeats) (target : Target) (up down : Port) (many room : �
   down_reads zero h = refl
   down_reads (suc c) h =
       reads_append (taken_at down c) (only_if (takes down c) (marked_at down c))
-      ∙ ap₂ (λ x y. x ++ y) (down_reads c (omega (arith, h))) (down_more c h (takes down c) (is_raised (up.commands.write c)) refl refl ∙ ap (λ t. map lower_of (only_if (t && not (is_raised (up.commands.write c))) (part_at c))) (takes_same law target up down many room state plan run c))
+      ∙ ap₂ (λ x y. x ++ y) (down_reads c (omega (arith, h))) (down_more c h (takes down c) (is_raised (up.commands.write c)) refl refl ∙ ap (λ t. map lower_of (only_if (t && not (is_raised (up.commands.write c))) (part_at c))) (takes_same (gather_gate room up down state run) c))
       ∙ sym (map-append lower_of (parts c) (only_if (takes_read up c) (part_at c)))
 
   all_have : (c j n : ℕ) → AllHave (up.commands.enables c) (map (read_beat up.shape (levels_at up.commands.signals c)) (numbers j n))

@@ -1,14 +1,14 @@
 -- A gatherer begins below what waits above, in its own cycle, and keeps nothing back while it gives no word.
-use Rattle.std.proofs.Common.{ℕ, ◌<◌, ◌≤◌, ◌≡◌, ◌+◌, ◌-◌, Bool, true, false, not, List, [], ◌∷◌, ◌++◌, arith, refl, sym, ap, length, drop, nat_lt, length-append, length-drop, ltb-true, ltb-false, map}
-use Rattle.std.proofs.lemmas.Bool.{and_parts, not-true}
-use Rattle.histories.specs.History.{is_raised, total}
+use Rattle.std.proofs.Common.{ℕ, ◌<◌, ◌≤◌, ◌≡◌, ◌+◌, ◌-◌, Bool, true, false, not, List, [], ◌∷◌, ◌++◌, arith, refl, ap, length, drop, nat_lt, length-append, length-drop, ltb-true, ltb-false, map}
+use Rattle.histories.specs.History.{total}
 use Rattle.mm_runs.specs.Legal.{Word}
 use Rattle.mm_machines.specs.Link.{Target, Port, AreLegalAt, AnswersAreOwed, words_at, words_owed}
 use Rattle.mm_links.specs.Begins.{BeginsBelow}
 use Rattle.mm_links.proofs.Beginning.{gate_begins}
 use Rattle.mm_links.proofs.Lanes.{SelectsBeats}
 use Rattle.mm_links.specs.Gathers.{RunsAsGather, IsGatherPlan, GatherState, LieInWords, is_shut, Entry, first_entry}
-use Rattle.mm_links.proofs.Gathering.{shows_same, takes_same, alike, legal_below}
+use Rattle.mm_links.proofs.Gathering.{gather_gate, alike}
+use Rattle.mm_links.proofs.Shutting.{shut_full, shows_same, takes_same, legal_below}
 use Rattle.mm_links.proofs.Expand.{expand, cut_entry, pieces_length, expand_length, expand_whole, count_of, AllSome}
 use Rattle.mm_links.proofs.GatherAnswers.{asked, asked_some, owed_above, standing_now}
 
@@ -18,7 +18,7 @@ module _ (law : SelectsBeats) (target : Target) (up down : Port) (many room : �
   lets c = not (is_shut room up state c)
 
   abbrev low_legal : AreLegalAt down end
-  low_legal = legal_below law target up down many room state plan run end lie legal
+  low_legal = legal_below (gather_gate room up down state run) end legal
 
   first_count : (b : ℕ) (es : List Entry) (ws : List Word) → 0 < length ws → length ws ≤ length es → (first_entry es).count ≤ length (expand b es ws)
   first_count b es [] some fits = absurd (omega (arith, some))
@@ -29,8 +29,7 @@ module _ (law : SelectsBeats) (target : Target) (up down : Port) (many room : �
   shut_while_owed : (c : ℕ) → c < end → lets c ≡ false → length (words_at up c) < words_owed up c
   shut_while_owed c h e =
       let now = standing_now law target up down many room state plan run end lie legal owed c (omega (arith, h)) in
-      let shut_now : is_shut room up state c ≡ true = twice (is_shut room up state c) e in
-      let full = ltb-false (length (state.entries c)) room (not-true (nat_lt (length (state.entries c)) room) (and_parts (not (is_raised (up.commands.write c))) (not (nat_lt (length (state.entries c)) room)) shut_now).1) in
+      let full = shut_full (gather_gate room up down state run) c e in
       let asks = asked law target up down many room state plan run end lie legal c in
       let some = asked_some law target up down many room state plan run end lie legal c (omega (arith, h)) in
       let sum = owed_above law target up down many room state plan run end lie legal c (omega (arith, h)) in
@@ -42,10 +41,6 @@ module _ (law : SelectsBeats) (target : Target) (up down : Port) (many room : �
       let few = now.few_words in
       by_words (nat_lt (length (state.words c)) (length (state.entries c))) refl some sum joined parts left now.done words count few full now.some_given
     where
-      twice : (b : Bool) → not b ≡ false → b ≡ true
-      twice true g = refl
-      twice false g = sym g
-
       by_words : (b : Bool) → nat_lt (length (state.words c)) (length (state.entries c)) ≡ b → AllSome (asked law target up down many room state plan run end lie legal c) → words_owed up c ≡ total (map count_of (asked law target up down many room state plan run end lie legal c)) →
           length (words_at up c ++ drop (state.given c) (expand up.shape.word_bytes (state.entries c) (state.words c))) ≡ length (expand up.shape.word_bytes (asked law target up down many room state plan run end lie legal c) (words_at down c)) →
           length (words_at up c ++ drop (state.given c) (expand up.shape.word_bytes (state.entries c) (state.words c))) ≡ length (words_at up c) + length (drop (state.given c) (expand up.shape.word_bytes (state.entries c) (state.words c))) →
@@ -71,5 +66,5 @@ module _ (law : SelectsBeats) (target : Target) (up down : Port) (many room : �
 
   pub gather_begins : (few : ℕ) (may_burst : Bool) → BeginsBelow few may_burst target up down end
   gather_begins few may_burst =
-      gate_begins target false up down lets (shows_same law target up down many room state plan run) (takes_same law target up down many room state plan run) end
+      gate_begins target false up down lets (shows_same (gather_gate room up down state run)) (takes_same (gather_gate room up down state run)) end
       (alike law target up down many room state plan run end lie legal) legal low_legal shut_while_owed few may_burst

@@ -1,5 +1,5 @@
 -- A gatherer keeps all that a link promises.
-use Rattle.std.proofs.Common.{ℕ, zero, suc, ◌<◌, ◌≤◌, ◌≡◌, ◌/◌, min, Bool, true, false, not, ◌&&◌, ◌||◌, List, [], ◌∷◌, ◌++◌, if◌then◌else◌, arith, refl, sym, ap, ap₂, ◌∙◌, length, drop, nat_lt, IsTrue, append-nil, length-append, length-drop, le_refl, one-mul, mul-le-mul_right, le_of_lt, lt-ltb, ltb-false, le-leb}
+use Rattle.std.proofs.Common.{ℕ, zero, suc, ◌<◌, ◌≤◌, ◌≡◌, ◌/◌, min, Bool, true, false, not, ◌&&◌, ◌||◌, List, [], ◌∷◌, ◌++◌, arith, refl, sym, ap, ap₂, ◌∙◌, length, drop, nat_lt, IsTrue, append-nil, length-append, length-drop, le_refl, one-mul, mul-le-mul_right, le_of_lt, lt-ltb, le-leb}
 use Rattle.std.proofs.lemmas.Bool.{and_parts, not-true, or_left, or_right, leb-true}
 use Rattle.std.proofs.lemmas.List.{length-map}
 use Rattle.histories.specs.History.{is_raised, only_if, standing, numbers, one_if}
@@ -12,7 +12,7 @@ use Rattle.mm_runs.specs.Operations.{pieces}
 use Rattle.mm_runs.specs.Commands.{Transfer, shows, is_held, is_of_reads, read_transfer, read_beat}
 use Rattle.mm_machines.specs.Link.{Target, Port, AreLegalAt, AnswersAreOwed, takes, marked_at, taken_at, shown_at, read_beats, words_at, words_owed, answers_at, is_nonempty}
 use Rattle.mm_machines.specs.Blocks.{worded, codes_of, blocks_at, AreGreatest}
-use Rattle.mm_machines.specs.Lines.{KeepsRow, HandsOn, HasLanes}
+use Rattle.mm_machines.specs.Lines.{KeepsRow, HasLanes}
 use Rattle.mm_machines.specs.Rank.{is_owed, moves_commands}
 use Rattle.mm_machines.specs.PartRanks.{JoinsAlike}
 use Rattle.mm_machines.specs.SideLaws.{marked_keeps}
@@ -23,12 +23,12 @@ use Rattle.mm_links.specs.Links.{IsLink}
 use Rattle.mm_links.specs.Selects.{takes_read}
 use Rattle.mm_links.proofs.Lanes.{SelectsBeats}
 use Rattle.mm_links.proofs.Greatest.{greatest_behind, worded_total, total_blocks}
-use Rattle.mm_links.proofs.HandOn.{hands_on_shown}
 use Rattle.mm_links.proofs.OneBeat.{reads_append, reads_in, reads_of_one}
 use Rattle.mm_links.specs.Gathers.{RunsAsGather, IsGatherPlan, GatherState, LieInWords, is_shut, held, comes, is_last, Entry, word_at, entry_at, gather_form}
 use Rattle.mm_links.proofs.Alike.{IsAlike}
 use Rattle.mm_links.proofs.Gated.{gate_carries, gate_joins, gate_holds, never}
-use Rattle.mm_links.proofs.Gathering.{shows_same, takes_same, shut_reads, alike, legal_below, above_is, below_is}
+use Rattle.mm_links.proofs.Gathering.{gather_gate, alike, above_is}
+use Rattle.mm_links.proofs.Shutting.{shut_reads, shut_full, shows_same, takes_same, below_is, shut_hands_on, legal_below}
 use Rattle.mm_links.proofs.Expand.{expand, expand_none, expand_length, expand_whole, same_test, drop_nil}
 use Rattle.mm_links.proofs.GatherWords.{Stands, words_there}
 use Rattle.mm_links.proofs.GatherAnswers.{asked, asked_some, asked_lie, owed_below, owed_above, answers_front, owed_up, few_come, standing_now}
@@ -39,10 +39,10 @@ module _ (law : SelectsBeats) (wire : (target : Target) (port : Port) (end : ℕ
   lets c = not (is_shut room up state c)
 
   shown_alike : (c : ℕ) → shows down.commands.signals c ≡ shows up.commands.signals c && lets c
-  shown_alike = shows_same law target up down many room state plan run
+  shown_alike = shows_same (gather_gate room up down state run)
 
   taken_at_once : (c : ℕ) → takes down c ≡ takes up c
-  taken_at_once = takes_same law target up down many room state plan run
+  taken_at_once = takes_same (gather_gate room up down state run)
 
   lie_before : (c : ℕ) → c ≤ end → LieInWords up down.shape c
   lie_before c h k less = lie k (omega (arith, h, less))
@@ -51,7 +51,7 @@ module _ (law : SelectsBeats) (wire : (target : Target) (port : Port) (end : ℕ
   alike_before c h legal = alike law target up down many room state plan run c (lie_before c h) legal
 
   legal_before : (c : ℕ) → c ≤ end → AreLegalAt up c → AreLegalAt down c
-  legal_before c h legal = legal_below law target up down many room state plan run c (lie_before c h) legal
+  legal_before c h legal = legal_below (gather_gate room up down state run) c legal
 
   one_piece : pieces up.shape down.shape ≡ 1
   one_piece =
@@ -61,21 +61,6 @@ module _ (law : SelectsBeats) (wire : (target : Target) (port : Port) (end : ℕ
       let least : min up.shape.word_bytes down.shape.word_bytes ≡ up.shape.word_bytes = omega (arith, smaller, unit, whole) in
       let self : min up.shape.word_bytes up.shape.word_bytes ≡ up.shape.word_bytes = omega arith in
       ap (λ n. up.shape.word_bytes / n) least ∙ ap (λ n. up.shape.word_bytes / n) (sym self) ∙ same_pieces up.shape plan.some
-
-  marks : (c : ℕ) → HandsOn up down c
-  marks c = hands_on_shown up down c (λ d less shown. (
-    d,
-    (
-        let parts = and_parts (shows up.commands.signals d) (lets d) (sym (shown_alike d) ∙ shown) in
-        let closed = not-true (is_shut room up state d) parts.1 in
-        record {
-          by_then = le_refl d;
-          shown = parts.0;
-          tag = run.tag d;
-          reads = ap (λ (l : Levels). is_raised l.read) (run.levels d) ∙ ap (λ b. is_raised (if b then 0 else up.commands.read d)) closed;
-          writes = ap (λ (l : Levels). is_raised l.write) (run.levels d);
-        }),
-  ))
 
   -- ---- the row
 
@@ -99,7 +84,7 @@ module _ (law : SelectsBeats) (wire : (target : Target) (port : Port) (end : ℕ
       };
     };
     codes = codes_above;
-    hands_on = λ c h legal owed. marks c;
+    hands_on = λ c h legal owed. shut_hands_on (gather_gate room up down state run) c;
   }
 
   has_lanes : (c : ℕ) → HasLanes target down c
@@ -169,7 +154,7 @@ module _ (law : SelectsBeats) (wire : (target : Target) (port : Port) (end : ℕ
                     up_held = ap₂ (λ s t. s && not t) shown (sym (taken_at_once c) ∙ not-true (takes down c) parts_of.1)
 
                     by_write : (w : Bool) → is_raised (up.commands.write c) ≡ w → length (read_beats (marked_at down c ∷ [])) ≡ 0
-                    by_write true g = ap length (reads_of_one (marked_at down c) ∙ ap reads_in (below_is law target up down many room state plan run c true g))
+                    by_write true g = ap length (reads_of_one (marked_at down c) ∙ ap reads_in (below_is (gather_gate room up down state run) c true g))
                     by_write false g =
                         let beats : read_beats (marked_at up c ∷ []) ≡ (read_transfer up.shape (levels_at up.commands.signals c)).beats ++ [] = reads_of_one (marked_at up c) ∙ ap reads_in (above_is law target up down many room state plan run k (lie_before k low) legal c (omega (arith, e)) shown false g) in
                         let size = ap length beats ∙ ap length (append-nil (read_transfer up.shape (levels_at up.commands.signals c)).beats) ∙ length_numbers up.shape (levels_at up.commands.signals c) in
@@ -198,8 +183,7 @@ module _ (law : SelectsBeats) (wire : (target : Target) (port : Port) (end : ℕ
 
     shut_owes : (c : ℕ) → c < k → is_raised (up.answers.valid (suc c)) ≡ false → shows up.commands.signals c ≡ true → lets c ≡ false → (is_of_reads (marked_at up c).transfer.kind ≡ true) × IsTrue (is_owed down c)
     shut_owes c h silent shown e =
-        let shut_now : is_shut room up state c ≡ true = twice (is_shut room up state c) e in
-        let full = ltb-false (length (state.entries c)) room (not-true (nat_lt (length (state.entries c)) room) (and_parts (not (is_raised (up.commands.write c))) (not (nat_lt (length (state.entries c)) room)) shut_now).1) in
+        let full = shut_full (gather_gate room up down state run) c e in
         let next = now_at (suc c) h in
         let none : held down state (suc c) ≡ [] = none_held (held down state (suc c)) (sym (run.valid (suc c)) ∙ silent) in
         let sizes = ap length none ∙ refl in
@@ -210,14 +194,10 @@ module _ (law : SelectsBeats) (wire : (target : Target) (port : Port) (end : ℕ
         let entries = ap length (run.entries_next c) ∙ length-append (drop (one_if (is_last down state c)) (state.entries c)) (only_if (takes_read up c) (entry_at up down c)) in
         let left = length-drop (one_if (is_last down state c)) (state.entries c) in
         let one = at_most_one (is_last down state c) in (
-          ap (λ (t : Transfer). is_of_reads t.kind) (above_is law target up down many room state plan run k (lie_before k low) legal c h shown false (shut_reads law target up down many room state plan run c shut_now)),
+          ap (λ (t : Transfer). is_of_reads t.kind) (above_is law target up down many room state plan run k (lie_before k low) legal c h shown false (shut_reads (gather_gate room up down state run) c e)),
           lt-ltb (length (words_at down (suc c))) (words_owed down (suc c)) (omega (arith, full, deep, there, asks_now, count, both, sizes, entries, left, one)),
         )
       where
-        twice : (b : Bool) → not b ≡ false → b ≡ true
-        twice true g = refl
-        twice false g = sym g
-
         at_most_one : (b : Bool) → one_if b ≤ 1
         at_most_one true = le_refl 1
         at_most_one false = omega arith

@@ -10,14 +10,15 @@ use Rattle.mm_links.proofs.Lanes.{SelectsBeats}
 use Rattle.mm_links.specs.Gathers.{RunsAsGather, IsGatherPlan, GatherState, LieInWords, is_shut}
 use Rattle.mm_links.specs.Packs.{beat_sizes, acting}
 use Rattle.mm_links.proofs.Alike.{taken_alike, alike_sizes}
-use Rattle.mm_links.proofs.Gathering.{shows_same, takes_same, alike, legal_below, below_is}
+use Rattle.mm_links.proofs.Gathering.{gather_gate, alike}
+use Rattle.mm_links.proofs.Shutting.{shows_same, takes_same, below_is, legal_below}
 
 module _ (law : SelectsBeats) (target : Target) (up down : Port) (many room : ℕ) (state : GatherState)
     (plan : IsGatherPlan target up.shape down.shape many) (run : RunsAsGather room up down state) where
   -- a beat has the operations of its transfer
   single : (c : ℕ) → beat_sizes target down.shape (marked_at down c) ≡ length (operations_in target down.shape (marked_at down c)) ∷ []
   single c =
-      let is = below_is law target up down many room state plan run c (is_raised (up.commands.write c)) refl in
+      let is = below_is (gather_gate room up down state run) c (is_raised (up.commands.write c)) refl in
       ap (λ (t : Transfer). map (λ (b : Beat). length (beat_operations target down.shape b)) t.beats) is
       ∙ ap (λ n. n ∷ []) (ap length (sym (append-nil _))) ∙ ap (λ (t : Transfer). length (flat_map (beat_operations target down.shape) t.beats) ∷ []) (sym is)
 
@@ -36,5 +37,5 @@ module _ (law : SelectsBeats) (target : Target) (up down : Port) (many room : �
     pub gather_packs : (c : ℕ) → c ≤ end → acting (flat_map (beat_sizes target down.shape) (taken_at down c)) ≡ acting (sizes target up.shape (taken_at up c))
     gather_packs c h =
         ap acting (singles c ∙ alike_sizes target up.shape down.shape false (taken_at up c) (taken_at down c)
-        (taken_alike target false up down (λ k. not (is_shut room up state k)) (shows_same law target up down many room state plan run) (takes_same law target up down many room state plan run) end
-        (alike law target up down many room state plan run end lie legal) legal (legal_below law target up down many room state plan run end lie legal) c h))
+        (taken_alike target false up down (λ k. not (is_shut room up state k)) (shows_same (gather_gate room up down state run)) (takes_same (gather_gate room up down state run)) end
+        (alike law target up down many room state plan run end lie legal) legal (legal_below (gather_gate room up down state run) end legal) c h))

@@ -1,6 +1,6 @@
 -- Links that hand each beat on at once, and what drops beats without an operation.
 use Rattle.std.proofs.Common.{ℕ, suc, ◌<◌, ◌≤◌, ◌≡◌, ◌+◌, ◌⊎◌, inl, inr, Bool, true, false, not, ◌&&◌, ◌||◌, List, [], ◌∷◌, if◌then◌else◌, arith, refl, sym, ap, ap₂, subst, ◌∙◌, length, map, filter, nat_eq, IsTrue, length-append}
-use Rattle.std.proofs.lemmas.Bool.{and_parts, or_left, or_right, eqb-true, both_ways}
+use Rattle.std.proofs.lemmas.Bool.{and_parts, or_left, or_right, eqb-true}
 use Rattle.std.proofs.lemmas.List.{length-map}
 use Rattle.histories.specs.History.{is_raised}
 use Rattle.mm_runs.specs.Commands.{shows}
@@ -9,7 +9,7 @@ use Rattle.mm_machines.specs.Machines.{Raw, raw_at, raws, MaySplit}
 use Rattle.mm_machines.specs.PartRanks.{JoinsAlike}
 use Rattle.mm_links.specs.Passes.{ShowsWrite, PassesAtOnce, PassesActs, AcceptsActs, has_operation, acting}
 use Rattle.mm_links.specs.Drops.{DropState, RunsAsDrop, IsDropPlan, accepted, standing_at}
-use Rattle.mm_links.specs.Selects.{RunsAsSelect, IsSelectPlan, EnablesFit, is_shut, takes_read}
+use Rattle.mm_links.specs.Selects.{RunsAsSelect, IsSelectPlan, EnablesFit, takes_read}
 use Rattle.mm_links.specs.Splits.{SplitState, RunsAsSplit, split_at, opens, completes}
 use Rattle.mm_links.proofs.DropLink.{so_far, down_taken, IsLevel, IsAhead, sent, kept}
 use Rattle.mm_links.proofs.DropLists.{Drops, few_left}
@@ -18,13 +18,14 @@ use Rattle.mm_links.proofs.DropTaken.{acts_is, dropped_taken, up_one}
 use Rattle.mm_links.proofs.Gather.{HasPieces}
 use Rattle.mm_links.proofs.Lanes.{SelectsBeats}
 use Rattle.mm_links.proofs.OneBeat.{flat_mark, flat_at, count_is_one}
-use Rattle.mm_links.proofs.Selecting.{takes_same, shows_same, shut_reads, writes_below, alike}
+use Rattle.mm_links.proofs.Selecting.{select_gate, alike}
+use Rattle.mm_links.proofs.Shutting.{writes_below, open_for_writes, shows_same, takes_same}
 use Rattle.mm_links.proofs.Prompt.{some_in}
 use Rattle.mm_links.proofs.SplitPrompt.{parts_sizes}
 
-pub select_passes : (law : SelectsBeats) (target : Target) (up down : Port) (many room : ℕ) (offsets : ℕ → List ℕ) → IsSelectPlan target up.shape down.shape many → 1 < room → RunsAsSelect room up down offsets → (end : ℕ) → PassesAtOnce up down end
-select_passes law target up down many room offsets plan deep run end = record {
-  beats = λ c h taken. takes_same law target up down many room offsets plan deep run c ∙ taken;
+pub select_passes : (room : ℕ) (up down : Port) (offsets : ℕ → List ℕ) → RunsAsSelect room up down offsets → (end : ℕ) → PassesAtOnce up down end
+select_passes room up down offsets run end = record {
+  beats = λ c h taken. takes_same (select_gate room up down offsets run) c ∙ taken;
   words = λ c h given. ap is_raised (sym (run.valid c)) ∙ given;
 }
 
@@ -59,16 +60,11 @@ split_passes law target room count up down state may run end legal act = record 
 pub select_shows_writes : (law : SelectsBeats) (target : Target) (up down : Port) (many room : ℕ) (offsets : ℕ → List ℕ) → IsSelectPlan target up.shape down.shape many → 1 < room → RunsAsSelect room up down offsets → (end : ℕ) → EnablesFit up end → AreLegalAt up end →
     (c : ℕ) → c < end → ShowsWrite up down c
 select_shows_writes law target up down many room offsets plan deep run end fit legal c h shown write ends =
-    let open_now : is_shut room up offsets c ≡ false = by_shut (is_shut room up offsets c) refl in
     let same = alike law target up down many room offsets plan deep run end fit legal c h shown in (
-      shows_same law target up down many room offsets plan deep run c ∙ ap₂ (λ s x. s && not x) shown open_now,
-      ap is_raised (writes_below law target up down many room offsets plan deep run c) ∙ write,
+      shows_same (select_gate room up down offsets run) c ∙ ap₂ (λ s x. s && not x) shown (open_for_writes (select_gate room up down offsets run) c write),
+      ap is_raised (writes_below (select_gate room up down offsets run) c) ∙ write,
       ap₂ (λ e m. e && not m) same.ends same.more ∙ ends,
     )
-  where
-    by_shut : (b : Bool) → is_shut room up offsets c ≡ b → is_shut room up offsets c ≡ false
-    by_shut false e = e
-    by_shut true e = absurd (both_ways (is_raised (up.commands.write c)) (shut_reads law target up down many room offsets plan deep run c e) write)
 
 -- ---- what drops beats
 

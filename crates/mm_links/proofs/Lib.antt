@@ -20,6 +20,7 @@ pub mod SplitTags
 pub mod Gather
 pub mod Last
 pub mod OneBeat
+pub mod Shutting
 pub mod Groups
 pub mod SplitParts
 pub mod SplitWords

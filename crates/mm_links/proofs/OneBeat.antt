@@ -33,6 +33,9 @@ raw_by levels more tag = record { levels = levels; more = more; tag = tag }
 abbrev pub beat_by : Kind → ℕ → ℕ → ℕ → Beat
 beat_by kind address word enables = record { kind = kind; address = address; word = word; enables = enables }
 
+pub beat_is : (kind : Kind) (a b w v e f : ℕ) → a ≡ b → w ≡ v → e ≡ f → beat_by kind a w e ≡ beat_by kind b v f
+beat_is kind a b w v e f p q r = ap₂ (λ x y. beat_by kind x y e) p q ∙ ap (beat_by kind b v) r
+
 abbrev pub transfer_by : Shape → Levels → Bool → Transfer
 transfer_by shape levels w = record {
   kind = if w then Writes else Reads;
@@ -61,12 +64,16 @@ reads_of_one m = by_kind (is_of_reads m.transfer.kind)
 pub reads_append : (xs ys : List Marked) → read_beats (xs ++ ys) ≡ read_beats xs ++ read_beats ys
 reads_append xs ys = ap (flat_map (λ (m : Marked). m.transfer.beats)) (filter-append (λ (m : Marked). is_of_reads m.transfer.kind) xs ys) ∙ flat_map-append (λ (m : Marked). m.transfer.beats) (filter (λ (m : Marked). is_of_reads m.transfer.kind) xs) (filter (λ (m : Marked). is_of_reads m.transfer.kind) ys)
 
-pub kept_left : (a : Bool) (shape : Shape) (levels : Levels) (burst : Burst) → burst.left ≡ 0 → (a ≡ true → levels.count ≡ 1) → (burst_after shape levels a burst).left ≡ 0
-kept_left a shape levels burst none one = by_test (a && is_raised levels.write) refl
+-- a burst of one beat leaves none under way
+pub kept_alone : (a : Bool) (shape : Shape) (levels : Levels) (burst : Burst) → burst.left ≡ 0 → (a && is_raised levels.write ≡ true → levels.count ≡ 1) → (burst_after shape levels a burst).left ≡ 0
+kept_alone a shape levels burst none one = by_test (a && is_raised levels.write) refl
   where
     by_test : (b : Bool) → a && is_raised levels.write ≡ b → (if b then next_burst shape levels burst else burst).left ≡ 0
     by_test false e = none
-    by_test true e = let single = one (and_parts a (is_raised levels.write) e).0 in rw (none, single) refl
+    by_test true e = let single = one e in rw (none, single) refl
+
+pub kept_left : (a : Bool) (shape : Shape) (levels : Levels) (burst : Burst) → burst.left ≡ 0 → (a ≡ true → levels.count ≡ 1) → (burst_after shape levels a burst).left ≡ 0
+kept_left a shape levels burst none one = kept_alone a shape levels burst none (λ both. one (and_parts a (is_raised levels.write) both).0)
 
 abbrev pub enables_in : Beat → ℕ
 enables_in beat = beat.enables

@@ -14,7 +14,8 @@ use Rattle.mm_links.specs.Selects.{RunsAsSelect, IsSelectPlan, EnablesFit, is_sh
 use Rattle.mm_links.proofs.Alike.{taken_alike, alike_sizes}
 use Rattle.mm_links.proofs.Lanes.{SelectsBeats}
 use Rattle.mm_links.proofs.OneBeat.{flat_mark, flat_taken, transfer_by, beat_by, count_is_one}
-use Rattle.mm_links.proofs.Selecting.{shows_same, takes_same, alike, legal_below}
+use Rattle.mm_links.proofs.Selecting.{select_gate, alike}
+use Rattle.mm_links.proofs.Shutting.{shows_same, takes_same, legal_below}
 use Rattle.mm_links.specs.Packs.{touches_from, touches_of, beat_sizes, acting, PacksReads}
 
 -- a single beat is one touch
@@ -52,11 +53,11 @@ flat_touches target shape (r ∷ rs) =
 pub select_packs : SelectsBeats → (target : Target) (up down : Port) (many room : ℕ) (offsets : ℕ → List ℕ) (end : ℕ) → IsSelectPlan target up.shape down.shape many → 1 < room → RunsAsSelect room up down offsets → EnablesFit up end → AreLegalAt up end →
     PacksReads target up down end
 select_packs law target up down many room offsets end plan deep run fit legal c h =
-    let low = legal_below law target up down many room offsets plan deep run end fit legal in
+    let low = legal_below (select_gate room up down offsets run) end legal in
     let high_list = flat_taken up end legal (count_is_one up end plan.one_beat legal) c h in
     let low_list = flat_taken down end low (count_is_one down end plan.one_beat_below low) c h in
     let same = alike_sizes target up.shape down.shape true (taken_at up c) (taken_at down c)
-    (taken_alike target true up down (λ k. not (is_shut room up offsets k)) (shows_same law target up down many room offsets plan deep run) (takes_same law target up down many room offsets plan deep run) end (alike law target up down many room offsets plan deep run end fit legal) legal low c h) in
+    (taken_alike target true up down (λ k. not (is_shut room up offsets k)) (shows_same (select_gate room up down offsets run)) (takes_same (select_gate room up down offsets run)) end (alike law target up down many room offsets plan deep run end fit legal) legal low c h) in
     let below : flat_map (beat_sizes target down.shape) (taken_at down c) ≡ sizes target down.shape (taken_at down c) = ap (flat_map (beat_sizes target down.shape)) low_list ∙ flat_sizes target down.shape (raws down c) ∙ ap (sizes target down.shape) (sym low_list) in
     let above : acting (flat_map (touches_of target up.shape) (taken_at up c)) ≡ acting (sizes target up.shape (taken_at up c)) =
     ap (λ l. acting (flat_map (touches_of target up.shape) l)) high_list ∙ flat_touches target up.shape (raws up c) ∙ ap (λ l. acting (sizes target up.shape l)) (sym high_list) in

@@ -1,42 +1,37 @@
 -- A lane selector keeps all that a link promises.
-use Rattle.std.proofs.Common.{ℕ, zero, suc, ◌<◌, ◌≤◌, ◌≡◌, ◌+◌, ◌-◌, ◌*◌, ◌/◌, ◌%◌, ◌^◌, Bool, true, false, not, ◌&&◌, ◌||◌, List, [], ◌∷◌, ◌++◌, if◌then◌else◌, arith, refl, sym, ap, ap₂, subst, ◌∙◌, length, flat_map, zip, drop, take, min, nat_lt, IsTrue, append-nil, length-append, le_refl, zero-mul, lt-ltb, ltb-false, MatchOption, slice_get, length-drop, mul-le-mul_right, one-mul, le_of_lt}
+use Rattle.std.proofs.Common.{ℕ, zero, suc, ◌<◌, ◌≤◌, ◌≡◌, ◌+◌, ◌-◌, ◌*◌, ◌/◌, ◌%◌, ◌^◌, Bool, true, false, not, ◌&&◌, List, [], ◌∷◌, ◌++◌, if◌then◌else◌, arith, refl, sym, ap, ap₂, subst, ◌∙◌, length, flat_map, zip, drop, take, min, IsTrue, append-nil, length-append, le_refl, zero-mul, lt-ltb, MatchOption, slice_get, length-drop, mul-le-mul_right, one-mul, le_of_lt}
 use Rattle.std.specs.List.{list_all}
-use Rattle.std.proofs.lemmas.Bool.{and_parts, not-true, ltb-true, or_left}
+use Rattle.std.proofs.lemmas.Bool.{and_parts}
 use Rattle.std.proofs.lemmas.List.{drop-append-le, drop-drop}
-use Rattle.std.proofs.Math.Nat.{one-le-pow}
 use Rattle.histories.specs.History.{is_raised, only_if, all_accepted, IsPrefix}
 use Rattle.histories.specs.Laws.{prefix_refl, prefix_length, prefix_flat_map, prefix_filter, before_extends}
 use Rattle.mm_runs.specs.Views.{Shape, Levels, levels_at}
-use Rattle.mm_runs.specs.Views.{Kind}
 use Rattle.mm_runs.specs.Views.Kind.{Reads, Writes}
 use Rattle.mm_runs.specs.Laws.{same_pieces}
 use Rattle.mm_runs.specs.Legal.{Word}
 use Rattle.mm_runs.specs.Order.{HoldsAnswers}
 use Rattle.mm_runs.specs.Operations.{Beat, byte_at, operations_of, filled_lanes, pieces}
-use Rattle.mm_runs.specs.Commands.{Transfer, shows, is_held, is_of_reads, burst_before, byte_address, words_before}
+use Rattle.mm_runs.specs.Commands.{Transfer, shows, is_of_reads, burst_before, byte_address, words_before}
 use Rattle.mm_machines.specs.Link.{Target, Port, Marked, KeepsLinkLaw, AreLegalAt, AnswersAreOwed, takes, marked_at, taken_at, shown_at, read_beats, words_at, words_owed, answers_at, bytes_in, beat_operations, is_nonempty, reads_of, HasGreatestCode, IsAnswered}
 use Rattle.mm_machines.specs.Blocks.{block, blocks_at, worded}
 use Rattle.mm_machines.specs.Lines.{KeepsRow, IsWordForWord, HandsOn}
-use Rattle.mm_machines.specs.Machines.{raw_at, IsFitBeat, MaySelect, LiesInOneWord, select_of}
+use Rattle.mm_machines.specs.Machines.{MaySelect, LiesInOneWord, select_of}
 use Rattle.mm_machines.specs.Rank.{is_owed}
-use Rattle.mm_machines.specs.SideLaws.{fit_when_shown, legal_when_shown, same_counts}
+use Rattle.mm_machines.specs.SideLaws.{same_counts}
 use Rattle.mm_links.specs.Begins.{BeginsBelow}
 use Rattle.mm_links.specs.Going.RowGoesOn.{at_end, further}
 use Rattle.mm_links.specs.Links.{IsLink}
 use Rattle.mm_links.proofs.Beginning.{gate_begins}
-use Rattle.mm_links.proofs.HandOn.{hands_on_shown}
-use Rattle.mm_links.specs.Selects.{RunsAsSelect, IsSelectPlan, EnablesFit, select_form, selected, silenced, offset_in, takes_read, is_shut, first_of}
+use Rattle.mm_links.specs.Selects.{RunsAsSelect, IsSelectPlan, EnablesFit, select_form, selected, offset_in, takes_read, is_shut, first_of}
 use Rattle.mm_links.proofs.Alike.{IsAlike}
+use Rattle.mm_links.proofs.Shutting.{ShutsReads, no_longer, shut_reads, shut_full, shows_same, takes_same, below_is, shut_hands_on, legal_below}
 use Rattle.mm_links.proofs.Gated.{gate_carries, gate_joins, gate_lanes, gate_quiet, gate_goes_on, owed_counts, word_counts}
-use Rattle.mm_links.proofs.OneBeat.{aligned, whole_address, raw_by, beat_by, transfer_by, one_transfer, reads_in, reads_of_one, reads_append, kept_left, free_before, count_is_one}
+use Rattle.mm_links.proofs.OneBeat.{aligned, whole_address, beat_by, beat_is, transfer_by, one_transfer, reads_in, reads_of_one, reads_append, free_before, count_is_one}
 use Rattle.mm_links.proofs.Repeating.{byte_of_moved, byte_of_repeated, same_operations_there}
 use Rattle.mm_links.proofs.Lanes.{SelectsBeats, cut, bytes_moved, lanes_count, lies_within}
 
 abbrev word_by : ℕ → ℕ → Word
 word_by word code = record { word = word; code = code }
-
-beat_is : (kind : Kind) (a b w v e f : ℕ) → a ≡ b → w ≡ v → e ≡ f → beat_by kind a w e ≡ beat_by kind b v f
-beat_is kind a b w v e f p q r = ap₂ (λ x y. beat_by kind x y e) p q ∙ ap (beat_by kind b v) r
 
 -- ---- words that are cut out of others
 
@@ -125,63 +120,29 @@ module _ (law : SelectsBeats) (target : Target) (up down : Port) (may : MaySelec
 
 -- ---- the machine
 
+pub select_gate : (room : ℕ) (up down : Port) (offsets : ℕ → List ℕ) → RunsAsSelect room up down offsets → ShutsReads room up down (selected up.shape down.shape) (λ c. length (offsets c))
+select_gate room up down offsets run = record {
+  levels = run.levels;
+  reads = λ l. refl;
+  writes = λ l. refl;
+  single = λ l. refl;
+  more = run.more;
+  tag = run.tag;
+  waitrequest = run.waitrequest;
+  fewer = λ c none. subst (λ l. length l ≤ length (offsets c)) (sym (run.next c)) (no_longer (if is_raised (down.answers.valid c) then 1 else 0) (offsets c) (takes_read up c) (offset_in up.shape down.shape (up.commands.address c)) none);
+}
+
 module _ (law : SelectsBeats) (target : Target) (up down : Port) (many room : ℕ) (offsets : ℕ → List ℕ)
     (plan : IsSelectPlan target up.shape down.shape many) (deep : 1 < room) (run : RunsAsSelect room up down offsets) where
-  shut : ℕ → Bool
-  shut c = is_shut room up offsets c
+  abbrev gate : ShutsReads room up down (selected up.shape down.shape) (λ c. length (offsets c))
+  gate = select_gate room up down offsets run
 
   may : MaySelect up.shape down.shape target.shape
   may = record { some = plan.some; same = plan.same; enables = plan.enables }
 
-  reads_below : (c : ℕ) → down.commands.read c ≡ (if is_shut room up offsets c then 0 else up.commands.read c)
-  reads_below c = ap (λ (l : Levels). l.read) (run.levels c)
-
-  pub writes_below : (c : ℕ) → down.commands.write c ≡ up.commands.write c
-  writes_below c = ap (λ (l : Levels). l.write) (run.levels c)
-
-  shows_by : (x : Bool) (r w : ℕ) → (x ≡ true → is_raised w ≡ false) → (is_raised (if x then 0 else r) || is_raised w) ≡ (is_raised r || is_raised w) && not x
-  shows_by true r w silent = rw (silent refl) (all_false (is_raised r || false))
-    where
-      all_false : (b : Bool) → false ≡ b && false
-      all_false true = refl
-      all_false false = refl
-  shows_by false r w silent = all_true (is_raised r || is_raised w)
-    where
-      all_true : (b : Bool) → b ≡ b && true
-      all_true true = refl
-      all_true false = refl
-
-  pub shut_reads : (c : ℕ) → is_shut room up offsets c ≡ true → is_raised (up.commands.write c) ≡ false
-  shut_reads c e = not-true (is_raised (up.commands.write c)) (and_parts (not (is_raised (up.commands.write c))) (not (nat_lt (length (offsets c)) room)) e).0
-
-  pub shows_same : (c : ℕ) → shows down.commands.signals c ≡ shows up.commands.signals c && not (is_shut room up offsets c)
-  shows_same c = ap₂ (λ r w. is_raised r || is_raised w) (reads_below c) (writes_below c) ∙ shows_by (is_shut room up offsets c) (up.commands.read c) (up.commands.write c) (shut_reads c)
-
-  waits_by : (s x w : Bool) → (s && not x) && not w ≡ s && not (x || w)
-  waits_by true true w = refl
-  waits_by true false w = refl
-  waits_by false x w = refl
-
-  pub takes_same : (c : ℕ) → takes down c ≡ takes up c
-  takes_same c =
-      ap (λ s. s && not (is_raised (down.commands.waitrequest c))) (shows_same c) ∙ waits_by (shows up.commands.signals c) (is_shut room up offsets c) (is_raised (down.commands.waitrequest c))
-      ∙ ap (λ w. shows up.commands.signals c && not w) (sym (run.waitrequest c))
-
-  count_below : (c : ℕ) → down.commands.count c ≡ 1
-  count_below c = ap (λ (l : Levels). l.count) (run.levels c)
-
-  free_below : (c : ℕ) → (burst_before down.shape down.commands.signals (takes down) c).left ≡ 0
-  free_below zero = refl
-  free_below (suc c) = kept_left (takes down c) down.shape (levels_at down.commands.signals c) (burst_before down.shape down.commands.signals (takes down) c) (free_below c) (λ t. count_below c)
-
   module _ (end : ℕ) (fit : EnablesFit up end) (legal : AreLegalAt up end) where
     above_is : (c : ℕ) → c < end → shows up.commands.signals c ≡ true → (marked_at up c).transfer ≡ transfer_by up.shape (levels_at up.commands.signals c) (is_raised (up.commands.write c))
     above_is c h shown = one_transfer up.shape (levels_at up.commands.signals c) (burst_before up.shape up.commands.signals (takes up) c) (free_before up end plan.one_beat legal c (omega (arith, h))) (count_is_one up end plan.one_beat legal c h shown) (is_raised (up.commands.write c))
-
-    below_is : (c : ℕ) → (marked_at down c).transfer ≡ transfer_by down.shape (levels_at down.commands.signals c) (is_raised (up.commands.write c))
-    below_is c =
-        one_transfer down.shape (levels_at down.commands.signals c) (burst_before down.shape down.commands.signals (takes down) c) (free_below c) (count_below c) (is_raised (down.commands.write c))
-        ∙ ap (λ w. transfer_by down.shape (levels_at down.commands.signals c) (is_raised w)) (writes_below c)
 
     abbrev offset : ℕ → ℕ
     offset c = offset_in up.shape down.shape (up.commands.address c)
@@ -232,7 +193,7 @@ module _ (law : SelectsBeats) (target : Target) (up down : Port) (many room : �
     pub alike : (c : ℕ) → c < end → shows up.commands.signals c ≡ true → IsAlike target up.shape down.shape true (marked_at up c) (marked_at down c)
     alike c h shown =
         let above = above_is c h shown in
-        let below = below_is c in
+        let below = below_is gate c (is_raised (up.commands.write c)) refl in
         let ops = same_operations c h shown in
         record {
           tag = run.tag c;
@@ -245,73 +206,6 @@ module _ (law : SelectsBeats) (target : Target) (up down : Port) (many room : �
           lanes = λ is. ap (λ (t : Transfer). list_all (λ (b : Beat). is_nonempty (beat_operations target down.shape b)) t.beats) below ∙ ap (λ l. is_nonempty l && true) ops
               ∙ sym (ap (λ (t : Transfer). list_all (λ (b : Beat). is_nonempty (beat_operations target up.shape b)) t.beats) above);
         }
-
-    -- ---- the commands below are legal
-
-    length_kept : (v : Bool) (q : List ℕ) (b : Bool) (x : ℕ) → b ≡ false → length (drop (if v then 1 else 0) q ++ only_if b x) ≤ length q
-    length_kept true [] false x e = omega arith
-    length_kept true (y ∷ q) false x e = let same = ap length (append-nil q) in omega (arith, same)
-    length_kept false q false x e = let same = ap length (append-nil q) in omega (arith, same)
-    length_kept v q true x e = cc
-
-    stays_let : (c : ℕ) → is_shut room up offsets c ≡ false → takes up c ≡ false → up.commands.write c ≡ up.commands.write (suc c) → is_shut room up offsets (suc c) ≡ false
-    stays_let c e none same = by_write (is_raised (up.commands.write c)) refl
-      where
-        by_write : (w : Bool) → is_raised (up.commands.write c) ≡ w → is_shut room up offsets (suc c) ≡ false
-        by_write true f = ap (λ w. not (is_raised w) && not (nat_lt (length (offsets (suc c))) room)) (sym same) ∙ ap (λ b. not b && not (nat_lt (length (offsets (suc c))) room)) f
-        by_write false f =
-            let full : not (nat_lt (length (offsets c)) room) ≡ false = ap (λ b. not b && not (nat_lt (length (offsets c)) room)) (sym f) ∙ e in
-            let room_now = ltb-true (length (offsets c)) room (twice (nat_lt (length (offsets c)) room) full) in
-            let fewer : length (offsets (suc c)) ≤ length (offsets c) = subst (λ l. length l ≤ length (offsets c)) (sym (run.next c)) (length_kept (is_raised (down.answers.valid c)) (offsets c) (takes_read up c) (offset c) (ap (λ b. b && not (is_raised (up.commands.write c))) none)) in
-            let later = lt-ltb (length (offsets (suc c))) room (omega (arith, fewer, room_now)) in
-            ap (λ b. not (is_raised (up.commands.write (suc c))) && not b) later ∙ and_none (not (is_raised (up.commands.write (suc c))))
-          where
-            twice : (b : Bool) → not b ≡ false → b ≡ true
-            twice true g = refl
-            twice false g = sym g
-
-            and_none : (b : Bool) → b && false ≡ false
-            and_none true = refl
-            and_none false = refl
-
-    held_on : (c : ℕ) → suc c < end → is_held down.commands.signals (takes down) c ≡ true → raw_at down c ≡ raw_at down (suc c)
-    held_on c h held =
-        let parts = and_parts (shows down.commands.signals c) (not (takes down c)) held in
-        let not_taken : takes up c ≡ false = sym (takes_same c) ∙ not-true (takes down c) parts.1 in
-        let let_through = and_parts (shows up.commands.signals c) (not (is_shut room up offsets c)) (sym (shows_same c) ∙ parts.0) in
-        let stands : is_held up.commands.signals (takes up) c ≡ true = ap₂ (λ s t. s && not t) let_through.0 not_taken in
-        let levels = legal.legal.held c h stands in
-        let now = not-true (is_shut room up offsets c) let_through.1 in
-        let later = stays_let c now not_taken (ap (λ (l : Levels). l.write) levels) in
-        raw_same (levels_at down.commands.signals c) (levels_at down.commands.signals (suc c)) (down.commands.more c) (down.commands.more (suc c)) (down.commands.tag c) (down.commands.tag (suc c))
-        (run.levels c ∙ ap₂ (λ b l. silenced b (selected up.shape down.shape l)) (now ∙ sym later) levels ∙ sym (run.levels (suc c)))
-        (run.more c ∙ legal.more c h stands ∙ sym (run.more (suc c))) (run.tag c ∙ legal.tag c h stands ∙ sym (run.tag (suc c)))
-      where
-        raw_same : (l l' : Levels) (m m' t t' : ℕ) → l ≡ l' → m ≡ m' → t ≡ t' → (raw_by l m t) ≡ (raw_by l' m' t')
-        raw_same l l' m m' t t' p q r = ap₂ (λ x y. raw_by x y t) p q ∙ ap (raw_by l' m') r
-
-    fit_below : (c : ℕ) → c < end → shows down.commands.signals c ≡ true → IsFitBeat down.shape (burst_before down.shape down.commands.signals (takes down) c) (raw_at down c)
-    fit_below c h shown =
-        let above = (and_parts (shows up.commands.signals c) (not (is_shut room up offsets c)) (sym (shows_same c) ∙ shown)).0 in
-        let fits = fit_when_shown up end c legal h above in
-        let free = free_below c in
-        record {
-          one_kind = ap₂ (λ r w. not (is_raised r && is_raised w)) (reads_below c) (writes_below c) ∙ still_one (is_shut room up offsets c) (up.commands.read c) (is_raised (up.commands.write c)) fits.one_kind;
-          least = λ f. (let one = count_below c in omega (arith, one));
-          most = λ f. (let one = count_below c in let some = one-le-pow (down.shape.burst_bits - 1) 2 (omega arith) in omega (arith, one, some));
-          finished = λ busy. absurd (no_busy (burst_before down.shape down.commands.signals (takes down) c).left free busy);
-          joined = or_left _ (is_raised (down.commands.more c)) (ap (λ (t : Transfer). t.ends) (below_is c));
-        }
-      where
-        still_one : (b : Bool) (r : ℕ) (w : Bool) → IsTrue (not (is_raised r && w)) → IsTrue (not (is_raised (if b then 0 else r) && w))
-        still_one true r w one = refl
-        still_one false r w one = one
-
-        no_busy : (n : ℕ) → n ≡ 0 → IsTrue (nat_lt 0 n) → ⊥
-        no_busy n e busy = let less = ltb-true 0 n busy in omega (arith, e, less)
-
-    pub legal_below : AreLegalAt down end
-    legal_below = legal_when_shown down.shape down.commands down.answers end fit_below held_on
 
     -- ---- the offsets of the reads
 
@@ -329,7 +223,7 @@ module _ (law : SelectsBeats) (target : Target) (up down : Port) (many room : �
         by_write so_far t w e =
             let shown = (and_parts (shows up.commands.signals c) (not (is_raised (up.commands.waitrequest c))) t).0 in
             let upper = reads_append (taken_at up c) (marked_at up c ∷ []) ∙ ap (λ l. read_beats (taken_at up c) ++ l) (reads_of_one (marked_at up c) ∙ ap reads_in (above_is c (omega arith) shown ∙ ap (transfer_by up.shape (levels_at up.commands.signals c)) e)) in
-            let lower = reads_append (taken_at down c) (marked_at down c ∷ []) ∙ ap (λ l. read_beats (taken_at down c) ++ l) (reads_of_one (marked_at down c) ∙ ap reads_in (below_is c ∙ ap (transfer_by down.shape (levels_at down.commands.signals c)) e)) in
+            let lower = reads_append (taken_at down c) (marked_at down c ∷ []) ∙ ap (λ l. read_beats (taken_at down c) ++ l) (reads_of_one (marked_at down c) ∙ ap reads_in (below_is gate c w e)) in
             subst (λ l. AllMoved up.shape target.shape l (read_beats (taken_at down c ++ marked_at down c ∷ [])) (asked c ++ only_if (not w) (offset c))) (sym upper)
             (subst (λ l. AllMoved up.shape target.shape (read_beats (taken_at up c) ++ reads_in (transfer_by up.shape (levels_at up.commands.signals c) w)) l (asked c ++ only_if (not w) (offset c))) (sym lower) (pushed w so_far))
           where
@@ -344,9 +238,9 @@ module _ (law : SelectsBeats) (target : Target) (up down : Port) (many room : �
 
         by_take : AllMoved up.shape target.shape (read_beats (taken_at up c)) (read_beats (taken_at down c)) (asked c) → (t : Bool) → takes up c ≡ t → (w : Bool) → is_raised (up.commands.write c) ≡ w →
             AllMoved up.shape target.shape (read_beats (taken_at up (suc c))) (read_beats (taken_at down (suc c))) (asked (suc c))
-        by_take so_far true t w e = subst (λ d. Step c (takes up c) d (is_raised (up.commands.write c))) (sym (takes_same c)) (subst (λ t. Step c t t (is_raised (up.commands.write c))) (sym t) (subst (Step c true true) (sym e) (by_write so_far t w e)))
+        by_take so_far true t w e = subst (λ d. Step c (takes up c) d (is_raised (up.commands.write c))) (sym (takes_same gate c)) (subst (λ t. Step c t t (is_raised (up.commands.write c))) (sym t) (subst (Step c true true) (sym e) (by_write so_far t w e)))
         by_take so_far false t w e =
-            subst (λ d. Step c (takes up c) d (is_raised (up.commands.write c))) (sym (takes_same c)) (subst (λ t. Step c t t (is_raised (up.commands.write c))) (sym t)
+            subst (λ d. Step c (takes up c) d (is_raised (up.commands.write c))) (sym (takes_same gate c)) (subst (λ t. Step c t t (is_raised (up.commands.write c))) (sym t)
             (subst (λ l. AllMoved up.shape target.shape (read_beats l) (read_beats (taken_at down c ++ [])) (asked c ++ [])) (sym (append-nil (taken_at up c)))
             (subst (λ l. AllMoved up.shape target.shape (read_beats (taken_at up c)) (read_beats l) (asked c ++ [])) (sym (append-nil (taken_at down c)))
             (subst (AllMoved up.shape target.shape (read_beats (taken_at up c)) (read_beats (taken_at down c))) (sym (append-nil (asked c))) so_far))))
@@ -359,7 +253,7 @@ module _ (law : SelectsBeats) (target : Target) (up down : Port) (many room : �
     counted : (c : ℕ) → c ≤ end → length (asked c) ≡ words_owed down c
     counted c h =
         moved_length up.shape target.shape (read_beats (taken_at up c)) (read_beats (taken_at down c)) (asked c) (moved c h)
-        ∙ owed_counts target true up down (λ c. not (is_shut room up offsets c)) shows_same takes_same end alike legal legal_below refl valid_same c h
+        ∙ owed_counts target true up down (λ c. not (is_shut room up offsets c)) (shows_same gate) (takes_same gate) end alike legal (legal_below gate end legal) refl valid_same c h
 
     few_words : (c : ℕ) → suc c ≤ end → AnswersAreOwed down (suc c) → length (words_at down (suc c)) ≤ length (asked c)
     few_words c h owed =
@@ -428,21 +322,16 @@ module _ (law : SelectsBeats) (target : Target) (up down : Port) (many room : �
     -- a read that is held back waits for a word
     pub shut_owes : AnswersAreOwed down end → (c : ℕ) → c < end → shows up.commands.signals c ≡ true → not (is_shut room up offsets c) ≡ false → (is_of_reads (marked_at up c).transfer.kind ≡ true) × IsTrue (is_owed down c)
     shut_owes owed c h shown e =
-        let shut_now : is_shut room up offsets c ≡ true = twice (is_shut room up offsets c) e in
-        let full = ltb-false (length (offsets c)) room (not-true (nat_lt (length (offsets c)) room) (and_parts (not (is_raised (up.commands.write c))) (not (nat_lt (length (offsets c)) room)) shut_now).1) in
+        let full = shut_full gate c e in
         let queued = ap length (queue_is c (omega (arith, h)) (λ k less. owed k (omega (arith, h, less)))) ∙ length-drop (length (words_at down c)) (asked c) in
         let asks = counted c (omega (arith, h)) in
         let grown : words_owed down c ≤ words_owed down (suc c) = prefix_length (prefix_flat_map (λ (m : Marked). m.transfer.beats) (prefix_filter (λ (m : Marked). is_of_reads m.transfer.kind) (before_extends _ c))) in
         let more = one_more c in
         let small = at_most_one (is_raised (down.answers.valid c)) in (
-          ap (λ (t : Transfer). is_of_reads t.kind) (above_is c h shown) ∙ ap (λ w. is_of_reads (if w then Writes else Reads)) (shut_reads c shut_now),
+          ap (λ (t : Transfer). is_of_reads t.kind) (above_is c h shown) ∙ ap (λ w. is_of_reads (if w then Writes else Reads)) (shut_reads gate c e),
           lt-ltb (length (words_at down (suc c))) (words_owed down (suc c)) (omega (arith, full, queued, asks, grown, more, small, deep)),
         )
       where
-        twice : (b : Bool) → not b ≡ false → b ≡ true
-        twice true g = refl
-        twice false g = sym g
-
         at_most_one : (b : Bool) → (if b then 1 else 0) ≤ 1
         at_most_one true = le_refl 1
         at_most_one false = omega arith
@@ -456,10 +345,10 @@ module _ (law : SelectsBeats) (wire : (target : Target) (port : Port) (end : ℕ
   lets c = not (is_shut room up offsets c)
 
   shown_alike : (c : ℕ) → shows down.commands.signals c ≡ shows up.commands.signals c && lets c
-  shown_alike = shows_same law target up down many room offsets plan deep run
+  shown_alike = shows_same (select_gate room up down offsets run)
 
   taken_at_once : (c : ℕ) → takes down c ≡ takes up c
-  taken_at_once = takes_same law target up down many room offsets plan deep run
+  taken_at_once = takes_same (select_gate room up down offsets run)
 
   fit_before : (c : ℕ) → c ≤ end → EnablesFit up c
   fit_before c h k less = fit k (omega (arith, h, less))
@@ -468,7 +357,7 @@ module _ (law : SelectsBeats) (wire : (target : Target) (port : Port) (end : ℕ
   alike_before c h legal = alike law target up down many room offsets plan deep run c (fit_before c h) legal
 
   legal_before : (c : ℕ) → c ≤ end → AreLegalAt up c → AreLegalAt down c
-  legal_before c h legal = legal_below law target up down many room offsets plan deep run c (fit_before c h) legal
+  legal_before c h legal = legal_below (select_gate room up down offsets run) c legal
 
   same_valid : (c : ℕ) → is_raised (up.answers.valid c) ≡ is_raised (down.answers.valid c)
   same_valid c = ap is_raised (run.valid c)
@@ -510,24 +399,9 @@ module _ (law : SelectsBeats) (wire : (target : Target) (port : Port) (end : ℕ
           × HasGreatestCode (filled_lanes up.shape target.shape beat.enables) (drop (reads_of target up.shape (take n beats)) l) (record { word = up.answers.word k; code = up.answers.code k })))
           (answers_same law target up down many room offsets plan deep run c (fit_before c h) legal (suc k) less (λ j low. owed j (omega (arith, low, less)))) own
 
-  marks : (c : ℕ) → HandsOn up down c
-  marks c = hands_on_shown up down c (λ d less shown. (
-    d,
-    (
-        let parts = and_parts (shows up.commands.signals d) (lets d) (sym (shown_alike d) ∙ shown) in
-        let closed = not-true (is_shut room up offsets d) parts.1 in
-        record {
-          by_then = le_refl d;
-          shown = parts.0;
-          tag = run.tag d;
-          reads = ap (λ (l : Levels). is_raised l.read) (run.levels d) ∙ ap (λ b. is_raised (if b then 0 else up.commands.read d)) closed;
-          writes = ap (λ (l : Levels). is_raised l.write) (run.levels d);
-        }),
-  ))
-
   pub select_is_link : IsLink (select_form target) up down end
   select_is_link = record {
-    row = row target 0 up down end link_law (λ c h legal owed. marks c);
+    row = row target 0 up down end link_law (λ c h legal owed. shut_hands_on (select_gate room up down offsets run) c);
     words = λ is c h legal owed. select_words law target up down many room offsets plan deep run c (fit_before c h) legal c (le_refl c) legal owed;
     lanes = λ c h legal owed has. gate_lanes target true up down lets shown_alike taken_at_once c (alike_before c h legal) legal (legal_before c h legal) refl (has refl);
     joins = λ c h legal owed alike k less. gate_joins target true up down lets shown_alike taken_at_once c (alike_before c h legal) legal (legal_before c h legal) k less (alike k less);
@@ -539,17 +413,12 @@ module _ (law : SelectsBeats) (wire : (target : Target) (port : Port) (end : ℕ
 
   shut_while_owed : AreLegalAt up end → AnswersAreOwed down end → (c : ℕ) → c < end → lets c ≡ false → length (words_at up c) < words_owed up c
   shut_while_owed legal owed c h e =
-      let shut_now : is_shut room up offsets c ≡ true = twice (is_shut room up offsets c) e in
-      let full = ltb-false (length (offsets c)) room (not-true (nat_lt (length (offsets c)) room) (and_parts (not (is_raised (up.commands.write c))) (not (nat_lt (length (offsets c)) room)) shut_now).1) in
+      let full = shut_full (select_gate room up down offsets run) c e in
       let queued = ap length (queue_is law target up down many room offsets plan deep run end fit legal c (omega (arith, h)) (λ k less. owed k (omega (arith, h, less)))) ∙ length-drop (length (words_at down c)) _ in
       let asks = counted law target up down many room offsets plan deep run end fit legal c (omega (arith, h)) in
       let same = owed_counts target true up down lets shown_alike taken_at_once end (alike_before end (le_refl end) legal) legal (legal_before end (le_refl end) legal) refl same_valid c (omega (arith, h)) in
       let words = word_counts target true up down lets shown_alike taken_at_once end (alike_before end (le_refl end) legal) legal (legal_before end (le_refl end) legal) refl same_valid c in
       omega (arith, full, queued, asks, same, words, deep)
-    where
-      twice : (b : Bool) → not b ≡ false → b ≡ true
-      twice true g = refl
-      twice false g = sym g
 
   pub select_begins : AreLegalAt up end → AnswersAreOwed down end → (few : ℕ) (may_burst : Bool) → BeginsBelow few may_burst target up down end
   select_begins legal owed few may_burst =

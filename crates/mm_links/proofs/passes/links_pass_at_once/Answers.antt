@@ -3,8 +3,7 @@ use Rattle.mm_links.proofs.Handing.{select_passes, cutter_passes, split_passes}
 use Rattle.mm_links.proofs.passes.links_pass_at_once.Goals as goal
 
 pub returns-clause-select : goal.returns-clause-select
-returns-clause-select c = λ target up down many room offsets plan deep run end.
-    select_passes (λ narrow wide target span may beat lies. c.beat_is_selected.ensures narrow wide target span may beat lies) target up down many room offsets plan deep run end
+returns-clause-select c = λ target up down many room offsets plan deep run end. select_passes room up down offsets run end
 
 pub returns-clause-cut : goal.returns-clause-cut
 returns-clause-cut c = λ reach longest up down state run end. cutter_passes up down (is_sending state) run.accepts run.valid end
