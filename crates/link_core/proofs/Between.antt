@@ -1,5 +1,5 @@
 -- The laws of links between the views of nets.
-use Rattle.std.proofs.Common.{◌≡◌, ℕ, ◌<◌, sym, subst, Option, Some, None, Bool, false}
+use Rattle.std.proofs.Common.{◌≡◌, ℕ, ◌<◌, ◌≤◌, le_refl, sym, subst, Option, Some, None, Bool, false}
 use Rattle.std.specs.Prelude.{IsSomeAnd}
 use Rattle.netlist.specs.Nets.{NetValue}
 use Rattle.netlist.specs.Netlists.{Netlist}
@@ -48,16 +48,33 @@ pass_straight_between form from to wait up answer back run end p f b straight st
 
 -- ---- two in a row
 
-pub chain_between : (first second form : Form) (run : Run) (from middle to : CommandNets) (up between wait : NetValue) (back inner answer : AnswerNets) → form ≡ form_of_chain first second → FormsFit first second →
+pub chain_between : (first second form : Form) (run : Run) (from middle to : CommandNets) (up between wait : NetValue) (back inner answer : AnswerNets) → form ≡ form_of_chain first second → FormsFit first second → (end : ℕ) →
     ((first second : LinkForm) (up middle down : Port) (end : ℕ) → links.FormsFit first second up middle down → IsLink first up middle end → IsLink second middle down end → IsLink (chain_form first second) up down end) →
-    ((end : ℕ) → KeepsLaw first (port_in first.up run from up back) (port_in first.down run middle between inner) end) →
-    ((end : ℕ) → KeepsLaw second (port_in second.up run middle between inner) (port_in second.down run to wait answer) end) →
-    (end : ℕ) → KeepsLaw form (port_in form.up run from up back) (port_in form.down run to wait answer) end
-chain_between first second form run from middle to up between wait back inner answer is fit chain one two =
-    subst (λ (f : Form). (end : ℕ) → KeepsLaw f (port_in f.up run from up back) (port_in f.down run to wait answer) end) (sym is)
+    ((c : ℕ) → c ≤ end → KeepsLaw first (port_in first.up run from up back) (port_in first.down run middle between inner) c) →
+    ((c : ℕ) → c ≤ end → KeepsLaw second (port_in second.up run middle between inner) (port_in second.down run to wait answer) c) →
+    KeepsLaw form (port_in form.up run from up back) (port_in form.down run to wait answer) end
+chain_between first second form run from middle to up between wait back inner answer is fit end chain one two =
+    subst (λ (f : Form). KeepsLaw f (port_in f.up run from up back) (port_in f.down run to wait answer) end) (sym is)
     (alike_chain first.link second.link (port_in first.up run from up back) (port_in first.down run middle between inner) (port_in second.down run to wait answer)
-    (record { target = fit.target; pieces = fit.pieces; words = fit.words }) chain one
-    (subst (λ (s : Shape). (end : ℕ) → KeepsLaw second (port_in s run middle between inner) (port_in second.down run to wait answer) end) (sym fit.same_side) two))
+    (record { target = fit.target; pieces = fit.pieces; words = fit.words }) chain end one
+    (subst (λ (s : Shape). (c : ℕ) → c ≤ end → KeepsLaw second (port_in s run middle between inner) (port_in second.down run to wait answer) c) (sym fit.same_side) two) end (le_refl end))
+
+-- what the two ask of the commands above them, where the second one asks it of what the first one shows
+pub record AreAsked (first second : Form) (run : Run) (from middle : CommandNets) (up between : NetValue) (back inner : AnswerNets) (firsts seconds : Target → Port → ℕ → Type 0) (end : ℕ) : Type 0 where
+  pub above : (c : ℕ) → c ≤ end → firsts first.link.target (port_in first.up run from up back) c
+  pub inside : (c : ℕ) → c ≤ end → seconds second.link.target (port_in second.up run middle between inner) c
+
+pub asks_between : (first second form : Form) (run : Run) (from middle : CommandNets) (up between : NetValue) (back inner : AnswerNets) (firsts seconds : Target → Port → ℕ → Type 0) (runs : Target → Port → Port → Type 0) → form ≡ form_of_chain first second → FormsFit first second →
+    runs first.link.target (port_in first.up run from up back) (port_in first.down run middle between inner) → (end : ℕ) →
+    ((c : ℕ) → c ≤ end → firsts form.link.target (port_in form.up run from up back) c × ((port : Port) → runs form.link.target (port_in form.up run from up back) port → seconds form.link.target port c)) →
+    AreAsked first second run from middle up between back inner firsts seconds end
+asks_between first second form run from middle up between back inner firsts seconds runs is fit machine end asked =
+    let here = subst (λ (f : Form). (c : ℕ) → c ≤ end → firsts f.link.target (port_in f.up run from up back) c × ((port : Port) → runs f.link.target (port_in f.up run from up back) port → seconds f.link.target port c)) is asked in
+    record {
+      above = λ c low. (here c low).0;
+      inside = λ c low. subst (λ (t : Target). seconds t (port_in second.up run middle between inner) c) fit.target
+          (subst (λ (s : Shape). seconds first.link.target (port_in s run middle between inner) c) fit.same_side ((here c low).1 (port_in first.down run middle between inner) machine));
+    }
 
 pub row_between : (first second form : Form) (run : Run) (from middle to : CommandNets) (up between wait : NetValue) (back inner answer : AnswerNets) (firsts seconds : Target → Port → Port → Type 0) → form ≡ form_of_chain first second → FormsFit first second →
     firsts first.link.target (port_in first.up run from up back) (port_in first.down run middle between inner) →

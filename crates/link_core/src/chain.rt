@@ -3,6 +3,7 @@
 
 ghost use Rattle.std.specs.Prelude.{◌≡◌, ℕ, ◌+◌, ◌⊎◌};
 ghost use Rattle.std.proofs.Common.{inl, inr};
+ghost use Rattle.mm_machines.specs.Link.{Port};
 ghost use Rattle.link_core.specs.ChainNets.{IsChainOf, IsStraightChainOf, AreBothKept, HasMiddle, HasMiddleAnswer};
 
 use crate::link::Link;
@@ -28,6 +29,8 @@ impl<A: Link, B: Link> Link for Chain<A, B> {
     ghost is_straight = { λ s form. IsStraightChainOf (λ first. A.has_form s.first first × A.is_straight s.first first) (λ second. B.has_form s.second second × B.is_straight s.second second) form };
 
     ghost runs = { λ s target up down. HasMiddle (λ middle. A.runs s.first target up middle) (λ middle. B.runs s.second target middle down) };
+
+    ghost asks = { λ s target up end. A.asks s.first target up end × ((middle : Port) → A.runs s.first target up middle → B.asks s.second target middle end) };
 
     ghost takes = { λ s widths. A.takes s.first widths × B.takes s.second (A.gives s.first widths) };
 

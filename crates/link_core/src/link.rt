@@ -35,6 +35,9 @@ pub trait Link {
     /// What it does in a run, exactly: its machine between its two sides, for an agent.
     ghost runs: { Self → Target → Port → Port → Type 0 };
 
+    /// What it asks of the commands above it, in so many cycles: of an agent, and of its upper side.
+    ghost asks: { Self → Target → Port → ℕ → Type 0 };
+
     /// The widths that the nets of an upstream command may have, and those that a downstream command's have then.
     ghost takes: { Self → Widths → Type 0 };
 
@@ -113,11 +116,12 @@ pub trait Link {
         // Memory may run out at any net.
         ensures full { result ≡ Err NetFault.TooManyNets → 2 ^ 20 < length builder.old.lines + answer_nets self.now };
 
-    /// The law, in each endless run of each netlist that has both.
+    /// The law, in each endless run of each netlist that has both. It is kept as long as commands above are as the link asks.
     fn law(&self)
         ensures keeps { (form : Form) (from to : CommandNets) (kept : Self.Held) (wait up : NetValue) (answer back : AnswerNets) (netlist : Netlist)
             → has_form self.now form → command_in self.now from to kept netlist → answer_in self.now kept wait answer up back netlist
-            → (run : Run) → IsEndlessRun netlist run → (end : ℕ) → KeepsLaw form (port_in form.up run from up back) (port_in form.down run to wait answer) end }
+            → (run : Run) → IsEndlessRun netlist run → (end : ℕ) → ((c : ℕ) → c ≤ end → asks self.now form.link.target (port_in form.up run from up back) c)
+            → KeepsLaw form (port_in form.up run from up back) (port_in form.down run to wait answer) end }
 
         ensures machine { (form : Form) (from to : CommandNets) (kept : Self.Held) (wait up : NetValue) (answer back : AnswerNets) (netlist : Netlist)
             → has_form self.now form → command_in self.now from to kept netlist → answer_in self.now kept wait answer up back netlist
@@ -125,7 +129,8 @@ pub trait Link {
 
         ensures straight { (form : Form) (from to : CommandNets) (kept : Self.Held) (wait up : NetValue) (answer back : AnswerNets) (netlist : Netlist)
             → is_straight self.now form → command_in self.now from to kept netlist → answer_in self.now kept wait answer up back netlist
-            → (run : Run) → IsEndlessRun netlist run → (end : ℕ) → KeepsStraight form (port_in form.up run from up back) (port_in form.down run to wait answer) end }
+            → (run : Run) → IsEndlessRun netlist run → (end : ℕ) → ((c : ℕ) → c ≤ end → asks self.now form.link.target (port_in form.up run from up back) c)
+            → KeepsStraight form (port_in form.up run from up back) (port_in form.down run to wait answer) end }
 
         // The command that is shown downstream in a cycle doesn't depend on wait or on the answer of that cycle: two
         // valuations with one state of the link and the same upstream command have the same downstream command.

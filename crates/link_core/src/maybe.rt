@@ -25,6 +25,8 @@ impl<L: Link> Link for Maybe<L> {
 
     ghost runs = { λ s target up down. runs_of L.runs s.link target up down };
 
+    ghost asks = { λ s target up end. IfSome s.link (λ link. L.asks link target up end) };
+
     ghost takes = { λ s widths. IfSome s.link (λ link. L.takes link widths) };
 
     ghost gives = { λ s widths. unwrap_or (option_map (λ link. L.gives link widths) s.link) widths };

@@ -25,6 +25,8 @@ impl Link for Pass {
 
     ghost runs = { λ s target up down. up ≡ down };
 
+    ghost asks = { λ s target up end. Unit {0} };
+
     ghost takes = { λ s widths. Unit {0} };
 
     ghost gives = { λ s widths. widths };

@@ -94,6 +94,8 @@ impl Link for PipeStage {
 
     ghost runs = { λ s target up down. RunsAsPipeStage up down };
 
+    ghost asks = { λ s target up end. Unit {0} };
+
     ghost takes = { λ s widths. Unit {0} };
 
     ghost gives = { λ s widths. widths };

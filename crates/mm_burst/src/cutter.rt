@@ -46,6 +46,8 @@ impl Link for Cutter {
 
     ghost runs = { λ s target up down. CutterRuns s target up down };
 
+    ghost asks = { λ s target up end. Unit {0} };
+
     ghost takes = { λ s widths. TakesWidths s widths };
 
     ghost gives = { λ s widths. given_widths s widths };

@@ -44,6 +44,8 @@ impl Link for Split {
 
     ghost runs = { λ s target up down. SplitRuns s target up down };
 
+    ghost asks = { λ s target up end. Unit {0} };
+
     ghost takes = { λ s widths. TakesWide s widths };
 
     ghost gives = { λ s widths. narrow_widths s widths };

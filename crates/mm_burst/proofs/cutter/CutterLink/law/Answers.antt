@@ -3,7 +3,7 @@ use Rattle.mm_burst.proofs.CutterLaw.{cutter_runs, cutter_is, cutter_ignores}
 use Rattle.mm_burst.proofs.cutter.CutterLink.law.Goals as goal
 
 pub returns-clause-keeps : goal.returns-clause-keeps
-returns-clause-keeps c form from to kept wait up answer back netlist p f b run endless end alike =
+returns-clause-keeps c form from to kept wait up answer back netlist p f b run endless end asked alike =
     let runs = cutter_runs c.args.self.now form from to kept wait up answer back netlist run p f b endless in
     cutter_is form _ _ end p.is (c.cut_is_a_link.ensures _ _ _ _ _ runs.state end runs.plan runs.run)
 
@@ -12,7 +12,7 @@ returns-clause-machine c form from to kept wait up answer back netlist p f b run
     cutter_runs c.args.self.now form from to kept wait up answer back netlist run p f b endless
 
 pub returns-clause-straight : goal.returns-clause-straight
-returns-clause-straight c form from to kept wait up answer back netlist p f b run endless end legal owed alike =
+returns-clause-straight c form from to kept wait up answer back netlist p f b run endless end asked legal owed alike =
     let runs = cutter_runs c.args.self.now form from to kept wait up answer back netlist run p f b endless in
     record {
       straight = (c.cut_is_straight.ensures _ _ _ _ _ runs.state end runs.plan runs.run 0 false).straight legal owed;

@@ -2,7 +2,7 @@ use Rattle.mm_select.proofs.SelectRun.{select_between, select_runs_between, sele
 use Rattle.mm_select.proofs.select.SelectLink.law.Goals as goal
 
 pub returns-clause-keeps : goal.returns-clause-keeps
-returns-clause-keeps c form from to kept wait up answer back netlist p f b run endless end =
+returns-clause-keeps c form from to kept wait up answer back netlist p f b run endless end asked =
     select_between c.args.self.now form from to kept wait up answer back netlist p f b run endless c.select_is_a_link.ensures end
 
 pub returns-clause-machine : goal.returns-clause-machine
