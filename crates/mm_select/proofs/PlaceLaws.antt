@@ -3,6 +3,7 @@ use Rattle.std.proofs.Common.{◌≡◌, ℕ, zero, suc, ◌+◌, ◌-◌, ◌*�
 use Rattle.std.proofs.lemmas.Nat.{pow-add, pow_pos, mod-pow-add, div-mul-add}
 use Rattle.std.proofs.Math.Nat.{pow-suc, mul-le-mul_left, mul-add, mul_comm, mod-add-div, mod-eq_of_lt, mod-lt, div-lt_iff_lt-mul, div-div-eq-div-mul, one-le-pow}
 use Rattle.std.proofs.Math.Pow.{mod-mod-pow}
+use Rattle.mm_links.specs.Gathers.{spread}
 use Rattle.mm_links.specs.Selects.{repeated}
 
 -- ---- moved to a place
@@ -147,3 +148,29 @@ once_repeated bytes width word times none size fits =
     let low : word % 256 ^ bytes ≡ word = mod-eq_of_lt (subst (λ n. word < n) base fits) in
     let zero_above : word % 256 ^ bytes + 256 ^ bytes * 0 ≡ word = omega (arith, low) in
     sym zero_above ∙ ap (λ n. repeated bytes (2 ^ n) word) (sym none)
+
+twice_spread : (width many x : ℕ) → spread (width + width) many (x * 2 ^ width + x) ≡ spread width (many + many) x
+twice_spread width zero x = refl
+twice_spread width (suc many) x =
+    let b = 2 ^ width in
+    let r = spread width (many + many) x in
+    let square = pow-add 2 width width in
+    let count : suc many + suc many ≡ suc (suc (many + many)) = omega arith in
+    let first = add-mul x (r * b) b in
+    let higher = mul_assoc r b b in
+    ap₂ (λ m n. x * b + x + m * n) (twice_spread width many x) square
+    ∙ (let all : x * b + x + r * (b * b) ≡ x + (x + r * b) * b = omega (arith, first, higher) in all)
+    ∙ sym (ap (λ n. spread width n x) count)
+
+pub spread_on : (times width word twice_width twice made : ℕ) → 1 ≤ times → twice_width ≡ width + width → twice ≡ word * 2 ^ width + word → made ≡ spread twice_width (2 ^ (times - 1)) twice → made ≡ spread width (2 ^ times) word
+spread_on times width word twice_width twice made some size e f =
+    let more : times ≡ suc (times - 1) = omega (arith, some) in
+    f ∙ ap₂ (λ w n. spread w (2 ^ (times - 1)) n) size e
+    ∙ twice_spread width (2 ^ (times - 1)) word
+    ∙ ap (λ n. spread width n word) (sym (ap (λ n. 2 ^ n) more ∙ pow-suc 2 (times - 1) ∙ twice_is (2 ^ (times - 1))))
+
+pub once_spread : (width word times : ℕ) → times ≡ 0 → word ≡ spread width (2 ^ times) word
+once_spread width word times none =
+    let nothing = zero-mul (2 ^ width) in
+    let one : word ≡ word + 0 * 2 ^ width = omega (arith, nothing) in
+    one ∙ ap (λ n. spread width (2 ^ n) word) (sym none)

@@ -5,6 +5,7 @@ ghost use Rattle.netlist.specs.Netlists.{IsNet};
 ghost use Rattle.netlist.specs.Runs.{Always};
 ghost use Rattle.net_parts.specs.Nets.{IsBit, IsNetOfWidth};
 ghost use Rattle.net_parts.specs.Growth.{AddsNets};
+ghost use Rattle.mm_links.specs.Gathers.{spread};
 ghost use Rattle.mm_links.specs.Selects.{repeated};
 
 use net_parts::{choose, constant};
@@ -102,6 +103,7 @@ pub fn repeat(builder: &mut Builder, word: Net, times: u8) -> Result<Net, NetFau
     requires few { word.width * 2 ^ times ≤ 128 }
     ensures net { IfOk result (λ made. IsNetOfWidth builder.new made (word.width * 2 ^ times)) }
     ensures value { IfOk result (λ made. (bytes : ℕ) → word.width ≡ bytes * 8 → Always builder.new (λ cycle. cycle.net made.number ≡ repeated bytes (2 ^ times) (cycle.net word.number))) }
+    ensures spread { IfOk result (λ made. Always builder.new (λ cycle. cycle.net made.number ≡ spread word.width (2 ^ times) (cycle.net word.number))) }
     ensures adds { AddsNets times builder.old builder.new }
     ensures full { result ≡ Err NetFault.TooManyNets → 2 ^ 20 < length builder.old.lines + times }
 {

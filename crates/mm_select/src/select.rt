@@ -44,7 +44,7 @@ pub struct SelectKept {
 }
 
 /// The address of the word that holds it, of two to so many bytes.
-fn align(builder: &mut Builder, address: Net, lanes: u8) -> Result<Net, NetFault>
+pub fn align(builder: &mut Builder, address: Net, lanes: u8) -> Result<Net, NetFault>
     requires address { IsNet builder.old address }
     requires some { 1 ≤ lanes }
     requires reach { lanes ≤ address.width }
