@@ -1,0 +1,7 @@
+pub mod Sizes
+pub mod Wiring
+pub mod Dropping
+pub mod Agent
+pub mod Above
+pub mod Rows
+pub mod Whole

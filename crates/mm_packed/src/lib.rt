@@ -1,0 +1,49 @@
+//! Packed reads in whole systems of machines: each word of an agent that a host's read touches is read once. From rows of links to the ports of a system.
+#![tactic(auto)]
+
+ghost use Rattle.std.specs.Prelude.{◌≡◌, ℕ, ◌<◌, ◌≤◌, ◌*◌};
+ghost use Rattle.mm_runs.specs.Packed.{ReadsEachTouchedWordOnce};
+ghost use Rattle.mm_runs.specs.Views.{Responses, System, Run};
+ghost use Rattle.mm_runs.specs.Whole.{IsLegalRun};
+ghost use Rattle.mm_machines.specs.Link.{Target, Port, AreLegalAt};
+ghost use Rattle.mm_links.specs.Drops.{DropState, RunsAsDrop, IsDropPlan};
+ghost use Rattle.mm_links.specs.Packs.{PacksReads};
+ghost use Rattle.mm_links.specs.Selects.{EnablesFit};
+ghost use Rattle.mm_awake.specs.Rows.{CutsBursts, FitsWords, DropsBeats, GathersBelowCut};
+ghost use Rattle.mm_awake.specs.RowSystem.{RowPorts, AreRows, boundaries_of};
+ghost use Rattle.mm_awake.specs.Theorem.{States, ArePlanned, AreMachines};
+ghost use Rattle.mm_awake.specs.Wires.{IsWire};
+ghost use Rattle.mm_packed.specs.Packed.{KeepsSizes, RowPacks, RowsPack};
+
+/// A wire hands each beat on, and what drops beats without a lane the others, each with its operations.
+pub fn wires_and_droppers_keep_sizes()
+    ensures wire { (target : Target) (up down : Port) (end : ℕ) → IsWire up down → KeepsSizes target up down end }
+    ensures drop { (target : Target) (room : ℕ) (up down : Port) (state : DropState) (end : ℕ) → IsDropPlan target up.shape down.shape
+        → RunsAsDrop room up down state → KeepsSizes target up down end }
+{}
+
+/// A row packs reads where the host's word is no larger than the agent's, in each of which the span comes to an end.
+pub fn rows_pack_reads()
+    ensures { (target : Target) (top middle low down : Port) (end : ℕ) (cuts : CutsBursts top middle) (fits : FitsWords target middle low) → DropsBeats target low down
+        → GathersBelowCut cuts fits → RowPacks cuts fits → top.shape.word_bytes ≤ target.shape.word_bytes → down.shape.word_bytes ≡ target.shape.word_bytes
+        → (times : ℕ) → 0 < times → target.span ≡ times * target.shape.word_bytes → EnablesFit top end → AreLegalAt top end → PacksReads target top down end }
+{
+    mm_links::packs::packed_rows();
+    mm_links::packs::equal_words_pack();
+    mm_links::packs::selectors_pack()
+}
+
+/// In a system of machines whose rows pack reads, each word of an agent that a host's read touches is read in one beat at most.
+pub fn packed_systems_read_words_once()
+    ensures { (responses : Responses) (system : System) (run : Run) (ports : RowPorts) (states : States) (end : ℕ)
+        → ArePlanned system (boundaries_of ports) states → AreMachines responses system run (boundaries_of ports) states end
+        → (rows : AreRows system run ports end) → RowsPack rows → IsLegalRun system run end
+        → (host agent : ℕ) → host < system.hosts → agent < system.agents → ReadsEachTouchedWordOnce system run host agent end }
+{
+    rows_pack_reads();
+    mm_links::packs::touches_are_read_once();
+    mm_awake::rows::machines_with_links_are_built();
+    mm_awake::built::machines_keep_their_lines();
+    mm_awake::built::machines_settle();
+    mm_awake::built::machines_keep_their_records()
+}
