@@ -17,7 +17,7 @@ use Rattle.mm_machines.specs.Lines.{TaggedPort, IsFit, target_of, with_tag}
 use Rattle.mm_machines.specs.SideLaws.{fit_when_shown, taken_is_shown}
 use Rattle.mm_links.specs.Packs.{beat_sizes, acting}
 use Rattle.mm_parts.specs.Agent.{AgentState, IsAgentPlan, ShowsToAgent}
-use Rattle.mm_packed.proofs.Sizes.{each_of, counted_of, lanes_of, sizes_now, transfer_sizes, same_acting, filled_are}
+use Rattle.mm_packed.proofs.Sizes.{read_begins, each_of, counted_of, lanes_of, sizes_now, transfer_sizes, same_acting, filled_are}
 
 -- ---- lanes
 
@@ -192,19 +192,8 @@ module _ (system : System) (run : Run) (agent host : ℕ) (up : TaggedPort) (sta
       shown : shows up.commands.signals c ≡ true
       shown = (and_parts (shows up.commands.signals c) _ taken).0
 
-      read : (r w : Bool) → (r || w) ≡ true → w ≡ false → r ≡ true
-      read true w e f = refl
-      read false w e f = sym f ∙ e
-
-      free : (b : Bool) → nat_lt 0 (burst_before up.shape up.commands.signals (takes up.port) c).left ≡ b → b ≡ false
-      free false e = refl
-      free true e =
-          let quiet = fit.legal.legal.finished c low e in
-          let raised = read (is_raised (up.commands.read c)) (is_raised (up.commands.write c)) shown reads in
-          sym raised ∙ quiet
-
       begins : nat_lt 0 (burst_before up.shape up.commands.signals (takes up.port) c).left ≡ false
-      begins = free (nat_lt 0 (burst_before up.shape up.commands.signals (takes up.port) c).left) refl
+      begins = read_begins up.port end c fit.legal low taken reads
 
       by_has : (b : Bool) → side.has_burst ≡ b → (if side.has_burst then up.commands.count c else 1) ≡ up.commands.count c
       by_has true has = rw has refl

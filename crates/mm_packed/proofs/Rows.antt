@@ -1,9 +1,9 @@
 -- A row packs reads: its cutter and what fits words below it do, and wires and what drops beats keep the sizes.
-use Rattle.std.proofs.Common.{ℕ, ◌<◌, ◌≤◌, ◌≡◌, ◌*◌, arith, sym, subst, ◌∙◌, List, flat_map, mul-le-mul_right}
+use Rattle.std.proofs.Common.{ℕ, ◌<◌, ◌≤◌, ◌≡◌, ◌*◌, arith, sym, subst, ◌∙◌, List, flat_map}
 use Rattle.histories.specs.History.{IsPrefix}
 use Rattle.histories.specs.Laws.{prefix_trans}
 use Rattle.mm_machines.specs.Link.{Target, Port, AreLegalAt, taken_at}
-use Rattle.mm_machines.specs.Machines.{MaySplit, ShowsFitBeats}
+use Rattle.mm_machines.specs.Machines.{ShowsFitBeats}
 use Rattle.mm_machines.specs.SideLaws.{fit_when_shown}
 use Rattle.mm_links.specs.Cutters.{Reach, CutterState, RunsAsCutter, IsCutPlan, IsTouchPlan, reach_words}
 use Rattle.mm_links.specs.Gathers.{GatherState, RunsAsGather, IsGatherPlan}
@@ -12,6 +12,7 @@ use Rattle.mm_links.specs.Selects.{RunsAsSelect, IsSelectPlan, EnablesFit}
 use Rattle.mm_awake.specs.Rows.{CutsBursts, CutsBursts.cutter, CutsBursts.no_cutter, FitsWords, FitsWords.selector, FitsWords.gatherer, FitsWords.splitter, FitsWords.no_width, DropsBeats, DropsBeats.dropper, DropsBeats.no_dropper, GathersBelowCut, IsWired}
 use Rattle.mm_packed.specs.Packed.{KeepsSizes, RowPacks}
 use Rattle.mm_packed.proofs.Dropping.{drop_keeps}
+use Rattle.mm_packed.proofs.Splitting.{split_equal, split_keeps}
 use Rattle.mm_packed.proofs.Wiring.{wire_words, wire_legal, wire_enables, wire_touches, wire_keeps}
 
 -- what the links promise
@@ -22,6 +23,7 @@ pub record Laws : Type 0 where
   pub wire : (target : Target) (port : Port) (times end : ℕ) → 0 < port.shape.word_bytes → 0 < times → target.shape.word_bytes ≡ port.shape.word_bytes → target.span ≡ times * target.shape.word_bytes → PacksReads target port port end
   pub cut : (target : Target) (reach : Reach) (longest : ℕ) (up down : Port) (state : CutterState) (end times : ℕ) → IsCutPlan reach longest up.shape down.shape →
       RunsAsCutter reach longest up down state → AreLegalAt up end → 0 < times → target.shape.word_bytes ≡ up.shape.word_bytes → target.span ≡ times * target.shape.word_bytes → PacksReads target up down end
+  pub cut_legal : (reach : Reach) (longest : ℕ) (up down : Port) (state : CutterState) (end : ℕ) → IsCutPlan reach longest up.shape down.shape → RunsAsCutter reach longest up down state → AreLegalAt up end → AreLegalAt down end
   pub select : (target : Target) (up down : Port) (many room : ℕ) (offsets : ℕ → List ℕ) (end : ℕ) → IsSelectPlan target up.shape down.shape many →
       1 < room → RunsAsSelect room up down offsets → EnablesFit up end → AreLegalAt up end → PacksReads target up down end
 
@@ -58,25 +60,15 @@ module _ (target : Target) (end : ℕ) where
       subst (λ l. IsPrefix (acting (flat_map (beat_sizes target low.shape) (taken_at low c))) (acting l)) (wire_touches top middle wired.wire target c)
       (laws.select target middle low many room offsets end plan deep run (wire_enables top middle wired.wire end enables) (wire_legal top middle wired.wire end legal) c h)
 
-  -- equal words
-  equal : Laws → (top middle low : Port) → CutsBursts top middle → IsWired middle low → target.shape.word_bytes ≡ top.shape.word_bytes → (times : ℕ) → 0 < times → target.span ≡ times * target.shape.word_bytes →
-      AreLegalAt top end → PacksReads target top low end
-  equal laws top middle low (cutter reach longest state plan run) wired words times some span legal =
-      packs_further target top middle low end (laws.cut target reach longest top middle state end times plan run legal some words span) (wire_keeps middle low wired.wire target end)
-  equal laws top middle low (no_cutter cut) wired words times some span legal =
-      packs_further target top middle low end
-      (packs_further target top top middle end (laws.wire target top times end cut.some some words span) (wire_keeps top middle cut.wire target end))
-      (wire_keeps middle low wired.wire target end)
+  -- between equal words
+  cut_packs : Laws → (top middle : Port) → CutsBursts top middle → target.shape.word_bytes ≡ top.shape.word_bytes → (times : ℕ) → 0 < times → target.span ≡ times * target.shape.word_bytes → AreLegalAt top end → PacksReads target top middle end
+  cut_packs laws top middle (cutter reach longest state plan run) words times some span legal = laws.cut target reach longest top middle state end times plan run legal some words span
+  cut_packs laws top middle (no_cutter wired) words times some span legal =
+      packs_further target top top middle end (laws.wire target top times end wired.some some words span) (wire_keeps top middle wired.wire target end)
 
-  -- a splitter stands below a larger word
-  wider : (top middle low : Port) (count : ℕ) → CutsBursts top middle → MaySplit target middle.shape low.shape count → 1 < count → top.shape.word_bytes ≤ target.shape.word_bytes → ⊥
-  wider top middle low count cuts may many fits =
-      let words = cut_words top middle cuts in
-      let whole = may.whole in
-      let same = may.same in
-      let some = may.some in
-      let twice : 2 * low.shape.word_bytes ≤ count * low.shape.word_bytes = mul-le-mul_right low.shape.word_bytes (omega (arith, many)) in
-      omega (arith, words, whole, same, some, twice, fits)
+  legal_below : Laws → (top middle : Port) → CutsBursts top middle → AreLegalAt top end → AreLegalAt middle end
+  legal_below laws top middle (cutter reach longest state plan run) legal = laws.cut_legal reach longest top middle state end plan run legal
+  legal_below laws top middle (no_cutter wired) legal = wire_legal top middle wired.wire end legal
 
   fitted : Laws → (top middle low : Port) (cuts : CutsBursts top middle) (fits : FitsWords target middle low) → GathersBelowCut cuts fits → RowPacks cuts fits →
       top.shape.word_bytes ≤ target.shape.word_bytes → low.shape.word_bytes ≡ target.shape.word_bytes → (times : ℕ) → 0 < times → target.span ≡ times * target.shape.word_bytes →
@@ -87,9 +79,13 @@ module _ (target : Target) (end : ℕ) where
   fitted laws top middle low cuts (gatherer many room state plan deep run) below packs fits words times some span enables legal =
       gathered laws many room top middle low cuts state plan deep run below times some span enables legal
   fitted laws top middle low cuts (splitter count room state may some_room run) below packs fits words times some span enables legal =
-      absurd (wider top middle low count cuts may packs fits)
+      let above = cut_words top middle cuts in
+      let narrow : middle.shape.word_bytes ≤ target.shape.word_bytes = omega (arith, above, fits) in
+      packs_further target top middle low end (cut_packs laws top middle cuts (sym (above ∙ split_equal target middle.shape low.shape count may narrow)) times some span legal)
+      (split_keeps target room count middle low state end may run (legal_below laws top middle cuts legal) narrow)
   fitted laws top middle low cuts (no_width wired) below packs fits words times some span enables legal =
-      equal laws top middle low cuts wired (sym (cut_words top middle cuts ∙ wire_words middle low wired.wire ∙ words)) times some span legal
+      packs_further target top middle low end (cut_packs laws top middle cuts (sym (cut_words top middle cuts ∙ wire_words middle low wired.wire ∙ words)) times some span legal)
+      (wire_keeps middle low wired.wire target end)
 
   pub row_packs : Laws → (top middle low down : Port) (cuts : CutsBursts top middle) (fits : FitsWords target middle low) → DropsBeats target low down → GathersBelowCut cuts fits → RowPacks cuts fits →
       top.shape.word_bytes ≤ target.shape.word_bytes → down.shape.word_bytes ≡ target.shape.word_bytes → (times : ℕ) → 0 < times → target.span ≡ times * target.shape.word_bytes →

@@ -1,6 +1,7 @@
 -- How many operations the beats have that a side takes: the levels of each cycle tell.
-use Rattle.std.proofs.Common.{ℕ, zero, suc, ◌<◌, ◌≡◌, Bool, true, false, List, [], ◌∷◌, ◌++◌, if◌then◌else◌, arith, refl, sym, ap, ap₂, ◌∙◌, length, map, flat_map, nat_lt, append-nil, filter, min, ◌*◌, ◌/◌, zero-mul}
+use Rattle.std.proofs.Common.{ℕ, zero, suc, ◌<◌, ◌≡◌, Bool, true, false, List, [], ◌∷◌, ◌++◌, if◌then◌else◌, arith, refl, sym, ap, ap₂, ◌∙◌, length, map, flat_map, nat_lt, append-nil, filter, min, ◌*◌, ◌/◌, ◌||◌, zero-mul}
 use Rattle.std.specs.List.{list_any}
+use Rattle.std.proofs.lemmas.Bool.{and_parts}
 use Rattle.std.proofs.lemmas.List.{length-map}
 use Rattle.std.proofs.lemmas.List.Elements.{filter-append}
 use Rattle.std.proofs.lemmas.Grind.{flat_map-append}
@@ -8,8 +9,8 @@ use Rattle.std.proofs.Math.Nat.{div_self}
 use Rattle.histories.specs.History.{before, is_raised, numbers, only_if}
 use Rattle.mm_runs.specs.Views.{Shape, Levels, levels_at}
 use Rattle.mm_runs.specs.Operations.{Beat, filled_lanes, filled_of_piece, is_enabled, pieces}
-use Rattle.mm_runs.specs.Commands.{Burst, burst_before, read_beat, read_transfer, write_transfer, transfer_of}
-use Rattle.mm_machines.specs.Link.{Target, Port, Marked, takes, marked_at, taken_at, beat_operations}
+use Rattle.mm_runs.specs.Commands.{Burst, burst_before, read_beat, read_transfer, shows, write_transfer, transfer_of}
+use Rattle.mm_machines.specs.Link.{AreLegalAt, Target, Port, Marked, takes, marked_at, taken_at, beat_operations}
 use Rattle.mm_links.specs.Packs.{beat_sizes, acting}
 
 pub map_const : {A B : Type 0} (f : B → ℕ) (g : A → B) (n : ℕ) → ((x : A) → f (g x) ≡ n) → (xs : List A) → map f (map g xs) ≡ map (λ _. n) xs
@@ -91,3 +92,18 @@ none_act levels n none = ap (λ n. acting (each_of levels n)) none ∙ by_write 
     by_write : (w : Bool) → acting (if w then 0 ∷ [] else map (λ _. 0) (numbers 0 levels.count)) ≡ []
     by_write true = refl
     by_write false = no_ones (numbers 0 levels.count)
+
+-- a read is taken where no burst is under way, so its count is that of a command
+pub read_begins : (port : Port) (end c : ℕ) → AreLegalAt port end → c < end → takes port c ≡ true → is_raised (port.commands.write c) ≡ false →
+    nat_lt 0 (burst_before port.shape port.commands.signals (takes port) c).left ≡ false
+read_begins port end c legal low taken reads = free (nat_lt 0 (burst_before port.shape port.commands.signals (takes port) c).left) refl
+  where
+    raised : (r w : Bool) → (r || w) ≡ true → w ≡ false → r ≡ true
+    raised true w e f = refl
+    raised false w e f = sym f ∙ e
+
+    free : (b : Bool) → nat_lt 0 (burst_before port.shape port.commands.signals (takes port) c).left ≡ b → b ≡ false
+    free false e = refl
+    free true e =
+        sym (raised (is_raised (port.commands.read c)) (is_raised (port.commands.write c)) (and_parts (shows port.commands.signals c) _ taken).0 reads)
+        ∙ legal.legal.finished c low e

@@ -12,12 +12,12 @@ abbrev pub KeepsSizes : Target → Port → Port → ℕ → Type 0
 KeepsSizes target up down end =
     (c : ℕ) → c ≤ end → IsPrefix (acting (flat_map (beat_sizes target down.shape) (taken_at down c))) (acting (flat_map (beat_sizes target up.shape) (taken_at up c)))
 
--- a row packs reads, or the host's word is the larger one. A lane selector does where no burst is cut above it: each read is of one word then
+-- a row packs reads. A lane selector does where no burst is cut above it: each read is of one word then. Where the host's word is the larger one nothing is asked
 abbrev pub RowPacks : {target : Target} {top middle low : Port} → CutsBursts top middle → FitsWords target middle low → Type 0
 RowPacks (cutter reach longest state plan run) (selector many room offsets may deep runs) = ⊥
 RowPacks (no_cutter wired) (selector many room offsets may deep runs) = Unit {0}
 RowPacks cuts (gatherer many room state may deep runs) = Unit {0}
-RowPacks cuts (splitter count room state may some runs) = 1 < count
+RowPacks cuts (splitter count room state may some runs) = Unit {0}
 RowPacks cuts (no_width wired) = Unit {0}
 
 -- all rows of a system do

@@ -6,23 +6,27 @@ ghost use Rattle.mm_runs.specs.Packed.{ReadsEachTouchedWordOnce};
 ghost use Rattle.mm_runs.specs.Views.{Responses, System, Run};
 ghost use Rattle.mm_runs.specs.Whole.{IsLegalRun};
 ghost use Rattle.mm_machines.specs.Link.{Target, Port, AreLegalAt};
+ghost use Rattle.mm_machines.specs.Machines.{MaySplit};
 ghost use Rattle.mm_links.specs.Drops.{DropState, RunsAsDrop, IsDropPlan};
 ghost use Rattle.mm_links.specs.Packs.{PacksReads};
 ghost use Rattle.mm_links.specs.Selects.{EnablesFit};
+ghost use Rattle.mm_links.specs.Splits.{SplitState, RunsAsSplit};
 ghost use Rattle.mm_awake.specs.Rows.{CutsBursts, FitsWords, DropsBeats, GathersBelowCut};
 ghost use Rattle.mm_awake.specs.RowSystem.{RowPorts, AreRows, boundaries_of};
 ghost use Rattle.mm_awake.specs.Theorem.{States, ArePlanned, AreMachines};
 ghost use Rattle.mm_awake.specs.Wires.{IsWire};
 ghost use Rattle.mm_packed.specs.Packed.{KeepsSizes, RowPacks, RowsPack};
 
-/// A wire hands each beat on, and what drops beats without a lane the others, each with its operations.
-pub fn wires_and_droppers_keep_sizes()
+/// A wire hands each beat on with its operations. What drops beats without a lane hands on the others, and a splitter that stands between equal words those that have an operation.
+pub fn links_keep_sizes()
     ensures wire { (target : Target) (up down : Port) (end : ℕ) → IsWire up down → KeepsSizes target up down end }
     ensures drop { (target : Target) (room : ℕ) (up down : Port) (state : DropState) (end : ℕ) → IsDropPlan target up.shape down.shape
         → RunsAsDrop room up down state → KeepsSizes target up down end }
+    ensures split { (target : Target) (room count : ℕ) (up down : Port) (state : SplitState) (end : ℕ) → MaySplit target up.shape down.shape count
+        → RunsAsSplit room up down state → AreLegalAt up end → up.shape.word_bytes ≤ target.shape.word_bytes → KeepsSizes target up down end }
 {}
 
-/// A row packs reads where the host's word is no larger than the agent's, in each of which the span comes to an end.
+/// A row packs reads where the host's word is no larger than the agent's, and the span is a whole number of these.
 pub fn rows_pack_reads()
     ensures { (target : Target) (top middle low down : Port) (end : ℕ) (cuts : CutsBursts top middle) (fits : FitsWords target middle low) → DropsBeats target low down
         → GathersBelowCut cuts fits → RowPacks cuts fits → top.shape.word_bytes ≤ target.shape.word_bytes → down.shape.word_bytes ≡ target.shape.word_bytes
@@ -30,7 +34,8 @@ pub fn rows_pack_reads()
 {
     mm_links::packs::packed_rows();
     mm_links::packs::equal_words_pack();
-    mm_links::packs::selectors_pack()
+    mm_links::packs::selectors_pack();
+    mm_links::bursts::cut_brings_bursts()
 }
 
 /// In a system of machines whose rows pack reads, each word of an agent that a host's read touches is read in one beat at most.
