@@ -1,4 +1,3 @@
 pub mod PlaceLaws
 pub mod QueueLaws
-pub mod SelectLaws
 pub mod SelectRun

@@ -3,6 +3,7 @@ use Rattle.std.proofs.Common.{◌≡◌, ℕ, zero, suc, ◌+◌, ◌-◌, ◌*�
 use Rattle.std.proofs.lemmas.Nat.{pow-add, pow_pos, mod-pow-add, div-mul-add}
 use Rattle.std.proofs.Math.Nat.{pow-suc, mul-le-mul_left, mul-add, mul_comm, mod-add-div, mod-eq_of_lt, mod-lt, div-lt_iff_lt-mul, div-div-eq-div-mul, one-le-pow}
 use Rattle.std.proofs.Math.Pow.{mod-mod-pow}
+use Rattle.mm_select.specs.Laws.{byte_powers}
 use Rattle.mm_links.specs.Gathers.{spread}
 use Rattle.mm_links.specs.Selects.{repeated}
 
@@ -109,12 +110,6 @@ half_is w bits all half some size e =
     let parts = add-mul w w (2 ^ (bits - 1)) in (omega (arith, size, e, twice, parts), omega (arith, size, e, twice, parts))
 
 -- ---- repeated on each place
-
-pub byte_powers : (bytes : ℕ) → 2 ^ (bytes * 8) ≡ 256 ^ bytes
-byte_powers zero = refl
-byte_powers (suc bytes) =
-    let more : suc bytes * 8 ≡ bytes * 8 + 8 = omega arith in
-    ap (λ n. 2 ^ n) more ∙ pow-add 2 (bytes * 8) 8 ∙ ap (λ n. n * 256) (byte_powers bytes) ∙ sym (pow-suc 256 bytes)
 
 twice_repeated : (bytes many x : ℕ) → x < 256 ^ bytes → repeated (bytes + bytes) many (x * 256 ^ bytes + x) ≡ repeated bytes (many + many) x
 twice_repeated bytes zero x h = refl

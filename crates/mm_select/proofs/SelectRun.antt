@@ -19,31 +19,8 @@ use Rattle.link_core.specs.Form.{Form, KeepsLaw}
 use Rattle.mm_select.specs.declared.select.Select.{Select}
 use Rattle.mm_select.specs.declared.select.SelectKept.{SelectKept}
 use Rattle.mm_select.specs.Queue.{AreDigits, HoldsOffsets, owns_queue}
+use Rattle.mm_select.specs.Laws.{raised_if, asked_bits, let_through}
 use Rattle.mm_select.specs.SelectNets.{IsSelectForm, SelectRuns, SelectCommand, SelectAnswer, bytes_shape, is_asked}
-
-raised_if : (x : Bool) (r : ℕ) → is_raised (if x then 0 else r) ≡ (if x then false else is_raised r)
-raised_if true r = refl
-raised_if false r = refl
-
--- a read is taken below exactly where one is taken above
-asked_bits : (x r w k : Bool) → (((if x then false else r) && not w) && not k) ≡ (((r || w) && not (x || k)) && not w)
-asked_bits true true true k = refl
-asked_bits true true false k = refl
-asked_bits true false true k = refl
-asked_bits true false false k = refl
-asked_bits false true true true = refl
-asked_bits false true true false = refl
-asked_bits false true false true = refl
-asked_bits false true false false = refl
-asked_bits false false true true = refl
-asked_bits false false true false = refl
-asked_bits false false false k = refl
-
-let_through : (x r w k : Bool) → (((if x then false else r) && not w) && not k) ≡ true → (x ≡ false) × (w ≡ false)
-let_through true r w k e = cc
-let_through false true true k e = cc
-let_through false true false k e = (refl, refl)
-let_through false false w k e = cc
 
 first_is : (bytes base : ℕ) (offsets : List ℕ) (number : ℕ) → AreDigits bytes base offsets number → first_of offsets ≡ number % base * bytes
 first_is bytes base [] number d = sym (ap (λ n. n % base * bytes) d ∙ ap (λ n. n * bytes) (zero-mod base) ∙ zero-mul bytes)

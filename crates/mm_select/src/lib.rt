@@ -7,4 +7,4 @@ mod select;
 
 pub use places::{raise_to, repeat, take_place};
 pub use queue::PlaceQueue;
-pub use select::{Select, SelectKept, align};
+pub use select::{Select, SelectKept, align, asks_now};

@@ -119,7 +119,7 @@ fn sent_command(
 }
 
 /// Whether a read is taken.
-fn asks_now(builder: &mut Builder, read: Net, write: Net, wait: Net) -> Result<Net, NetFault>
+pub fn asks_now(builder: &mut Builder, read: Net, write: Net, wait: Net) -> Result<Net, NetFault>
     requires read { IsBit builder.old read }
     requires write { IsBit builder.old write }
     requires wait { IsBit builder.old wait }

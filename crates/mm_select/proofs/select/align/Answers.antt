@@ -2,7 +2,7 @@ use Rattle.std.proofs.Common.{◌≡◌, ◌*◌, ◌/◌, ◌^◌, ◌<◌, sub
 use Rattle.netlist.specs.Runs.{Always}
 use Rattle.net_parts.specs.Laws.{net_fits, if_ok, adds_fewer, adds_twice, grows_once}
 use Rattle.net_parts.specs.Refusing.{handed_on}
-use Rattle.mm_select.proofs.SelectLaws.{aligned_none, aligned}
+use Rattle.mm_select.specs.Laws.{aligned_none, aligned}
 use Rattle.mm_select.proofs.select.align.Goals as goal
 
 pub returns-in_err-low-clause-adds : goal.returns-in_err-low-clause-adds

@@ -4,7 +4,7 @@ use Rattle.net_parts.specs.Refusing.{handed_on}
 use Rattle.command_nets.specs.Groups.{command_lasts}
 use Rattle.mm_links.specs.Selects.{repeated}
 use Rattle.command_nets.specs.Levels.{one_fits}
-use Rattle.mm_select.proofs.SelectLaws.{sent_read}
+use Rattle.mm_select.specs.Laws.{sent_read}
 use Rattle.mm_select.proofs.select.sent_command.Goals as goal
 
 pub returns-in_err-read-clause-adds : goal.returns-in_err-read-clause-adds

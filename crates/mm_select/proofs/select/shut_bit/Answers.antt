@@ -3,7 +3,7 @@ use Rattle.histories.specs.History.{is_raised}
 use Rattle.netlist.specs.Runs.{Always}
 use Rattle.net_parts.specs.Laws.{if_ok, adds_fewer, adds_twice}
 use Rattle.net_parts.specs.Refusing.{handed_on}
-use Rattle.mm_select.proofs.SelectLaws.{full_bit, and_turned}
+use Rattle.mm_select.specs.Laws.{full_bit, and_turned}
 use Rattle.mm_select.proofs.select.shut_bit.Goals as goal
 
 pub returns-in_err-full-clause-adds : goal.returns-in_err-full-clause-adds

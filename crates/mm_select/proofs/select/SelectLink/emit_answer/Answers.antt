@@ -2,7 +2,7 @@ use Rattle.std.proofs.Common.{◌≡◌, ◌+◌, ◌-◌, ◌*◌, ◌/◌, ◌
 use Rattle.netlist.specs.Runs.{cycle_of}
 use Rattle.net_parts.specs.Laws.{net_lasts, extends_twice, adds_twice, adds_grow, grows_once, grows_twice, grows_fewer}
 use Rattle.mm_select.proofs.QueueLaws.{held_as}
-use Rattle.mm_select.proofs.SelectLaws.{word_is, sizes_times, word_size_few, word_size_some, within_places}
+use Rattle.mm_select.specs.Laws.{word_is, sizes_times, word_size_few, word_size_some, within_places}
 use Rattle.mm_select.proofs.select.SelectLink.emit_answer.Goals as goal
 
 pub returns-clause-grows : goal.returns-clause-grows

@@ -1,8 +1,8 @@
--- What the nets of a lane selector are as numbers.
-use Rattle.std.proofs.Common.{◌≡◌, ℕ, ◌+◌, ◌-◌, ◌*◌, ◌/◌, ◌%◌, ◌^◌, ◌<◌, ◌≤◌, Bool, true, false, not, ◌&&◌, nat_lt, if◌then◌else◌, refl, sym, subst, ap, ap₂, ◌∙◌, arith, zero-mul, one-mul, add-mul, mul_assoc, mul-le-mul_right, mul-div_cancel}
+-- What the nets between narrow words and wide ones are as numbers. No contract reads a proof of these.
+use Rattle.std.proofs.Common.{◌≡◌, ℕ, zero, suc, ◌+◌, ◌-◌, ◌*◌, ◌/◌, ◌%◌, ◌^◌, ◌<◌, ◌≤◌, Bool, true, false, not, ◌&&◌, ◌||◌, nat_lt, if◌then◌else◌, refl, sym, subst, ap, ap₂, ◌∙◌, arith, zero-mul, one-mul, add-mul, mul_assoc, mul-le-mul_right, mul-div_cancel}
 use Rattle.std.proofs.lemmas.Nat.{pow-add, pow_pos, mod-mul-add}
 use Rattle.std.proofs.lemmas.Bool.{ltb-true, ltb-false}
-use Rattle.std.proofs.Math.Nat.{mod-eq_of_lt, mod-lt, div-lt_iff_lt-mul, div-eq_of_lt, mul_comm, mul_right_comm, div-div-eq-div-mul, mod-eq-sub-div-mul, div-mul-le_self}
+use Rattle.std.proofs.Math.Nat.{pow-suc, mod-eq_of_lt, mod-lt, div-lt_iff_lt-mul, div-eq_of_lt, mul_comm, mul_right_comm, div-div-eq-div-mul, mod-eq-sub-div-mul, div-mul-le_self}
 use Rattle.std.proofs.Math.Pow.{pow_mono, pow-lt}
 use Rattle.histories.specs.History.{is_raised}
 use Rattle.command_nets.specs.Levels.{bit_same}
@@ -12,7 +12,38 @@ use Rattle.mm_runs.specs.Views.{Levels}
 use Rattle.mm_runs.specs.Commands.{byte_address}
 use Rattle.mm_links.specs.Selects.{selected, silenced, offset_in, repeated}
 use Rattle.mm_select.specs.SelectNets.{bytes_shape}
-use Rattle.mm_select.proofs.PlaceLaws.{byte_powers}
+
+pub byte_powers : (bytes : ℕ) → 2 ^ (bytes * 8) ≡ 256 ^ bytes
+byte_powers zero = refl
+byte_powers (suc bytes) =
+    let more : suc bytes * 8 ≡ bytes * 8 + 8 = omega arith in
+    ap (λ n. 2 ^ n) more ∙ pow-add 2 (bytes * 8) 8 ∙ ap (λ n. n * 256) (byte_powers bytes) ∙ sym (pow-suc 256 bytes)
+
+-- ---- bits
+
+pub raised_if : (x : Bool) (r : ℕ) → is_raised (if x then 0 else r) ≡ (if x then false else is_raised r)
+raised_if true r = refl
+raised_if false r = refl
+
+-- a read is taken below exactly where one is taken above
+pub asked_bits : (x r w k : Bool) → (((if x then false else r) && not w) && not k) ≡ (((r || w) && not (x || k)) && not w)
+asked_bits true true true k = refl
+asked_bits true true false k = refl
+asked_bits true false true k = refl
+asked_bits true false false k = refl
+asked_bits false true true true = refl
+asked_bits false true true false = refl
+asked_bits false true false true = refl
+asked_bits false true false false = refl
+asked_bits false false true true = refl
+asked_bits false false true false = refl
+asked_bits false false false k = refl
+
+pub let_through : (x r w k : Bool) → (((if x then false else r) && not w) && not k) ≡ true → (x ≡ false) × (w ≡ false)
+let_through true r w k e = cc
+let_through false true true k e = cc
+let_through false true false k e = (refl, refl)
+let_through false false w k e = cc
 
 pub and_turned : (a b : Bool) → (a && b) ≡ (b && a)
 and_turned true true = refl
