@@ -4,7 +4,6 @@ use Rattle.std.proofs.Math.Nat.{mod-eq_of_lt, add-mod_right}
 use Rattle.std.proofs.Math.Pow.{pow_mono}
 use Rattle.std.proofs.lemmas.Bool.{ltb-true, ltb-false}
 use Rattle.histories.specs.History.{one_if}
-use Rattle.net_parts.specs.Growth.{fit_nets}
 use Rattle.item_queues.specs.Steps.{IsNextCount}
 
 less_by : (s f limit : ℕ) → f ≤ s → s < limit → (s + (limit - f)) % limit ≡ s - f
@@ -29,14 +28,6 @@ next_counted w u t g more fewer sum next some ht hg e1 e2 e3 e4 few within =
 
 pub moved : (w p m step next : ℕ) → 1 ≤ w → m < 2 → step ≡ m % 2 ^ w → next ≡ (p + step) % 2 ^ w → next ≡ (p + one_if (m == 1)) % 2 ^ w
 moved w p m step next some h e f = f ∙ ap (λ k. (p + k) % 2 ^ w) (fitted w m step some h e)
-
--- the most nets that fitting takes
-pub fits_in_two : (bits wanted : ℕ) → fit_nets bits wanted ≤ 2
-fits_in_two bits wanted = by_test (bits == wanted)
-  where
-    by_test : (t : Bool) → (if t then 0 else 2) ≤ 2
-    by_test true = omega arith
-    by_test false = omega arith
 
 pub high_if : (t : Bool) (x : ℕ) → x ≡ (if t then 1 else 0) → (x == 1) ≡ t
 high_if true x e = ap (λ k. k == 1) e

@@ -6,7 +6,6 @@ use Rattle.std.proofs.lemmas.Nat.{pow-add, pow_pos}
 use Rattle.std.proofs.lemmas.Bool.{ltb-true, ltb-false, le-ltb, ne_eqb, eqb-true}
 use Rattle.histories.specs.History.{is_raised, one_if}
 use Rattle.mm_machines.specs.Machines.{Raw}
-use Rattle.net_parts.specs.Growth.{fit_nets}
 use Rattle.command_nets.specs.Levels.{level_is}
 use Rattle.mm_links.specs.Cutters.{Reach, beats_of}
 use Rattle.mm_burst.specs.CutterNets.{lane_exponent}
@@ -127,14 +126,6 @@ count_ahead_is bits left step few many both count made fits e f g h k =
 -- what follows a piece is a part of what is left
 pub has_room : (reach : Reach) (start : ℕ) (raw : Raw) (held : Held) → HasRoom (piece_from reach start raw held)
 has_room reach start raw held e = let less = ltb-true (piece_from reach start raw held).step (piece_from reach start raw held).left e in omega (arith, less)
-
--- the most nets that fitting takes
-pub fits_in_two : (bits wanted : ℕ) → fit_nets bits wanted ≤ 2
-fits_in_two bits wanted = by_test (bits == wanted)
-  where
-    by_test : (t : Bool) → (if t then 0 else 2) ≤ 2
-    by_test true = omega arith
-    by_test false = omega arith
 
 -- ---- bits
 

@@ -6,7 +6,6 @@ use Rattle.std.proofs.lemmas.Nat.{pow-add, pow_pos, div-add-mod'}
 use Rattle.std.proofs.lemmas.Bool.{ltb-true, ltb-false}
 use Rattle.std.specs.Prelude.{Result, Ok, Err, IfOk}
 use Rattle.histories.specs.History.{is_raised, one_if}
-use Rattle.net_parts.specs.Growth.{fit_nets}
 use Rattle.command_nets.specs.Levels.{level_is, is_some, one_fits}
 use Rattle.mm_host.specs.Writes.{beats_of}
 
@@ -127,14 +126,6 @@ pub difference : (beats got limit : ℕ) → beats < limit → got ≤ beats →
 difference beats got limit fits few {lacks} e =
     let whole : beats + (limit - got) ≡ (beats - got) + limit = omega arith in
     e ∙ ap (λ n. n % limit) whole ∙ add-mod_right (beats - got) limit ∙ mod-eq_of_lt (omega arith)
-
--- the most nets that fitting takes
-pub fits_in_two : (bits wanted : ℕ) → fit_nets bits wanted ≤ 2
-fits_in_two bits wanted = by_test (bits == wanted)
-  where
-    by_test : (t : Bool) → (if t then 0 else 2) ≤ 2
-    by_test true = omega arith
-    by_test false = omega arith
 
 -- a number above 16 takes five bits
 pub five_bits : (bits : ℕ) → 16 < 2 ^ bits → 5 ≤ bits

@@ -4,7 +4,6 @@ use Rattle.std.proofs.lemmas.Grind.{common_steps}
 use Rattle.std.proofs.Math.Nat.{mod-eq_of_lt, add-mod_right}
 use Rattle.std.specs.Int.{bit_at}
 use Rattle.histories.specs.History.{is_raised, one_if}
-use Rattle.net_parts.specs.Growth.{fit_nets}
 use Rattle.command_nets.specs.Levels.{level_is, one_fits}
 use Rattle.mm_route.specs.Backward.{IsNextOwed}
 
@@ -122,11 +121,3 @@ owed_uncut room owed asked words next h few enough =
 
 pub three_are : (x y z a : ℕ) → x ≡ a → y ≡ 0 → z ≡ 0 → (x ∷ y ∷ z ∷ []) ≡ (a ∷ 0 ∷ 0 ∷ [])
 three_are x y z a e f g = cc
-
--- the most nets that fitting takes
-pub fits_in_two : (bits wanted : ℕ) → fit_nets bits wanted ≤ 2
-fits_in_two bits wanted = by_test (bits == wanted)
-  where
-    by_test : (t : Bool) → (if t then 0 else 2) ≤ 2
-    by_test true = omega arith
-    by_test false = omega arith

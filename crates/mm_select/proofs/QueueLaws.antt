@@ -4,18 +4,10 @@ use Rattle.std.proofs.lemmas.Nat.{pow-add, pow_pos, or_shifted}
 use Rattle.std.proofs.Math.Nat.{mul-add, mul-le-mul_left, mod-eq_of_lt, zero-div, zero-mod, add-mod_right, div-lt_iff_lt-mul, add-mul-mod_self_right, add-mul-div_right, div-eq_of_lt}
 use Rattle.std.proofs.Math.Pow.{pow_mono}
 use Rattle.histories.specs.History.{is_raised, one_if, only_if}
-use Rattle.net_parts.specs.Growth.{fit_nets}
 use Rattle.command_nets.specs.Levels.{level_is, one_fits, is_some}
 use Rattle.mm_select.specs.Queue.{AreDigits, HoldsOffsets}
 
 -- ---- nets
-
-pub fits_in_two : (bits wanted : ℕ) → fit_nets bits wanted ≤ 2
-fits_in_two bits wanted = by_test (bits == wanted)
-  where
-    by_test : (t : Bool) → (if t then 0 else 2) ≤ 2
-    by_test true = omega arith
-    by_test false = omega arith
 
 next_product : (w n : ℕ) → w * suc n ≡ w * n + w
 next_product w n = let same : suc n ≡ n + 1 = omega arith in let unit : w * 1 ≡ w = omega arith in ap (λ k. w * k) same ∙ mul-add w n 1 ∙ ap (λ k. w * n + k) unit

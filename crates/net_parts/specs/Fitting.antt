@@ -1,5 +1,5 @@
 -- A net in another width. No contract reads a proof of these.
-use Rattle.std.proofs.Common.{◌≡◌, ℕ, ◌+◌, ◌-◌, ◌*◌, ◌/◌, ◌%◌, ◌^◌, ◌<◌, ◌≤◌, refl, sym, ap, ◌∙◌, arith}
+use Rattle.std.proofs.Common.{◌≡◌, ℕ, Bool, true, false, if◌then◌else◌, ◌==◌, ◌+◌, ◌-◌, ◌*◌, ◌/◌, ◌%◌, ◌^◌, ◌<◌, ◌≤◌, refl, sym, ap, ◌∙◌, arith}
 use Rattle.std.proofs.lemmas.Bool.{ne_eqb}
 use Rattle.std.proofs.Math.Nat.{mod-eq_of_lt}
 use Rattle.std.proofs.Math.Pow.{pow_mono}
@@ -24,3 +24,11 @@ cut_low n wanted h =
 
 pub two_nets : (bits wanted : ℕ) → (bits ≡ wanted → ⊥) → 2 ≡ fit_nets bits wanted
 two_nets bits wanted other = rw (ne_eqb bits wanted other) refl
+
+-- fitting takes two nets at most
+pub fits_in_two : (bits wanted : ℕ) → fit_nets bits wanted ≤ 2
+fits_in_two bits wanted = by_test (bits == wanted)
+  where
+    by_test : (t : Bool) → (if t then 0 else 2) ≤ 2
+    by_test true = omega arith
+    by_test false = omega arith

@@ -4,7 +4,6 @@ use Rattle.std.proofs.Math.Nat.{mod-eq_of_lt, add-mod_right}
 use Rattle.std.proofs.Math.Dec.{eqb-suc-zero}
 use Rattle.std.proofs.lemmas.Bool.{lt-ltb, ltb-true}
 use Rattle.histories.specs.History.{one_if}
-use Rattle.net_parts.specs.Growth.{fit_nets}
 use Rattle.st_timing.specs.PromiseNets.{IsNextFree}
 
 one_high : (x : ℕ) → x < 2 → x ≡ one_if (x == 1)
@@ -32,14 +31,6 @@ free_counted bits free left again next promised unused goes one two three within
     let again_is = two (omega (arith, left_is, fits)) in
     let next_is = three (omega (arith, left_is, again_is, fits)) in
     omega (arith, left_is, again_is, next_is)
-
--- the most nets that fitting takes
-pub fits_in_two : (bits wanted : ℕ) → fit_nets bits wanted ≤ 2
-fits_in_two bits wanted = by_test (bits == wanted)
-  where
-    by_test : (t : Bool) → (if t then 0 else 2) ≤ 2
-    by_test true = omega arith
-    by_test false = omega arith
 
 -- some bit of a net is high where the net isn't 0
 pub high_above : (free ready : ℕ) → ready ≡ (if free == 0 then 0 else 1) → (ready == 1) ≡ nat_lt 0 free

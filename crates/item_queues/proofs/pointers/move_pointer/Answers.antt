@@ -1,9 +1,10 @@
 use Rattle.std.proofs.Common.{◌%◌, ◌^◌, ap, ◌∙◌, arith}
 use Rattle.netlist.specs.Runs.{Cycle, cycle_of}
 use Rattle.net_parts.specs.Laws.{bit_fits, extends_twice, adds_twice, grows_once, adds_grow, grows_fewer, grows_twice}
-use Rattle.item_queues.proofs.Counts.{moved, fits_in_two}
+use Rattle.item_queues.proofs.Counts.{moved}
 use Rattle.net_parts.specs.Refusing.{handed_on}
 use Rattle.item_queues.proofs.pointers.move_pointer.Goals as goal
+use Rattle.net_parts.specs.Fitting.{fits_in_two}
 
 pub returns-clause-value : goal.returns-clause-value
 returns-clause-value c run cycles r n lt =

@@ -3,8 +3,9 @@ use Rattle.netlist.specs.Runs.{Always}
 use Rattle.net_parts.specs.Laws.{if_ok, adds_fewer, adds_twice}
 use Rattle.command_nets.specs.Levels.{one_fits}
 use Rattle.mm_links.specs.Cutters.{beats_of}
-use Rattle.mm_burst.proofs.Levels.{count_ahead_is, above_one, fits_in_two}
+use Rattle.mm_burst.proofs.Levels.{count_ahead_is, above_one}
 use Rattle.mm_burst.proofs.shows.count_ahead.Goals as goal
+use Rattle.net_parts.specs.Fitting.{fits_in_two}
 
 pub constant-requires-clause-fits : goal.constant-requires-clause-fits
 constant-requires-clause-fits c = one_fits _ c.width-bits.ensures.bounds.0

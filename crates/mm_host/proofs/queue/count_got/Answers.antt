@@ -2,10 +2,11 @@ use Rattle.std.proofs.Common.{◌≡◌, ◌+◌, ◌<◌, ◌^◌, not, ◌&&�
 use Rattle.histories.specs.History.{is_raised, one_if}
 use Rattle.netlist.specs.Runs.{Always}
 use Rattle.net_parts.specs.Laws.{bit_fits, if_ok, adds_fewer, adds_twice, grows_once, extends_twice, net_lasts}
-use Rattle.mm_host.proofs.Levels.{got_counted, fits_in_two}
+use Rattle.mm_host.proofs.Levels.{got_counted}
 use Rattle.net_parts.specs.Refusing.{handed_on}
 use Rattle.net_parts.specs.Nets.{IsNetOfWidth}
 use Rattle.mm_host.proofs.queue.count_got.Goals as goal
+use Rattle.net_parts.specs.Fitting.{fits_in_two}
 
 pub returns-clause-value : goal.returns-clause-value
 returns-clause-value c =

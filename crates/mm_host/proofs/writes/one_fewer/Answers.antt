@@ -1,10 +1,11 @@
 use Rattle.std.proofs.Common.{◌≡◌, ◌-◌, arith, sym, ◌∙◌}
 use Rattle.netlist.specs.Runs.{Always}
 use Rattle.net_parts.specs.Laws.{width_fits, if_ok, extends_twice, adds_fewer, adds_twice, grows_once}
-use Rattle.mm_host.proofs.Levels.{fewer_is, fits_in_two}
+use Rattle.mm_host.proofs.Levels.{fewer_is}
 use Rattle.net_parts.specs.Refusing.{handed_on}
 use Rattle.net_parts.specs.Nets.{IsNetOfWidth}
 use Rattle.mm_host.proofs.writes.one_fewer.Goals as goal
+use Rattle.net_parts.specs.Fitting.{fits_in_two}
 
 pub returns-clause-value : goal.returns-clause-value
 returns-clause-value c =

@@ -4,8 +4,9 @@ use Rattle.netlist.specs.Runs.{Always}
 use Rattle.net_parts.specs.Laws.{if_ok, bit_fits, adds_fewer, adds_twice, extends_twice, net_lasts}
 use Rattle.net_parts.specs.Refusing.{handed_on}
 use Rattle.net_parts.specs.Nets.{IsNetOfWidth}
-use Rattle.mm_route.proofs.Levels.{asked_level, fits_in_two}
+use Rattle.mm_route.proofs.Levels.{asked_level}
 use Rattle.mm_route.proofs.next.asked_words.Goals as goal
+use Rattle.net_parts.specs.Fitting.{fits_in_two}
 
 pub returns-clause-value : goal.returns-clause-value
 returns-clause-value c =

@@ -5,8 +5,9 @@ use Rattle.net_parts.specs.Laws.{if_ok, bit_fits, adds_fewer, grows_once, adds_t
 use Rattle.net_parts.specs.Refusing.{handed_on}
 use Rattle.net_parts.specs.Nets.{IsNetOfWidth}
 use Rattle.mm_route.specs.Backward.{IsNextOwed}
-use Rattle.mm_route.proofs.Levels.{owed_level, fits_in_two}
+use Rattle.mm_route.proofs.Levels.{owed_level}
 use Rattle.mm_route.proofs.next.next_owed.Goals as goal
+use Rattle.net_parts.specs.Fitting.{fits_in_two}
 
 pub returns-clause-value : goal.returns-clause-value
 returns-clause-value c =

@@ -4,8 +4,9 @@ use Rattle.netlist.specs.Runs.{Always}
 use Rattle.net_parts.specs.Laws.{bit_fits, net_fits, if_ok, adds_fewer, adds_twice, grows_once}
 use Rattle.net_parts.specs.Refusing.{handed_on}
 use Rattle.command_nets.specs.Levels.{level_is}
-use Rattle.mm_select.proofs.QueueLaws.{fits_in_two, left_by}
+use Rattle.mm_select.proofs.QueueLaws.{left_by}
 use Rattle.mm_select.proofs.queue.left_count.Goals as goal
+use Rattle.net_parts.specs.Fitting.{fits_in_two}
 
 pub returns-in_err-some-clause-adds : goal.returns-in_err-some-clause-adds
 returns-in_err-some-clause-adds c =

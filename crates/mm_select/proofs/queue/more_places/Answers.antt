@@ -4,8 +4,9 @@ use Rattle.netlist.specs.Runs.{Always}
 use Rattle.net_parts.specs.Laws.{net_fits, extends_twice, if_ok, adds_fewer, adds_twice, grows_once}
 use Rattle.net_parts.specs.Refusing.{handed_on}
 use Rattle.command_nets.specs.Groups.{chosen_raised}
-use Rattle.mm_select.proofs.QueueLaws.{fits_in_two, added, index_fits, some_product, few_product}
+use Rattle.mm_select.proofs.QueueLaws.{added, index_fits, some_product, few_product}
 use Rattle.mm_select.proofs.queue.more_places.Goals as goal
+use Rattle.net_parts.specs.Fitting.{fits_in_two}
 
 pub returns-in_err-zeros-clause-adds : goal.returns-in_err-zeros-clause-adds
 returns-in_err-zeros-clause-adds c =

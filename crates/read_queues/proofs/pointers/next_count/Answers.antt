@@ -2,10 +2,11 @@ use Rattle.std.proofs.Common.{◌%◌, ◌^◌, ap, ◌∙◌, arith, sym}
 use Rattle.netlist.specs.Runs.{Always}
 use Rattle.net_parts.specs.Laws.{bit_fits, if_ok, adds_fewer, adds_twice, grows_once, extends_twice, net_lasts}
 use Rattle.read_queues.specs.Steps.{IsNextCount}
-use Rattle.read_queues.proofs.Levels.{next_counted, fits_in_two}
+use Rattle.read_queues.proofs.Levels.{next_counted}
 use Rattle.net_parts.specs.Nets.{IsNetOfWidth}
 use Rattle.net_parts.specs.Refusing.{handed_on}
 use Rattle.read_queues.proofs.pointers.next_count.Goals as goal
+use Rattle.net_parts.specs.Fitting.{fits_in_two}
 
 pub returns-clause-value : goal.returns-clause-value
 returns-clause-value c =

@@ -1,9 +1,10 @@
 use Rattle.std.proofs.Common.{◌%◌, ◌^◌, ◌≤◌, nat_lt, if◌then◌else◌, refl, sym, subst, ap, ◌∙◌, inl, inr, arith}
 use Rattle.net_parts.specs.Laws.{extends_twice, net_lasts, adds_grow, adds_twice, grows_once, grows_fewer, grows_twice}
 use Rattle.read_queues.specs.Held.{ArePointers, AreWordsHeld, pointers_last}
-use Rattle.read_queues.proofs.Levels.{fits_in_two, full_bit}
+use Rattle.read_queues.proofs.Levels.{full_bit}
 use Rattle.net_parts.specs.Refusing.{handed_on}
 use Rattle.read_queues.proofs.queue.hold_queue.Goals as goal
+use Rattle.net_parts.specs.Fitting.{fits_in_two}
 
 pub returns-in_err-words-clause-grows : goal.returns-in_err-words-clause-grows
 returns-in_err-words-clause-grows c = let few = fits_in_two c.word_bits.result c.args.tag_bits in grows_fewer _ _ _ _ (omega (arith, few)) (grows_twice _ _ _ _ _ (grows_twice _ _ _ _ _ c.hold_pointers.ensures.grows (adds_grow _ _ _ (adds_twice _ _ _ _ _ (adds_twice _ _ _ _ _ c.is_above.ensures.adds (grows_once _ _ c.read_memory.ensures.extends c.read_memory.ensures.grows)) c.fit_bits.ensures.adds))) c.hold_words.ensures.grows)

@@ -3,8 +3,9 @@ use Rattle.histories.specs.History.{one_if}
 use Rattle.netlist.specs.Runs.{Always}
 use Rattle.net_parts.specs.Laws.{bit_fits, if_ok, grows_once, adds_twice, adds_fewer}
 use Rattle.net_parts.specs.Refusing.{handed_on}
-use Rattle.st_timing.proofs.PromiseCounts.{more_counted, fits_in_two}
+use Rattle.st_timing.proofs.PromiseCounts.{more_counted}
 use Rattle.st_timing.proofs.promises.one_more.Goals as goal
+use Rattle.net_parts.specs.Fitting.{fits_in_two}
 
 pub returns-clause-value : goal.returns-clause-value
 returns-clause-value c =

@@ -4,7 +4,7 @@ use Rattle.netlist.specs.Nets.{NetValue}
 use Rattle.netlist.specs.Netlists.{Netlist, IsNet}
 use Rattle.netlist.specs.Longer.{Extends}
 use Rattle.mm_machines.specs.Machines.{Raw}
-use Rattle.net_parts.specs.Fitting.{fits_more}
+use Rattle.net_parts.specs.Fitting.{fits_more, fits_in_two}
 use Rattle.command_nets.specs.declared.nets.CommandNets.{CommandNets}
 use Rattle.command_nets.specs.Nets.{AreCommandNets, raw_in}
 use Rattle.command_nets.specs.Groups.{command_lasts}
@@ -13,7 +13,7 @@ use Rattle.mm_burst.specs.CutterNets.{IsCutter, address_bits}
 use Rattle.mm_burst.specs.Ways.{IsWay}
 use Rattle.mm_burst.specs.declared.cutter.Cutter.{Cutter}
 use Rattle.mm_burst.specs.Pieces.{Piece, reach_by, registers_of, held_in, HasRoom, piece_from, registers_last, piece_lasts}
-use Rattle.mm_burst.proofs.Levels.{exponent_is, reach_is, has_room, fits_in_two}
+use Rattle.mm_burst.proofs.Levels.{exponent_is, reach_is, has_room}
 use Rattle.std.proofs.lemmas.Bool.{eqb-true}
 use Rattle.mm_burst.proofs.cutter.CutterLink.emit_command.Goals as goal
 
