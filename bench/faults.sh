@@ -1,8 +1,8 @@
 #!/usr/bin/env bash
-# Lets each allocation of a `generate`, a `simulate` and a `campaign` fail in turn: faults.sh [PROGRAM]. Each run must end with
-# status 10 and write `no memory` and no byte of a result. While the words of the call are read there is no such line, and where
-# there is no room for all of them at once, it is asked for one by one: then the result is whole.
-# Needs cc and the C library of GNU. Not part of the gate.
+# Lets each allocation of a call of each command fail in turn: faults.sh [PROGRAM]. Each run must end with status 10 and write `no
+# memory` and no byte of a result. While the words of the call are read there is no such line, and where there is no room for all
+# of them at once, it is asked for one by one: then the result is whole.
+# Needs cc and the C library of GNU, since `rt try --fail-alloc` builds the program anew for each number. Not part of the gate.
 set -eu
 top=$(cd -- "$(dirname -- "$0")/.." && pwd)
 program=$(readlink -f -- "${1:-$top/bin/avalon}")
@@ -10,7 +10,8 @@ folder=$(mktemp -d)
 trap 'rm -rf "$folder"' EXIT
 cc -O2 -shared -fPIC -o "$folder/failing.so" "$top/bench/failing_alloc.c"
 cd "$folder"
-cp "$top"/examples/one/*.tcl .
+cp "$top"/examples/one/*.tcl "$top"/examples/replay/camera.{v,waves} "$top"/examples/dump/camera.vcd .
+cp "$top"/examples/bridge/{board.tcl,board.bytes,console.tcl,ram.tcl,leds.tcl} .
 cat >three.scenario <<END
 cycles 6
 beat gen.out 11 0 0 s 0
@@ -63,3 +64,12 @@ judge() {
 judge generate one.tcl gen.tcl chk.tcl
 judge simulate one.tcl three.scenario gen.tcl chk.tcl
 judge campaign 5 one.tcl gen.tcl chk.tcl
+judge check one.tcl gen.tcl chk.tcl
+judge replay camera.v camera.waves
+judge dump camera.v camera.waves
+judge undump camera.vcd
+judge bridge 400 board.tcl board.bytes console.tcl ram.tcl leds.tcl
+judge workload 1
+judge mux 2 3 8
+judge demux 2 3 8
+judge gather 2 2 2 8

@@ -1,6 +1,7 @@
 //! Tests of the definitions of runs, computed.
 #![tactic(auto)]
 
+pub mod closed;
 #[cfg(test)]
 mod operations;
 #[cfg(test)]
