@@ -1,5 +1,7 @@
-ghost use Rattle.std.specs.Prelude.{◌≡◌, map, drop, string_bytes};
+ghost use Rattle.std.specs.Prelude.{◌≡◌, ◌≢◌, [], map, drop, string_bytes, IfOk, IfErr};
+ghost use Rattle.std.specs.IoError.{error_kind};
 ghost use Rattle.std.specs.Process.{exit_status};
+ghost use Rattle.answer_lines.specs.declared.exit.Exit.TheVariants.{NoMemory};
 ghost use Rattle.answer_lines.specs.Lines.{status_of, line_of};
 ghost use Rattle.avalon_top.specs.Run.{Answers, IsRefusal, WritesLine};
 ghost use Rattle.avalon_top.specs.Ending.{unread, unwritten, reads_of, writes_of, IsStatusOf, IsEnd};
@@ -8,7 +10,7 @@ use crate::answer::run;
 use answer_lines::Exit;
 use av_files::{DirShelf, StdSink};
 use std::alloc::Global;
-use std::io::Write;
+use std::io::{ErrorKind, Write};
 use std::process::ExitCode;
 use std::rt::{Env, Files};
 use std::{env, io};
@@ -61,14 +63,23 @@ fn status_of_words<R: Files + Print + AllocGlobal>(rt: &R, all: &[String]) -> Ex
     code_of(&exit)
 }
 
+/// The status of a process whose words, behind its name, were read, or weren't for this error.
+fn status_of_read<R: Files + Print + AllocGlobal>(rt: &R, read: io::Result<Vec<String>>) -> ExitCode
+    ensures words { IfOk read (λ all. IsStatusOf (map string_bytes (drop 1 all.items)) (exit_status result)) }
+    ensures memory { IfErr read (λ error. error_kind error ≡ ErrorKind.OutOfMemory → exit_status result ≡ status_of NoMemory) }
+    ensures no_text { IfErr read (λ error. error_kind error ≢ ErrorKind.OutOfMemory → IsStatusOf [] (exit_status result)) }
+{
+    match read {
+        Ok(all) => status_of_words(rt, all.as_slice()),
+        Err(error) if error.kind() == ErrorKind::OutOfMemory => code_of(&Exit::NoMemory),
+        // A word that is no text has no reading, nor have the words that it stands among.
+        Err(_) => status_of_words(rt, &[]),
+    }
+}
+
 /// All of the program: it reads the words, runs them, and gives the status to end with.
 pub fn status_of_process<R: Env + Files + Print + AllocGlobal>(rt: &R) -> ExitCode
     ensures { IsEnd (exit_status result) }
 {
-    match all_words(rt) {
-        Ok(all) => status_of_words(rt, all.as_slice()),
-        Err(error) if error.kind() == io::ErrorKind::OutOfMemory => code_of(&Exit::NoMemory),
-        // A word that is no text has no reading, nor have the words that it stands among.
-        Err(_) => status_of_words(rt, &[]),
-    }
+    status_of_read(rt, all_words(rt))
 }
