@@ -217,11 +217,14 @@ class StreamEnd:
 
 
 class Source(StreamEnd):
-    """Presents its next beat in every cycle at ready latency 0, and above it in every ready cycle; a gap counts cycles."""
+    """Presents its next beat in every cycle at ready latency 0, and above it in every cycle in which its latency and its allowance let it,
+    whatever `ready` is in it; a gap counts cycles."""
 
     def __init__(self, name, end, pins, statements):
         super().__init__(name, end, pins)
         self.lately = deque([0] * end.latency())  # `ready` of the cycles before, the earliest first
+        self.late = end.most_late() if end.most_late() > end.latency() else None
+        self.came, self.since = 0, 0  # whether a ready cycle came, and how many beats were sent since `ready`
         self.steps = deque()
         for words in statements:
             self.steps.extend([None] * int(words[2]) if words[0] == "gap" else [self.beat(words)])
@@ -234,15 +237,23 @@ class Source(StreamEnd):
 
     def show(self, inputs, cycle):
         self.pins.set(inputs, valid=0, data=0, channel=0, error=0, empty=0, startofpacket=0, endofpacket=0)
-        if self.steps and self.steps[0] and (not self.lately or self.lately[0]):
+        if self.steps and self.steps[0] and self.may_send():
             self.pins.set(inputs, **self.steps[0])
 
+    def may_send(self):
+        if not self.lately:
+            return True
+        return self.lately[0] if self.late is None else (self.came or self.lately[0]) and self.since < self.late
+
     def told(self, cycle, levels):
-        if self.transfers(levels):
+        sent = self.transfers(levels)
+        if sent:
             yield self.line(cycle, "sent", levels)
-        self.lately.append(self.pins.read(levels, "ready", 1))
-        is_ready_cycle = self.lately.popleft()
-        if self.steps and (self.steps[0] is None or is_ready_cycle):
+        ready = self.pins.read(levels, "ready", 1)
+        self.lately.append(ready)
+        self.came |= self.lately.popleft()
+        self.since = 0 if ready else self.since + int(bool(sent))
+        if self.steps and (self.steps[0] is None or sent):
             self.steps.popleft()
 
 

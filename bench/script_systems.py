@@ -87,6 +87,10 @@ class End:
         """The ready latency of an end of a stream."""
         return self.number("readyLatency", 0) if self.has("ready") else 0
 
+    def most_late(self):
+        """How many beats may come after `ready` fell: the ready allowance of an end of a stream."""
+        return (self.number("readyAllowance", 0) or self.latency()) if self.has("ready") else 0
+
 
 def component_of(text):
     """The type of a component, and its ends."""

@@ -1,8 +1,8 @@
 #!/usr/bin/env python3
 """Runs two modules of streams.py side by side over random beats, by Icarus Verilog:
-stream_lockstep.py OURS THEIRS FOLDER LATENCY SYMBOLS FURTHER..
+stream_lockstep.py OURS THEIRS FOLDER PACE SYMBOLS FURTHER..
 
-The source has the ready latency and so many symbols in a beat, and keeps the rules: a beat stays until it is accepted, and packets begin and end.
+The source has the ready latency, as 1, or with its ready allowance, as 1+3, and so many symbols in a beat, and keeps the rules: a beat stays until it is accepted, and packets begin and end.
 Both ends are at times often there and at times seldom. Both modules must show the same in each cycle. What a beat shows counts where it is valid,
 and `empty` where it ends a packet. FURTHER are files with what THEIRS may be made of.
 """
@@ -11,6 +11,7 @@ import sys
 from pathlib import Path
 
 from lockstep import ports_of, random, renamed
+from streams import pace_of
 
 CYCLES = 40000
 START = ["  initial begin", "    #5 clk = 1; #1 reset = 0;"]
@@ -45,13 +46,15 @@ def drawn_beat(sizes, symbols):
     return lines
 
 
-def in_cycles(ports, sizes, latency, symbols):
+def in_cycles(ports, sizes, pace, symbols):
     """What the source shows goes to both, and it goes by the ready of ours."""
-    lines = ["module bench;", "  reg clk = 0, reset = 1, open = 0; reg [2:0] often_valid, often_ready; integer cycle, errors = 0, beats = 0;"]
-    lines += [f"  reg [{max(latency, 1) - 1}:0] promised = 0;"] + nets(ports)
+    latency, allowance = pace
+    lines = ["module bench;", "  reg clk = 0, reset = 1, open = 0, sent = 0; reg [2:0] often_valid, often_ready; integer cycle, errors = 0, beats = 0;"]
+    lines += [f"  reg [{max(latency, 1) - 1}:0] promised = 0; reg came = 0; integer since = 0;"] + nets(ports)
     lines += START + ["    " + line for line in drawn_beat(sizes, symbols)]
     lines += [f"    for (cycle = 0; cycle < {CYCLES}; cycle = cycle + 1) begin", MOOD]
-    may = f"promised[{latency - 1}] && " if latency else ""
+    due = f"promised[{latency - 1}]"
+    may = f"(came || {due}) && since < {allowance} && " if allowance > latency else f"{due} && " if latency else ""
     lines += [f"      out_valid = {may}($random & 7) <= often_valid;", "      into_ready = ($random & 7) <= often_ready;", "      #4 clk = 0;"]
     for way, _, name in ports:
         if way == "output":
@@ -61,9 +64,11 @@ def in_cycles(ports, sizes, latency, symbols):
             told = f'$display("cycle %0d: {name} %h %h", cycle, a_{name}, b_{name});'
             lines.append(f"      if ({when} && a_{name} !== b_{name}) begin errors = errors + 1; if (errors < 5) {told} end")
     lines.append("      beats = beats + (a_into_valid && into_ready);")
+    lines.append("      sent = out_valid;")
     lines.append(f"      if (out_valid{'' if latency else ' && a_out_ready'}) begin")
     lines += ["        " + line for line in drawn_beat(sizes, symbols)] + ["      end"]
-    lines += [f"      promised = {{promised, a_out_ready}};"] if latency else []
+    if latency:
+        lines += ["      since = a_out_ready ? 0 : since + sent;", f"      came = came || {due};", "      promised = {promised, a_out_ready};"]
     lines += CLOCK + ['    if (errors == 0 && beats > 1000) $display("same over %0d cycles, %0d beats", cycle, beats);']
     lines += ['    else $display("%0d differences, %0d beats", errors, beats);', "    $finish;", "  end", "endmodule"]
     return "\n".join(lines) + "\n"
@@ -71,12 +76,12 @@ def in_cycles(ports, sizes, latency, symbols):
 
 def main():
     ours, theirs, folder = Path(sys.argv[1]).read_text(), Path(sys.argv[2]).read_text(), Path(sys.argv[3])
-    latency, symbols = int(sys.argv[4]), int(sys.argv[5])
+    pace, symbols = pace_of(sys.argv[4]), int(sys.argv[5])
     ports = [port for port in ports_of(ours) if port[2] not in ("clk", "reset")]
     sizes = {flat(name): bits for _, bits, name in ports}
     (folder / "ours.v").write_text(renamed(ours, "ours"))
     (folder / "theirs.v").write_text(renamed(theirs, "theirs"))
-    (folder / "lockstep.v").write_text(in_cycles(ports, sizes, latency, symbols))
+    (folder / "lockstep.v").write_text(in_cycles(ports, sizes, pace, symbols))
     files = [folder / "lockstep.v", folder / "ours.v", folder / "theirs.v"] + sys.argv[6:]
     subprocess.run(["iverilog", "-g2005", "-s", "bench", "-o", folder / "lockstep"] + files, check=True)
     said = subprocess.run(["vvp", folder / "lockstep"], check=True, capture_output=True, text=True).stdout

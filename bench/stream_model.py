@@ -78,6 +78,19 @@ class ReadyBuffer(Holding):
         self.history = ([self.up] + self.history)[: self.latency]
 
 
+class AllowanceBuffer(Holding):
+    def __init__(self, allowance):
+        super().__init__()
+        self.places, self.allowance = allowance + 2, allowance
+
+    def backward(self, ready):
+        self.ready = ready
+        return int(len(self.held) + self.allowance < self.places)
+
+    def edge(self):
+        self.move(self.valid, self.places)
+
+
 class Fifo(Holding):
     def __init__(self, depth):
         super().__init__()
@@ -222,13 +235,17 @@ class End:
         sizes, *properties = word.split(",")
         self.symbols, self.bits = (int(number) for number in sizes.split("x"))
         self.low = self.packets = False
-        self.ready, self.empty, self.error, self.channel, self.largest = None, 0, 0, 0, 0
+        self.ready, self.allowance, self.empty, self.error, self.channel, self.largest = None, None, 0, 0, 0, 0
         for each in properties:
             name, _, number = each.partition("=")
             setattr(self, name, int(number) if number else True)
 
     def latency(self):
         return self.ready or 0
+
+    def most_late(self):
+        """How many beats may come after ready fell."""
+        return self.latency() if self.allowance is None else self.allowance
 
     def form(self):
         return self.symbols, self.low, self.channel, self.error, self.empty
@@ -246,7 +263,8 @@ def stages(source, sink, depth):
     """The stages from the source on, and the filter if it is one of them."""
     latency = source.latency()
     one_form = source.form() == sink.form() and source.largest <= sink.largest
-    if one_form and sink.ready is not None and depth == 0 and latency <= sink.ready:
+    strict = source.most_late() == latency
+    if one_form and sink.ready is not None and depth == 0 and strict and latency <= sink.ready:
         return [ReadyDelay(latency, sink.ready - latency)], None
     row, channel = [], None
     if source.largest > sink.largest:
@@ -254,6 +272,8 @@ def stages(source, sink, depth):
         row.append(channel)
     if sink.ready is None and sink.symbols % source.symbols == 0:
         row.append(TieReady())
+    elif not strict:
+        row.append(AllowanceBuffer(source.most_late()))
     elif latency:
         row.append(ReadyBuffer(latency))
     if sink.error and not source.error:
@@ -368,18 +388,21 @@ class Stretches:
 
 def window(source, sink, depth):
     """The cycles of a window of the stream."""
-    latency = max(source.latency(), sink.latency())
-    lag = source.symbols * (latency + 3) + sink.symbols * (depth + 3)
-    return 8 * (lag + 2 * latency + 8)
+    late = max(source.most_late(), sink.most_late())
+    lag = source.symbols * (late + 3) + sink.symbols * (depth + 3)
+    return 8 * (lag + 2 * late + 8)
 
 
 def step(source, sink, row, levels, cycles, beats, channel, still):
     """What came to the sink, in which cycles, how many beats were dropped, and when the source was first held back."""
     upstream, downstream, waited = [], [], 0
-    sent, came, times, dropped, held_back = 0, [], [], 0, None
+    sent, since, came, times, dropped, held_back = 0, 0, [], [], 0, None
+    latency, late = source.latency(), source.most_late()
     for cycle in range(cycles):
-        latency = source.latency()
-        may_show = latency == 0 or (cycle >= latency and upstream[cycle - latency])
+        if late > latency:
+            may_show = any(upstream[: max(0, cycle - latency + 1)]) and since < late
+        else:
+            may_show = latency == 0 or (cycle >= latency and upstream[cycle - latency])
         beat = beats[sent] if may_show and sent < len(beats) else None
         valid = shown = int(beat is not None)
         seen = beat
@@ -398,6 +421,7 @@ def step(source, sink, row, levels, cycles, beats, channel, still):
         dropped += channel.dropped if channel else 0
         if accepted:
             sent += 1
+        since = 0 if up else since + int(bool(accepted))
         if delivered:
             came.append(seen)
             times.append(cycle)

@@ -1,8 +1,8 @@
 #!/usr/bin/env python3
-"""Writes the scripts of a source and a sink, and what stands between them by hand: streams.py SOURCE SINK BITS LATENCY DEPTH KIND FOLDER.
+"""Writes the scripts of a source and a sink, and what stands between them by hand: streams.py SOURCE SINK BITS PACE DEPTH KIND FOLDER.
 
-SOURCE and SINK are the symbols of their beats, BITS those of a symbol. The source has the ready latency and the sink 0, and before the sink
-stands a queue of so many beats. The KIND is plain or packets. Written are stream.tcl, source.tcl, sink.tcl, and, where by_hand/streams.v has
+SOURCE and SINK are the symbols of their beats, BITS those of a symbol. The source has the ready latency, as 1, or with its ready allowance, as
+1+3, and the sink 0, and before the sink stands a queue of so many beats. The KIND is plain or packets. Written are stream.tcl, source.tcl, sink.tcl, and, where by_hand/streams.v has
 it, stream.v, which rests on that.
 """
 import sys
@@ -18,9 +18,18 @@ def ports_of(symbols, bits, packets):
     return ports
 
 
-def component(name, interface, direction, latency, bits, ports):
+def pace_of(word):
+    """The ready latency and the ready allowance."""
+    latency, _, allowance = word.partition("+")
+    return int(latency), int(allowance or latency)
+
+
+def component(name, interface, direction, pace, bits, ports):
+    latency, allowance = pace
     lines = [f"set_module_property NAME {name}", f"add_interface {interface} avalon_streaming {direction}"]
     lines += [f"set_interface_property {interface} dataBitsPerSymbol {bits}", f"set_interface_property {interface} readyLatency {latency}"]
+    if allowance > latency:
+        lines.append(f"set_interface_property {interface} readyAllowance {allowance}")
     for role, width in ports:
         way = "Output" if (role == "ready") == (direction == "end") else "Input"
         lines.append(f"add_interface_port {interface} {role} {role} {way} {width}")
@@ -44,8 +53,11 @@ def by_hand(ways, source_ports, sink_ports):
     return "\n".join(lines) + "\n"
 
 
-def between(source, sink, bits, latency, depth, packets, ins, outs):
+def between(source, sink, bits, pace, depth, packets, ins, outs):
     """What stands between them in the same cycles as ours, or nothing."""
+    latency, allowance = pace
+    if source == sink and allowance > latency and depth == 0:
+        return [instance("allowance_buffer", {"BITS": source * bits, "ALLOWANCE": allowance}, ins, outs)]
     if source == sink and latency > 0 and depth == 0:
         return [instance("ready_buffer", {"BITS": source * bits, "LATENCY": latency}, ins, outs)]
     if source == sink and latency == 0 and depth > 0:
@@ -62,7 +74,8 @@ def between(source, sink, bits, latency, depth, packets, ins, outs):
 
 
 def main():
-    source, sink, bits, latency, depth = (int(word) for word in sys.argv[1:6])
+    source, sink, bits = (int(word) for word in sys.argv[1:4])
+    pace, depth = pace_of(sys.argv[4]), int(sys.argv[5])
     packets, folder = sys.argv[6] == "packets", Path(sys.argv[7])
     source_ports, sink_ports = ports_of(source, bits, packets), ports_of(sink, bits, packets)
     ins = [(role, f"a$out${role}") for role, _ in source_ports]
@@ -70,11 +83,12 @@ def main():
     system = ["create_system stream", "add_instance a source", "add_instance b sink", "add_connection a.out b.into"]
     system.append(f"set_connection_parameter_value a.out/b.into fifoDepth {depth}")
     (folder / "stream.tcl").write_text("\n".join(system) + "\n")
-    (folder / "source.tcl").write_text(component("source", "out", "start", latency, bits, source_ports))
-    (folder / "sink.tcl").write_text(component("sink", "into", "end", 0, bits, sink_ports))
-    found = between(source, sink, bits, latency, depth, packets, ins, outs)
+    (folder / "source.tcl").write_text(component("source", "out", "start", pace, bits, source_ports))
+    (folder / "sink.tcl").write_text(component("sink", "into", "end", (0, 0), bits, sink_ports))
+    found = between(source, sink, bits, pace, depth, packets, ins, outs)
     if found:
         (folder / "stream.v").write_text(by_hand(found, source_ports, sink_ports))
 
 
-main()
+if __name__ == "__main__":
+    main()

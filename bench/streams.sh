@@ -64,6 +64,9 @@ if [ "${2:-}" = routed ]; then all_routed; exit; fi
 for latency in 1 8; do
   for bits in 8 32 128; do weigh "buffer, latency $latency, $bits bits" 1 1 $bits $latency 0 plain; done
 done
+for pace in 1+3 8+16; do
+  for bits in 8 32 128; do weigh "buffer, latency ${pace/+/, allowance }, $bits bits" 1 1 $bits $pace 0 plain; done
+done
 for places in 1 3 4 64; do
   for bits in 8 32 128; do weigh "queue of $places, $bits bits" 1 1 $bits 0 $places plain; done
 done

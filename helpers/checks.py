@@ -106,9 +106,18 @@ endmodule
             stands = f"{valid} && !{it.net('ready')}"
             it.holds(f"{{{valid}, {beat}}}", stands, "a beat changes, or goes, before it is accepted")
         elif has_ready:
-            was = self.register(it.own("was_ready"), latency)
-            it.rule(f"valid is high, and ready was low {latency} cycles before", f"{valid} && !{was + (f'[{latency - 1}]' if latency > 1 else '')}")
-            rest = f"{{{was}[{latency - 2}:0], {it.net('ready')}}}" if latency > 1 else it.net("ready")
+            was, ready = self.register(it.own("was_ready"), latency), it.net("ready")
+            due = was + (f"[{latency - 1}]" if latency > 1 else "")
+            allowance = it.interface.number("readyAllowance", 0) or latency
+            if allowance > latency:
+                came, since = self.register(it.own("came"), 1), self.register(it.own("since_ready"), 8)
+                late = f"ready wasn't high yet {latency} cycles before, or {allowance} beats came since it was"
+                it.rule(f"valid is high, and {late}", f"{valid} && !(({came} || {due}) && ({ready} || {since} < {allowance}))")
+                it.then(f"{came} <= {came} || {due};")
+                it.then(f"{since} <= {ready} ? 0 : {since} + {valid};")
+            else:
+                it.rule(f"valid is high, and ready was low {latency} cycles before", f"{valid} && !{due}")
+            rest = f"{{{was}[{latency - 2}:0], {ready}}}" if latency > 1 else ready
             it.then(f"{was} <= {rest};")
         if it.has("channel"):
             most = it.interface.number("maxChannel", 0)

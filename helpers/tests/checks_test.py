@@ -115,9 +115,12 @@ add_instance gen gen
 add_instance chk chk
 add_instance late late
 add_instance led led
+add_instance bold bold
+add_instance slow slow
 add_connection cpu.m ram.s
 add_connection gen.o chk.i
 add_connection late.o led.i
+add_connection bold.o slow.i
 """, """set_module_property NAME cpu
 add_interface m avalon host
 add_interface_port m a address Output 8
@@ -141,12 +144,12 @@ add_interface_port s rv readdatavalid Output 1
 """]
 
 
-def stream_end(name, interface, side, latency):
-    """A component with an end of a stream: packets of three symbols a beat on three channels."""
+def stream_end(name, interface, side, latency, allowance=0):
+    """A component with an end of a stream: packets of three symbols a beat on three channels. An allowance of 0 is the latency."""
     ways = ("Output", "Input") if side == "source" else ("Input", "Output")
     lines = [f"set_module_property NAME {name}", f"add_interface {interface} avalon_streaming {side}"]
     lines += [f"set_interface_property {interface} {key} {value}" for key, value in
-              (("readyLatency", latency), ("maxChannel", 2), ("symbolsPerBeat", 3))]
+              (("readyLatency", latency), ("readyAllowance", allowance), ("maxChannel", 2), ("symbolsPerBeat", 3))]
     lines += [f"add_interface_port {interface} {role} {role} {ways[role == 'ready']} {width}" for role, width in
               (("ready", 1), ("valid", 1), ("data", 24), ("channel", 2), ("startofpacket", 1), ("endofpacket", 1), ("empty", 2))]
     return "\n".join(lines) + "\n"
@@ -154,6 +157,7 @@ def stream_end(name, interface, side, latency):
 
 SYSTEM += [stream_end("gen", "o", "source", 0), stream_end("chk", "i", "sink", 0)]
 SYSTEM += [stream_end("late", "o", "source", 2), stream_end("led", "i", "sink", 2)]
+SYSTEM += [stream_end("bold", "o", "source", 1, 3), stream_end("slow", "i", "sink", 0)]
 
 SCENARIO = b"""cycles 60
 stall ram.s 0110
@@ -163,12 +167,13 @@ write cpu.m 20 f 5
 read cpu.m 20 f 1
 stall chk.i 01
 stall led.i 0001
+stall slow.i 11111110
 """
-for source in ("gen", "late"):
+for source in ("gen", "late", "bold"):
     for k, flags in enumerate("s - e se s - - e s - e se s - - e".split()):
         SCENARIO += f"beat {source}.o {k} 1 0 {flags} 0\n".encode()
 
-C, G, L, R = "cpu$m$", "gen$o$", "late$o$", "ram$s$"
+C, G, L, B, R = "cpu$m$", "gen$o$", "late$o$", "bold$o$", "ram$s$"
 WAITS = (lambda now, then: now[C + "write"] and now[C + "waitrequest"])
 BEGINS = (lambda now, then: not now[C + "write"] and then[C + "write"])
 STANDS = (lambda now, then: now[G + "valid"] and not now[G + "ready"])
@@ -199,6 +204,8 @@ FAULTS = [
      "source gen.o: empty isn't below the 3 symbols of a beat"),
     ("a beat without ready", lambda now, then: not now[L + "valid"] and not now[L + "ready"], 2, {L + "valid": 1},
      "source late.o: valid is high, and ready was low 2 cycles before"),
+    ("a beat too many", lambda now, then: now[B + "valid"] and not now[B + "ready"] and not then[B + "valid"] and not then[B + "ready"], 1,
+     {B + "valid": 1}, "source bold.o: valid is high, and ready wasn't high yet 1 cycles before, or 3 beats came since it was"),
 ]
 
 

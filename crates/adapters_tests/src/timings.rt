@@ -12,6 +12,7 @@ use std::alloc::Global;
 fn source(ready: bool, latency: u8) -> StreamPort
     ensures symbols { result.symbols ≡ 2 }
     ensures latency { result.latency ≡ latency }
+    ensures allowance { result.allowance ≡ latency }
 {
     StreamPort {
         symbols: 2,
@@ -34,6 +35,7 @@ fn sink(ready: bool, symbols: u8) -> StreamPort {
 fn nets_between(alloc: Global, source: &StreamPort, sink: &StreamPort) -> Result<u32, NetFault>
     requires symbols { source.now.symbols ≡ 2 }
     requires latency { source.now.latency ≤ 8 }
+    requires allowance { source.now.allowance ≡ source.now.latency }
 {
     nets_of(alloc, &timing_of(source, sink), 8)
 }

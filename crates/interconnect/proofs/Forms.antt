@@ -1,7 +1,7 @@
 -- The ends of each stream keep what a path rests on, and which of them are joined by a wire.
 use Rattle.std.proofs.Common.{◌≡◌, ℕ, ◌*◌, ◌≤◌, Bool, true, false, ◌&&◌, ◌||◌, not, refl, sym, subst, arith}
 use Rattle.std.specs.Prelude.{nat_le, nat_lt, ◌%◌, if◌then◌else◌, ◌==◌}
-use Rattle.std.proofs.lemmas.Bool.{and_parts, or_parts, eqb-true, leb-true, ltb-false, lt-ltb, false≢true}
+use Rattle.std.proofs.lemmas.Bool.{and_parts, or_parts, eqb-true, eq-eqb, leb-true, ltb-false, lt-ltb, false≢true}
 use Rattle.iface_roles.specs.declared.records.Finished.{Finished}
 use Rattle.iface_roles.specs.declared.records.Finished.TheVariants.{Source}
 use Rattle.iface_roles.specs.declared.records.StreamPort.{StreamPort}
@@ -13,8 +13,8 @@ use Rattle.link_rules.specs.declared.plan_links.StreamLink.{StreamLink}
 use Rattle.link_rules.specs.Links.{tests_as}
 use Rattle.link_rules.specs.PlanLinks.{IsStreamLink}
 use Rattle.stream_runs.specs.Ends.{Declared, AreAlike, pace_of}
-use Rattle.st_timing.specs.Ends.{declared}
-use Rattle.stream_path.specs.Joining.{IsStrict, FitsPorts, CanJoin}
+use Rattle.st_timing.specs.Ends.{declared, IsPaced}
+use Rattle.stream_path.specs.Joining.{FitsPorts, CanJoin}
 use Rattle.built_links.specs.Wires.{both_or_neither, has_same_beats, has_plain_ready, is_wire_stream}
 use Rattle.port_tables.specs.EndFacts.{IsPlanned}
 use Rattle.interconnect.proofs.StreamEnds.{connection_of, start_known, finish_known}
@@ -69,13 +69,26 @@ wire_is source sink fifo e =
 
 -- ---- what a stream of a plan keeps
 
-strict_is : (ready : Bool) (latency allowance : ℕ) → nat_lt 8 (if ready then latency else 0) ≡ false → not (allowance == latency) ≡ false
-    → IsStrict (if ready then record { latency = latency; allowance = allowance } else record { latency = 0; allowance = 0 })
-strict_is true latency allowance e f = record { short = ltb-false 8 latency e; strict = eqb-true allowance latency (not_false (allowance == latency) f) }
-strict_is false latency allowance e f = record { short = omega arith; strict = refl }
+not_both : (a b : Bool) → (a && b) ≡ false → a ≡ true → b ≡ false
+not_both true b e is = e
+not_both false b e is = absurd (false≢true is)
+
+paced_is : (ready : Bool) (latency allowance : ℕ) → (nat_lt 8 (if ready then latency else 0) || nat_lt 16 (if ready then allowance else 0)) ≡ false
+    → (if ready then nat_lt allowance latency || ((latency == 0) && nat_lt 0 allowance) else not (allowance == latency)) ≡ false
+    → IsPaced (if ready then record { latency = latency; allowance = allowance } else record { latency = 0; allowance = 0 })
+paced_is true latency allowance e f =
+    let most = or_parts _ _ e in
+    let least = or_parts _ _ f in
+    record {
+      short = ltb-false 8 latency most.0;
+      ordered = ltb-false allowance latency least.0;
+      few = ltb-false 16 allowance most.1;
+      direct = λ none. (let few = ltb-false 0 allowance (not_both (latency == 0) (nat_lt 0 allowance) least.1 (eq-eqb latency 0 none)) in omega (arith, few));
+    }
+paced_is false latency allowance e f = record { short = omega arith; ordered = omega arith; few = omega arith; direct = λ none. refl }
 
 -- what the ports of an end keep
-fits_is : (end : StreamPort) → IsBoundedStream end → end.symbols * end.symbol_bits ≤ 128 → IsStrict (pace_of (declared end)) → FitsPorts (declared end)
+fits_is : (end : StreamPort) → IsBoundedStream end → end.symbols * end.symbol_bits ≤ 128 → IsPaced (pace_of (declared end)) → FitsPorts (declared end)
 fits_is end ports small pace =
     record {
       some = ports.some;
@@ -122,10 +135,10 @@ can_join system number link h is source_bounded sink_bounded =
     (h.rules link.connection connection is.connection_is)) in
     let small = or_parts _ _ (tests 6) in
     let late = or_parts _ _ (tests 7) in
-    let strict = or_parts _ _ (tests 9) in
+    let odd = or_parts _ _ (tests 9) in
     record {
-      source_fits = fits_is source source_bounded (ltb-false 128 (source.symbols * source.symbol_bits) small.0) (strict_is source.ready source.latency source.allowance late.0 strict.0);
-      sink_fits = fits_is sink sink_bounded (ltb-false 128 (sink.symbols * sink.symbol_bits) small.1) (strict_is sink.ready sink.latency sink.allowance late.1 strict.1);
+      source_fits = fits_is source source_bounded (ltb-false 128 (source.symbols * source.symbol_bits) small.0) (paced_is source.ready source.latency source.allowance late.0 odd.0);
+      sink_fits = fits_is sink sink_bounded (ltb-false 128 (sink.symbols * sink.symbol_bits) small.1) (paced_is sink.ready sink.latency sink.allowance late.1 odd.1);
       symbol_bits = eqb-true source.symbol_bits sink.symbol_bits (not_false (source.symbol_bits == sink.symbol_bits) (tests 1));
       packets = same_flags source.packets sink.packets (tests 2);
       waits = λ no_ready.

@@ -192,8 +192,27 @@ latest = refl
 stream-other-clock : failing (stream_tests source sink false) ≡ 8 ∷ []
 stream-other-clock = refl
 
-other-allowance : failing (stream_tests source (record sink { allowance = 1 }) true) ≡ 9 ∷ []
-other-allowance = refl
+-- an allowance of some beats behind a ready latency, at the source and at the sink
+source-allowance : failing (stream_tests (record source { latency = 1; allowance = 3 }) sink true) ≡ []
+source-allowance = refl
+
+sink-allowance : failing (stream_tests source (record sink { latency = 1; allowance = 16 }) true) ≡ []
+sink-allowance = refl
+
+direct-allowance : failing (stream_tests (record source { allowance = 1 }) sink true) ≡ 9 ∷ []
+direct-allowance = refl
+
+direct-allowance-at-the-sink : failing (stream_tests source (record sink { allowance = 1 }) true) ≡ 9 ∷ []
+direct-allowance-at-the-sink = refl
+
+large-allowance : failing (stream_tests (record source { latency = 1; allowance = 17 }) sink true) ≡ 7 ∷ []
+large-allowance = refl
+
+small-allowance : failing (stream_tests (record source { latency = 2; allowance = 1 }) sink true) ≡ 9 ∷ []
+small-allowance = refl
+
+large-allowance-without-ready : failing (stream_tests source (record sink { ready = false; latency = 17; allowance = 17 }) true) ≡ []
+large-allowance-without-ready = refl
 
 other-allowance-without-ready : failing (stream_tests source (record sink { ready = false; allowance = 1 }) true) ≡ 9 ∷ []
 other-allowance-without-ready = refl

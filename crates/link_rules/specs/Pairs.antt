@@ -1,5 +1,5 @@
 -- The rules on pairs of ends. Each is a test that is true where the rule fails.
-use Rattle.std.specs.Prelude.{◌≡◌, ◌*◌, ◌%◌, ◌<◌, ℕ, zero, suc, Bool, false, ◌&&◌, ◌||◌, not, ◌==◌, nat_lt, List, [], ◌∷◌, IsTrue, slice_index_or}
+use Rattle.std.specs.Prelude.{◌≡◌, ◌*◌, ◌%◌, ◌<◌, ℕ, zero, suc, Bool, false, ◌&&◌, ◌||◌, not, ◌==◌, nat_lt, if◌then◌else◌, List, [], ◌∷◌, IsTrue, slice_index_or}
 use Rattle.iface_roles.specs.declared.records.HostPort.{HostPort}
 use Rattle.iface_roles.specs.declared.records.AgentPort.{AgentPort}
 use Rattle.iface_roles.specs.declared.records.StreamPort.{StreamPort}
@@ -70,19 +70,31 @@ has_other_errors source sink = nat_lt 0 source.error_bits && not (source.error_b
 abbrev pub is_too_long : StreamPort → StreamPort → Bool
 is_too_long source sink = nat_lt 128 (source.symbols * source.symbol_bits) || nat_lt 128 (sink.symbols * sink.symbol_bits)
 
--- S7: a ready latency above 8 at either end
-abbrev pub is_too_late : StreamPort → StreamPort → Bool
-is_too_late source sink = nat_lt 8 (ready_latency source) || nat_lt 8 (ready_latency sink)
+-- the ready allowance of an end; one without `ready` allows no beat
+abbrev pub ready_allowance : StreamPort → ℕ
+ready_allowance end = if end.ready then end.allowance else 0
 
--- S9: a `readyAllowance` other than `readyLatency` at either end
-abbrev pub has_other_allowance : StreamPort → StreamPort → Bool
-has_other_allowance source sink = not (source.allowance == source.latency) || not (sink.allowance == sink.latency)
+-- a ready latency above 8 or a ready allowance above 16
+abbrev pub is_late : StreamPort → Bool
+is_late end = nat_lt 8 (ready_latency end) || nat_lt 16 (ready_allowance end)
+
+-- S7: such a one at either end
+abbrev pub is_too_late : StreamPort → StreamPort → Bool
+is_too_late source sink = is_late source || is_late sink
+
+-- with `ready` a `readyAllowance` below the ready latency, or above it where that is 0; without it one other than `readyLatency`
+abbrev pub is_odd : StreamPort → Bool
+is_odd end = if end.ready then nat_lt end.allowance end.latency || ((end.latency == 0) && nat_lt 0 end.allowance) else not (end.allowance == end.latency)
+
+-- S9: such a one at either end
+abbrev pub has_odd_allowance : StreamPort → StreamPort → Bool
+has_odd_allowance source sink = is_odd source || is_odd sink
 
 -- the tests of a source and a sink by their numbers, from S1; S8 is an end on another clock than the system's
 abbrev pub stream_tests : StreamPort → StreamPort → Bool → List Bool
 stream_tests source sink same_clock = has_other_symbols source sink ∷ has_packets_at_one_end source sink ∷ loses_beats source sink
     ∷ joins_channels source sink ∷ has_other_errors source sink ∷ is_too_long source sink ∷ is_too_late source sink ∷ not same_clock
-    ∷ has_other_allowance source sink ∷ []
+    ∷ has_odd_allowance source sink ∷ []
 
 -- the test of this number, counted from 1, is true
 abbrev pub fails : List Bool → ℕ → Bool

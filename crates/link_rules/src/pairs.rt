@@ -7,14 +7,15 @@ ghost use Rattle.link_rules.specs.Pairs.{
   loses_beats,
   joins_channels,
   is_too_long,
-  is_too_late,
+  is_late,
+  is_odd,
   fails,
   KeepsAll,
   IsLeastFailing,
 };
 
 use iface_roles::{
-    AgentPort, Finished, HostPort, SinkPort, SourcePort, proper_records_are_bounded,
+    AgentPort, Finished, HostPort, SinkPort, SourcePort, StreamPort, proper_records_are_bounded,
 };
 
 /// Whether the rule of this number refuses the host and the agent.
@@ -67,6 +68,22 @@ fn is_too_long(source: &SourcePort, sink: &SinkPort) -> bool
         || u32::from(sink.symbols) * u32::from(sink.symbol_bits) > 128
 }
 
+fn is_late(end: &StreamPort) -> bool
+    ensures { result ≡ is_late end.now }
+{
+    end.ready_latency() > 8 || end.ready && end.allowance > 16
+}
+
+fn is_odd(end: &StreamPort) -> bool
+    ensures { result ≡ is_odd end.now }
+{
+    if end.ready {
+        end.allowance < end.latency || end.latency == 0 && end.allowance > 0
+    } else {
+        end.allowance != end.latency
+    }
+}
+
 /// Whether the rule of this number refuses the source and the sink.
 fn breaks_stream(source: &SourcePort, sink: &SinkPort, same_clock: bool, rule: u8) -> bool
     requires source { 1 ≤ source.now.symbols }
@@ -82,9 +99,9 @@ fn breaks_stream(source: &SourcePort, sink: &SinkPort, same_clock: bool, rule: u
         4 => source.channel_bits > 0 && !is_multiple(source.symbols, sink.symbols),
         5 => source.error_bits > 0 && source.error_bits != sink.error_bits,
         6 => is_too_long(source, sink),
-        7 => source.ready_latency() > 8 || sink.ready_latency() > 8,
+        7 => is_late(source) || is_late(sink),
         8 => !same_clock,
-        _ => source.allowance != source.latency || sink.allowance != sink.latency,
+        _ => is_odd(source) || is_odd(sink),
     }
 }
 

@@ -1,6 +1,5 @@
 -- All that stands in for components is legal.
-use Rattle.std.proofs.Common.{◌≡◌, ℕ, zero, suc, [], ◌∷◌, arith, ◌<◌, not, ◌==◌, List, length, slice_get, Some, refl, sym, ap, subst}
-use Rattle.std.proofs.lemmas.Bool.{or_parts, not-false, eqb-true}
+use Rattle.std.proofs.Common.{◌≡◌, ℕ, zero, suc, [], ◌∷◌, arith, ◌<◌, List, length, slice_get, Some, refl, sym, ap, subst}
 use Rattle.iface_roles.specs.declared.records.HostPort.{HostPort}
 use Rattle.iface_roles.specs.declared.records.AgentPort.{AgentPort}
 use Rattle.iface_roles.specs.declared.records.StreamPort.{StreamPort}
@@ -10,7 +9,7 @@ use Rattle.system_tables.specs.Tables.{SystemTable, IsSystem}
 use Rattle.address_map.specs.Footprints.{known_at}
 use Rattle.address_map.specs.Maps.{hosts_of, agents_of}
 use Rattle.link_rules.specs.declared.plan_links.StreamLink.{StreamLink}
-use Rattle.link_rules.specs.PlanLinks.{stream_links, IsHostEnd, IsAgentEnd, IsStreamLink, KeepsStreamRules}
+use Rattle.link_rules.specs.PlanLinks.{stream_links, IsHostEnd, IsAgentEnd}
 use Rattle.link_rules.specs.Plans.{PlanTable, IsPlan}
 use Rattle.netlist.specs.Netlists.{Netlist}
 use Rattle.netlist.specs.Runs.{Run}
@@ -61,7 +60,7 @@ abbrev pub AgentsAreLegal : Type 0
 AgentsAreLegal = (port : AgentPort) (script : List AgentStatement) (view : AgentView) (end : ℕ) → IsAgentStandIn port script view end → IsLegalAgent (agent_side port) view end
 
 abbrev pub SourcesAreLegal : Type 0
-SourcesAreLegal = (port : StreamPort) (script : List SourceStatement) (view : EndView) (end : ℕ) → port.allowance ≡ port.latency → IsSourceScript port script → IsSourceStandIn port script view end
+SourcesAreLegal = (port : StreamPort) (script : List SourceStatement) (view : EndView) (end : ℕ) → IsSourceScript port script → IsSourceStandIn port script view end
     → IsLegalSource (side_of (declared port)) view end
 
 -- ---- hosts and agents
@@ -96,16 +95,10 @@ legal_agent plan scenario netlist run end known legal is_plan fits simulated a b
 
 -- ---- sources
 
--- the ready allowance of a plan's source is its ready latency
-own_allowance : (plan : PlanTable) (s : ℕ) (link : StreamLink) → IsStreamLink plan.system s link → KeepsStreamRules plan.system link → link.source.allowance ≡ link.source.latency
-own_allowance plan s link is keeps =
-    let other = or_parts (not (link.source.allowance == link.source.latency)) _ (keeps is.connection is.connection_is 9) in
-    eqb-true link.source.allowance link.source.latency (not-false _ other.0)
-
 pub legal_source : (plan : PlanTable) (scenario : Scenario) (netlist : Netlist) (run : Run) (end : ℕ) → SourcesAreLegal → IsScenario plan.system scenario → IsSimulated plan scenario netlist run end
-    → (s : ℕ) (link : StreamLink) → slice_get (stream_links plan.system) s ≡ Some link → s < length (stream_links plan.system) → IsStreamLink plan.system s link → KeepsStreamRules plan.system link
+    → (s : ℕ) (link : StreamLink) → slice_get (stream_links plan.system) s ≡ Some link → s < length (stream_links plan.system)
     → IsLegalSource (side_of (declared link.source)) (stream_view plan.system netlist run link.source_end) end
-legal_source plan scenario netlist run end legal fits simulated s link at below is keeps =
+legal_source plan scenario netlist run end legal fits simulated s link at below =
     let script = has scenario.sources s (subst (λ (n : ℕ). s < n) (sym fits.sources) below) in
-    legal link.source script.item (stream_view plan.system netlist run link.source_end) end (own_allowance plan s link is keeps)
+    legal link.source script.item (stream_view plan.system netlist run link.source_end) end
     (fits.at_sources s link script.item at script.is) (simulated.sources s link script.item at script.is)

@@ -18,7 +18,7 @@ ghost use Rattle.simulated_runs.specs.Simulated.{IsSimulated, AreLegal, AreShown
 
 use agent_stand_ins::stand_in_agents_are_legal;
 use host_stand_ins::stand_in_hosts_are_legal;
-use link_rules::{ends_are_known, links_keep_rules, streams_are_numbered};
+use link_rules::ends_are_known;
 use stand_in_beginnings::stand_ins_by_beginnings;
 use stream_stand_ins::stand_in_sources_are_legal;
 
@@ -28,8 +28,6 @@ pub fn simulated_runs_are_legal()
         → IsSimulated plan scenario netlist run end → AreLegal plan netlist run end }
 {
     ends_are_known();
-    links_keep_rules();
-    streams_are_numbered();
     stand_in_hosts_are_legal();
     stand_in_agents_are_legal();
     stand_in_sources_are_legal();

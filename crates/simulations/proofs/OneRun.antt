@@ -20,7 +20,7 @@ use Rattle.netlist.specs.Netlists.{Netlist, IsModule, IsInputPort, width_at, dri
 use Rattle.netlist.specs.Runs.{Cycle, Run, cycle_of, IsValuation, SameInputs, SameState, SameNets, Steps}
 use Rattle.netlist.specs.Signals.{port_net}
 use Rattle.cycle_sim.specs.Standing.{IsFirst}
-use Rattle.stream_runs.specs.View.{EndView, Beat, AgreeBefore}
+use Rattle.stream_runs.specs.View.{EndView, Beat, AgreeBefore, is_ready_cycle}
 use Rattle.mm_runs.specs.Views.{HostView, levels_at}
 use Rattle.mm_runs.specs.Beginnings.{HostsAgree}
 use Rattle.mm_runs.specs.Moment.{Moment, AgentSees}
@@ -32,7 +32,7 @@ use Rattle.scenario_tables.specs.declared.scenario.Scenario.{Scenario}
 use Rattle.scenario_tables.specs.Scenarios.{IsHostAt, IsAgentAt}
 use Rattle.host_stand_ins.specs.Steps.{Step, all_steps, shown}
 use Rattle.host_stand_ins.specs.StandIns.{left_before}
-use Rattle.stream_stand_ins.specs.Steps.{next_beat}
+use Rattle.stream_stand_ins.specs.Steps.{next_beat, may_send}
 use Rattle.stream_stand_ins.specs.Sources.{Keeping, keeping_at, port_pace, beat_shown, no_beat}
 use Rattle.simulated_runs.specs.Ends.{stream_view}
 use Rattle.simulated_runs.specs.Simulated.{IsSimulated}
@@ -114,18 +114,21 @@ HostsKeepSteps = (steps : List Step) (one two : HostView) (end : ℕ) → HostsA
 abbrev pub SourcesKeepSteps : Type 0
 SourcesKeepSteps = (port : StreamPort) (script : List SourceStatement) (one two : EndView) (end : ℕ) → AgreeBefore one two end → keeping_at port script one end ≡ keeping_at port script two end
 
--- whether a beat may be shown depends on the cycles before alone
-same_leave : (latency c : ℕ) (one two : ℕ → ℕ) → ((k : ℕ) → k < c → one k ≡ two k)
-    → ((latency == 0) || (nat_le latency c && (one (c - latency) == 1))) ≡ ((latency == 0) || (nat_le latency c && (two (c - latency) == 1)))
-same_leave zero c one two same = refl
-same_leave (suc latency) c one two same = elim (cases_Bool (nat_le (suc latency) c)) [
-  | inl e ↦ (let soon = leb-true (suc latency) c e in ap (λ (level : ℕ). (suc latency == 0) || (nat_le (suc latency) c && (level == 1))) (same (c - suc latency) (omega arith)))
+-- whether a beat may be sent depends on the cycles before alone
+same_may : (latency allowance sent c : ℕ) (came : Bool) (one two : ℕ → ℕ) → ((k : ℕ) → k < c → one k ≡ two k)
+    → may_send (record { latency = latency; allowance = allowance }) came (nat_le latency c && (one (c - latency) == 1)) sent ≡ may_send (record { latency = latency; allowance = allowance }) came (nat_le latency c && (two (c - latency) == 1)) sent
+same_may zero allowance sent c came one two same = refl
+same_may (suc latency) allowance sent c came one two same = elim (cases_Bool (nat_le (suc latency) c)) [
+  | inl e ↦ (let soon = leb-true (suc latency) c e in ap (λ (level : ℕ). may_send (record { latency = suc latency; allowance = allowance }) came (nat_le (suc latency) c && (level == 1)) sent) (same (c - suc latency) (omega arith)))
   | inr e ↦ rw e refl
 ]
 
 same_beat : SourcesKeepSteps → (port : StreamPort) (script : List SourceStatement) (one two : EndView) (c : ℕ) → AgreeBefore one two c → beat_shown port script one c ≡ beat_shown port script two c
 same_beat keep port script one two c agree =
-    ap₂ next_beat (same_leave (port_pace port).latency c one.ready two.ready agree.ready) (ap (λ (keeping : Keeping). keeping.left) (keep port script one two c agree))
+    let pace = port_pace port in
+    let kept : Keeping = keeping_at port script one c in
+    ap (λ may. next_beat may kept.left) (same_may pace.latency pace.allowance kept.sent c kept.came one.ready two.ready agree.ready)
+    ∙ ap (λ (keeping : Keeping). next_beat (may_send pace keeping.came (is_ready_cycle pace two c) keeping.sent) keeping.left) (keep port script one two c agree)
 
 -- ---- one cycle more
 

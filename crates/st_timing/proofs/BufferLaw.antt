@@ -50,11 +50,11 @@ none_owed (suc n) view = refl
 
 -- ---- counts and tests
 
-with_true : (t : Bool) → (t && true) ≡ t
+pub with_true : (t : Bool) → (t && true) ≡ t
 with_true true = refl
 with_true false = refl
 
-count_only : (t : Bool) (item : List ℕ) → length (only_if t item) ≡ one_if t
+pub count_only : (t : Bool) (item : List ℕ) → length (only_if t item) ≡ one_if t
 count_only true item = refl
 count_only false item = refl
 

@@ -4,5 +4,6 @@ pub mod DelayLaw
 pub mod PromiseCounts
 pub mod QueueOf
 pub mod BufferLaw
+pub mod AllowanceLaw
 pub mod FewBits
 pub mod TimingLaw

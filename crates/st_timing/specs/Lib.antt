@@ -4,4 +4,5 @@ pub mod TransferNets
 pub mod DelayNets
 pub mod PromiseNets
 pub mod BufferNets
+pub mod AllowanceNets
 pub mod TimingNets

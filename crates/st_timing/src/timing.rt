@@ -1,12 +1,15 @@
 //! The front part of what lies between a source and a sink: it leads from the source's ready latency to 0. Ready is tied where
-//! the sink is always ready, a buffer stands behind a latency above 0, and else there is nothing.
+//! the sink is always ready, a buffer stands behind a latency above 0, a longer one where the allowance is above that, and else
+//! there is nothing.
 
 ghost use Rattle.std.specs.Prelude.{◌≡◌, ◌<◌, ◌≤◌, ℕ, Bool};
-ghost use Rattle.iface_roles.specs.Records.{ready_latency};
 ghost use Rattle.stream_runs.specs.View.{Side};
+ghost use Rattle.stream_runs.specs.Ends.{pace_of};
 ghost use Rattle.stream_machines.specs.Stage.{PassesAll};
+ghost use Rattle.st_timing.specs.Ends.{declared, IsPaced};
 ghost use Rattle.st_timing.specs.TimingNets.{IsTimingOf, timing_shape, LeadsToZero, timing_forward_nets, timing_backward_nets, timing_memories, timing_owns, timing_owns_memories, TimingKeeps, TimingForward, TimingBackward, timing_keeps_lasts, timing_forward_lasts, timing_backward_lasts};
 
+use crate::allowance::{AllowanceBuffer, AllowanceKept};
 use crate::buffer::{BufferKept, ReadyBuffer};
 use crate::tie::TieReady;
 use iface_roles::{SinkPort, SourcePort};
@@ -21,6 +24,7 @@ use stream_machines::stages::pass_is_a_stage;
 pub enum Timing {
     Tie(TieReady),
     Buffer(ReadyBuffer),
+    Allowance(AllowanceBuffer),
     Wire(Pass),
 }
 
@@ -30,27 +34,31 @@ pub enum TimingKept {
     /// Ready is tied.
     Tied,
     Buffered(BufferKept),
+    Allowed(AllowanceKept),
     /// The beat goes straight through.
     Straight,
 }
 
-/// The timing of a source and a sink whose ready latencies are at most 8. What delays ready to the sink's own latency stands
-/// last, behind all other stages, and isn't part of it.
+/// The timing of a source and a sink. What delays ready to the sink's own latency stands last, behind all other stages, and isn't
+/// part of it.
 pub fn timing_of(source: &SourcePort, sink: &SinkPort) -> Timing
     requires some { 1 ≤ source.now.symbols }
-    requires few { ready_latency source.now ≤ 8 }
+    requires pace { IsPaced (pace_of (declared source.now)) }
     ensures timing { IsTimingOf source.now sink.now result }
-    ensures leads { (passes : ℕ → Bool) (side : Side) → side.pace.latency ≡ ready_latency source.now → side.pace.allowance ≡ side.pace.latency
+    ensures leads { (passes : ℕ → Bool) (side : Side) → side.pace ≡ pace_of (declared source.now)
         → 0 < side.symbols → PassesAll passes side → LeadsToZero result passes side }
 {
     if !sink.ready && sink.symbols % source.symbols == 0 {
         return Timing::Tie(TieReady::new());
     }
     let latency = source.ready_latency();
-    if latency > 0 {
-        return Timing::Buffer(ReadyBuffer::new(latency));
+    if latency == 0 {
+        return Timing::Wire(Pass);
     }
-    Timing::Wire(Pass)
+    if source.allowance > latency {
+        return Timing::Allowance(AllowanceBuffer::new(latency, source.allowance));
+    }
+    Timing::Buffer(ReadyBuffer::new(latency))
 }
 
 impl Stage for Timing {
@@ -94,6 +102,10 @@ impl Stage for Timing {
                 let (to, kept) = stage.emit_forward(builder, from)?;
                 Ok((to, TimingKept::Buffered(kept)))
             }
+            Timing::Allowance(stage) => {
+                let (to, kept) = stage.emit_forward(builder, from)?;
+                Ok((to, TimingKept::Allowed(kept)))
+            }
             Timing::Wire(_) => Ok((from, TimingKept::Straight)),
         }
     }
@@ -109,6 +121,10 @@ impl Stage for Timing {
             TimingKept::Tied => TieReady::new().emit_backward(builder, Nothing, ready),
             TimingKept::Buffered(kept) => {
                 ReadyBuffer::new(kept.latency).emit_backward(builder, kept, ready)
+            }
+            TimingKept::Allowed(kept) => {
+                let buffer = kept.buffer;
+                buffer.emit_backward(builder, kept, ready)
             }
             TimingKept::Straight => Ok(ready),
         }

@@ -2,11 +2,11 @@
 use Rattle.std.proofs.Common.{◌≡◌, ℕ, zero, suc, ◌-◌, ◌<◌, ◌≤◌, ◌==◌, ◌||◌, ◌&&◌, Bool, nat_le, List, ◌∷◌, take, Option, is_some, unwrap_or, refl, sym, ap, ap₂, ◌∙◌, arith}
 use Rattle.histories.specs.History.{one_if}
 use Rattle.iface_roles.specs.declared.records.StreamPort.{StreamPort}
-use Rattle.stream_runs.specs.View.{EndView, Beat, Pace, AgreeBefore, beat_at, is_ready_cycle}
+use Rattle.stream_runs.specs.View.{EndView, Beat, Pace, AgreeBefore, beat_at, is_high, is_ready_cycle}
 use Rattle.scenario_tables.specs.declared.statements.SourceStatement.{SourceStatement}
 use Rattle.scenario_tables.specs.declared.statements.Pattern.{Pattern}
 use Rattle.stream_stand_ins.specs.Step.{Step}
-use Rattle.stream_stand_ins.specs.Steps.{steps_of, left_behind, left_before, next_beat}
+use Rattle.stream_stand_ins.specs.Steps.{Standing, steps_of, next_beat, may_send, goes_on, came_due, standing, left_before}
 use Rattle.stream_stand_ins.specs.Sources.{port_pace, no_beat, beat_shown, Shows, IsSourceStandIn, lately_ready, Keeping, keeping_at}
 use Rattle.stream_stand_ins.specs.Sinks.{IsSinkStandIn}
 
@@ -14,15 +14,23 @@ use Rattle.stream_stand_ins.specs.Sinks.{IsSinkStandIn}
 same_ready : (pace : Pace) (one two : EndView) (c : ℕ) → ((k : ℕ) → k ≤ c → one.ready k ≡ two.ready k) → is_ready_cycle pace one c ≡ is_ready_cycle pace two c
 same_ready pace one two c same = ap (λ (level : ℕ). nat_le pace.latency c && (level == 1)) (same (c - pace.latency) (omega arith))
 
-same_left : (pace : Pace) (steps : List Step) (one two : EndView) (c : ℕ) → ((k : ℕ) → k < c → one.ready k ≡ two.ready k) → left_before pace steps one c ≡ left_before pace steps two c
-same_left pace steps one two zero same = refl
-same_left pace steps one two (suc c) same =
-    ap₂ left_behind (same_ready pace one two c (λ k low. same k (omega arith))) (same_left pace steps one two c (λ k low. same k (omega arith)))
+same_came : (pace : Pace) (one two : EndView) (c : ℕ) → ((k : ℕ) → k < c → one.ready k ≡ two.ready k) → came_due pace one c ≡ came_due pace two c
+same_came pace one two zero same = refl
+same_came pace one two (suc c) same =
+    ap₂ (λ came due. came || due) (same_came pace one two c (λ k low. same k (omega arith))) (same_ready pace one two c (λ k low. same k (omega arith)))
+
+same_standing : (pace : Pace) (steps : List Step) (one two : EndView) (c : ℕ) → ((k : ℕ) → k < c → one.ready k ≡ two.ready k) → standing pace steps one c ≡ standing pace steps two c
+same_standing pace steps one two zero same = refl
+same_standing pace steps one two (suc c) same =
+    ap₂ (λ came due. goes_on pace came due (is_high one.ready c) (standing pace steps one c)) (same_came pace one two c (λ k low. same k (omega arith))) (same_ready pace one two c (λ k low. same k (omega arith)))
+    ∙ ap₂ (λ level (now : Standing). goes_on pace (came_due pace two c) (is_ready_cycle pace two c) (level == 1) now) (same c (omega arith)) (same_standing pace steps one two c (λ k low. same k (omega arith)))
 
 same_beat : (port : StreamPort) (script : List SourceStatement) (one two : EndView) (c : ℕ) → ((k : ℕ) → k ≤ c → one.ready k ≡ two.ready k) → beat_shown port script one c ≡ beat_shown port script two c
 same_beat port script one two c same =
-    ap₂ (λ (ready : Bool) (steps : List Step). next_beat (((port_pace port).latency == 0) || ready) steps)
-    (same_ready (port_pace port) one two c same) (same_left (port_pace port) (steps_of script) one two c (λ k low. same k (omega arith)))
+    let pace = port_pace port in
+    let before : (k : ℕ) → k < c → one.ready k ≡ two.ready k = λ k low. same k (omega arith) in
+    ap₂ (λ came due. next_beat (may_send pace came due (standing pace (steps_of script) one c).sent) (standing pace (steps_of script) one c).left) (same_came pace one two c before) (same_ready pace one two c same)
+    ∙ ap (λ (now : Standing). next_beat (may_send pace (came_due pace two c) (is_ready_cycle pace two c) now.sent) now.left) (same_standing pace (steps_of script) one two c before)
 
 shows_same : (one two : EndView) (c : ℕ) (beat other : Option Beat) → one.valid c ≡ two.valid c → beat_at one c ≡ beat_at two c → beat ≡ other → Shows one c beat → Shows two c other
 shows_same one two c beat other valid signals is shows = record {
@@ -45,5 +53,8 @@ same_lately one two (suc c) same =
 
 pub same_keeping : (port : StreamPort) (script : List SourceStatement) (one two : EndView) (end : ℕ) → AgreeBefore one two end → keeping_at port script one end ≡ keeping_at port script two end
 same_keeping port script one two end agree =
-    ap₂ (λ (left : List Step) (lately : List Bool). let kept : Keeping = record { latency = (port_pace port).latency; left = left; lately = lately } in kept)
-    (same_left (port_pace port) (steps_of script) one two end (λ k low. agree.ready k low)) (same_lately one two end (λ k low. agree.ready k low))
+    let pace = port_pace port in
+    ap₂ (λ (now : Standing) came. let kept : Keeping = record { pace = pace; left = now.left; sent = now.sent; came = came; lately = lately_ready one end } in kept)
+    (same_standing pace (steps_of script) one two end (λ k low. agree.ready k low)) (same_came pace one two end (λ k low. agree.ready k low))
+    ∙ ap (λ (lately : List Bool). let kept : Keeping = record { pace = pace; left = left_before pace (steps_of script) two end; sent = (standing pace (steps_of script) two end).sent; came = came_due pace two end; lately = lately } in kept)
+    (same_lately one two end (λ k low. agree.ready k low))

@@ -10,7 +10,7 @@ use Rattle.stream_runs.specs.Awake.{beats_with_room, beats_begun}
 or_neither : {a b : Bool} → a ≡ false → b ≡ false → (a || b) ≡ false
 or_neither {a} {b} p q = rw (p, q) refl
 
-held_within : (side : Side) (beat : Beat) → symbol_count side beat ≤ side.symbols
+pub held_within : (side : Side) (beat : Beat) → symbol_count side beat ≤ side.symbols
 held_within side beat = by_last (eqb beat.last 1)
   where
     by_last : (b : Bool) → cond b (side.symbols - beat.empty) side.symbols ≤ side.symbols

@@ -1,20 +1,21 @@
 -- Machines that hold beats whole keep the law of a stage.
-use Rattle.std.proofs.Common.{◌≡◌, ◌⊎◌, ℕ, zero, suc, ◌+◌, ◌-◌, ◌*◌, ◌≤◌, ◌<◌, Bool, true, false, cond, IsTrue, ◌&&◌, ◌||◌, List, [], ◌∷◌, ◌++◌, map, length, drop, refl, ap, sym, ◌∙◌, subst, inl, inr, arith, append_assoc, length-append, length-drop, eqb, nat_lt, nat_le}
+use Rattle.std.proofs.Common.{◌≡◌, ◌⊎◌, ℕ, zero, suc, ◌+◌, ◌*◌, ◌≤◌, ◌<◌, Bool, true, false, cond, IsTrue, ◌&&◌, ◌||◌, List, [], ◌∷◌, ◌++◌, map, length, drop, refl, ap, sym, ◌∙◌, subst, inl, inr, arith, append_assoc, length-append, length-drop, eqb, nat_lt}
 use Rattle.std.proofs.Math.Nat.{mul-le-mul_left}
 use Rattle.std.specs.List.{flat_map}
 use Rattle.std.proofs.lemmas.List.{append-nil}
 use Rattle.std.proofs.lemmas.List.Concat.{flat_map-append}
-use Rattle.std.proofs.lemmas.Bool.{cases_Bool, cases_lt, or_cases, eq-eqb, and_parts, and_from, and_left, and_right, or_left, or_right, cond-true, cond-false, eqb-true, both_ways, lt-ltb, le-ltb, leb-true, ltb-true, ne_eqb}
+use Rattle.std.proofs.lemmas.Bool.{cases_Bool, cases_lt, or_cases, eq-eqb, and_parts, and_from, and_left, and_right, or_left, or_right, cond-true, cond-false, eqb-true, both_ways, lt-ltb, le-ltb, ltb-true}
 use Rattle.stream_runs.specs.Laws.{shown_holds, joined_error_of_beat}
-use Rattle.stream_runs.specs.View.{Pace, EndView, Side, Beat, beat_at, is_high, is_transfer, is_stalled, is_ready_cycle}
+use Rattle.stream_runs.specs.View.{EndView, Side, Beat, beat_at, is_high, is_transfer, is_stalled}
 use Rattle.stream_runs.specs.Symbols.{Symbol, without_error, symbols_of, symbol_count, shown_symbols}
-use Rattle.stream_runs.specs.Source.{IsLegalSource, IsLegalAt, IsHeld, ShowsSame, was_ready, beats_since_ready, is_allowed_late}
+use Rattle.stream_runs.specs.Source.{IsLegalSource, IsHeld, ShowsSame}
 use Rattle.stream_runs.specs.Awake.{beats_begun}
 use Rattle.stream_machines.specs.Stage.{KeepsStageLaw, PassesReady, inside, is_at_rest, is_idle, ready_cycles}
 use Rattle.stream_machines.specs.Flow.{IsFlow, PassesOn, ShowsNext, kept_in, kept_shown}
 use Rattle.stream_machines.specs.Parts.{plain_run}
 use Rattle.stream_machines.specs.Buffers.{zero_pace, ShowsHeld, taken_now, HoldsBeats, buffer_shape, IsBufferRun, IsAllowanceRun, IsRegisterRun, IsQueueRun}
 use Rattle.stream_machines.specs.ReadyCycles.{one_if, ready_cycles_le, room}
+use Rattle.stream_machines.specs.Allowances.{since, since_within, still_leaves}
 use Rattle.stream_machines.proofs.FlowLaw.{no_rank, balance_of, inside_of}
 use Rattle.stream_machines.proofs.FlowKeeps.{flow_keeps}
 use Rattle.stream_machines.proofs.Direct.{direct_transfer, direct_ready, rests_with, idle_with, none_waits, ready_frees, kept_in_all, kept_shown_all}
@@ -298,58 +299,12 @@ register_keeps passes side up down held run direct positive all_pass =
 
 -- ---- the buffer behind a source with an allowance
 
--- how many beats came before the cycle since the last ready
-abbrev since : Pace → EndView → ℕ → ℕ
-since pace view zero = 0
-since pace view (suc c) = beats_since_ready pace view c
-
-since_next : (pace : Pace) (view : EndView) (c : ℕ) → beats_since_ready pace view c ≡ cond (is_high view.ready c) 0 (since pace view c + one_if (is_transfer pace view c))
-since_next pace view zero = ap (λ k. cond (is_high view.ready 0) 0 k) (zero_more (one_if (is_transfer pace view 0)))
-  where
-    zero_more : (k : ℕ) → k ≡ 0 + k
-    zero_more k = omega arith
-since_next pace view (suc c) = refl
-
 module _ (places : ℕ) (side : Side) (up down : EndView) (held : ℕ → List Beat) (run : IsAllowanceRun places side up down held) (delayed : 0 < side.pace.latency) (above : side.pace.latency < side.pace.allowance) (roomy : side.pace.allowance < places) where
-  -- a beat that comes is one of those that the allowance leaves
-  allowed : (c : ℕ) → IsLegalAt side up c → is_transfer side.pace up c ≡ true → beats_since_ready side.pace up c ≤ side.pace.allowance
-  allowed c legal moves =
-      let shown = (and_parts (is_high up.valid c) (nat_lt 0 side.pace.latency || is_high up.ready c) moves).0 in
-      let some_latency : eqb side.pace.latency 0 ≡ false = ne_eqb side.pace.latency 0 (λ e. omega arith) in
-      let second = subst (λ b. (b || cond (nat_lt side.pace.latency side.pace.allowance) (is_allowed_late side.pace up c) (is_ready_cycle side.pace up c)) ≡ true) some_latency (legal.paced.allowed shown) in
-      let third : is_allowed_late side.pace up c ≡ true = sym (cond-true (nat_lt side.pace.latency side.pace.allowance) (is_allowed_late side.pace up c) (is_ready_cycle side.pace up c) (lt-ltb side.pace.latency side.pace.allowance above)) ∙ second in
-      leb-true _ _ (last (nat_le side.pace.latency c) (was_ready up (c - side.pace.latency)) (nat_le (beats_since_ready side.pace up c) side.pace.allowance) third)
-    where
-      last : (a b d : Bool) → (a && b && d) ≡ true → d ≡ true
-      last true true d e = e
-      last true false d e = absurd (cc)
-      last false b d e = absurd (cc)
-
-  since_within : (c : ℕ) → IsLegalSource side up c → since side.pace up c ≤ side.pace.allowance
-  since_within zero legal = omega arith
-  since_within (suc c) legal = by_transfer (since_within c (λ b h. legal b (omega arith))) (is_transfer side.pace up c) refl (since_next side.pace up c) (is_high up.ready c)
-    where
-      by_transfer : since side.pace up c ≤ side.pace.allowance → (b : Bool) → is_transfer side.pace up c ≡ b → beats_since_ready side.pace up c ≡ cond (is_high up.ready c) 0 (since side.pace up c + one_if b) → (r : Bool) → beats_since_ready side.pace up c ≤ side.pace.allowance
-      by_transfer earlier true moves e r = allowed c (legal c (omega arith)) moves
-      by_transfer earlier false stays e r = by_ready (is_high up.ready c) e
-        where
-          by_ready : (q : Bool) → beats_since_ready side.pace up c ≡ cond q 0 (since side.pace up c + 0) → beats_since_ready side.pace up c ≤ side.pace.allowance
-          by_ready true f = omega (arith, f)
-          by_ready false f = omega (arith, f, earlier)
-
   -- the beats that are held leave places for all that the allowance still lets come
   leaves : (c : ℕ) → IsLegalSource side up c → length (held c) + side.pace.allowance ≤ places + since side.pace up c
   leaves zero legal = omega (arith, ap length run.holds.starts)
-  leaves (suc c) legal = by_ready (leaves c (λ b h. legal b (omega arith))) (is_high up.ready c) refl (since_next side.pace up c)
-    where
-      one_at_most : (b : Bool) → one_if b ≤ 1
-      one_at_most true = omega arith
-      one_at_most false = omega arith
-
-      by_ready : length (held c) + side.pace.allowance ≤ places + since side.pace up c → (r : Bool) → is_high up.ready c ≡ r
-          → beats_since_ready side.pace up c ≡ cond r 0 (since side.pace up c + one_if (is_transfer side.pace up c)) → length (held (suc c)) + side.pace.allowance ≤ places + beats_since_ready side.pace up c
-      by_ready earlier true asked e = let below : length (held c) + side.pace.allowance < places = ltb-true _ _ (sym (run.asks c) ∙ asked) in omega (arith, below, held_grows true side up down held run.holds c legal, one_at_most (is_transfer side.pace up c))
-      by_ready earlier false low e = omega (arith, earlier, held_grows true side up down held run.holds c legal, e)
+  leaves (suc c) legal =
+      still_leaves side up delayed above places (length (held c)) c (run.asks c) (leaves c (λ b h. legal b (omega arith))) (length (held (suc c))) (held_grows true side up down held run.holds c legal)
 
   asks_none : (c : ℕ) → held c ≡ [] → is_high up.ready c ≡ true
   asks_none c none = run.asks c ∙ lt-ltb (length (held c) + side.pace.allowance) places (omega (arith, ap length none))
@@ -357,7 +312,7 @@ module _ (places : ℕ) (side : Side) (up down : EndView) (held : ℕ → List B
   allowance_behaves : Behaves true places side up down held
   allowance_behaves =
       record {
-        few = λ c legal. omega (arith, leaves c legal, since_within c legal);
+        few = λ c legal. omega (arith, leaves c legal, since_within side up delayed above c legal);
         takes = λ c legal t none shown ready. and_from _ _ shown (or_left _ _ (lt-ltb 0 side.pace.latency delayed));
         rests = λ c legal none ready. asks_none c none;
         frees = λ c legal none low. ready_frees side.pace up c (asks_none c none);
@@ -395,6 +350,11 @@ pub ready_buffer_passes_ready : (passes : ℕ → Bool) (side : Side) (up down :
     → PassesReady (buffer_shape passes (side.pace.latency + 1) side) (plain_run up down)
 ready_buffer_passes_ready passes side up down held run strict c legal ready =
     asks_idle side up down held run strict c (λ b h. legal b (omega arith)) (stays_empty side up down held run.holds c (λ b h. legal b (omega arith)) (λ b h. ready b (omega arith)))
+
+pub allowance_buffer_passes_ready : (passes : ℕ → Bool) (places : ℕ) (side : Side) (up down : EndView) (held : ℕ → List Beat) → IsAllowanceRun places side up down held → 0 < side.pace.latency → side.pace.latency < side.pace.allowance → side.pace.allowance < places
+    → PassesReady (buffer_shape passes places side) (plain_run up down)
+allowance_buffer_passes_ready passes places side up down held run delayed above roomy c legal ready =
+    asks_none places side up down held run delayed above roomy c (stays_empty side up down held run.holds c (λ b h. legal b (omega arith)) (λ b h. ready b (omega arith)))
 
 -- ---- the queue
 

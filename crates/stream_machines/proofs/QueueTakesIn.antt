@@ -117,12 +117,12 @@ module _ (front rear : Shape) (one two : StageRun) (depth : ℕ) (held : ℕ →
 -- a stage before a queue with room for a source beat, behind which nothing is held, shows ready in a long enough window
 pub queue_takes_in : (front rear : Shape) (one two : StageRun) (depth : ℕ) (held : ℕ → List Beat) (count : ℕ) → KeepsStageLaw front one → IsQueueRun depth front.down one.down two.up held
     → KeepsStageLaw rear two → IsStill rear → rear.up ≡ direct_side front.down → ((channel : ℕ) → IsTrue (front.passes channel) → IsTrue (rear.passes channel))
-    → front.needs_ready ≡ false → front.down.pace.latency ≡ 0 → front.up.pace.allowance ≡ front.up.pace.latency → 0 < front.up.symbols → 0 < front.down.symbols
+    → front.needs_ready ≡ false → front.down.pace.latency ≡ 0 → front.up.pace.latency ≤ front.up.pace.allowance → 0 < front.up.symbols → 0 < front.down.symbols
     → IsLegalSource front.up one.up count → (start width : ℕ) → start + width ≤ count
-    → front.up.pace.latency + front.largest + (front.step + 1) * front.hold < width
+    → front.largest + (front.step + 1) * (front.hold + front.up.pace.allowance * front.up.symbols) < width
     → Throughout start width (λ c. beats_begun front.down.symbols (undelivered front.passes front.up rear.down one.up two.down c) + front.up.symbols ≤ depth)
     → Sometime start width (λ c. IsTrue (is_high one.up.ready c))
-queue_takes_in front rear one two depth held count keeps_front queue keeps_rear still same_side passed no_need direct strict some_up some_down legal start width h long room =
-    stage_accepts front one count (keeps_front.law count legal (λ need. absurd (both_ways _ no_need need))) legal strict start width h long
+queue_takes_in front rear one two depth held count keeps_front queue keeps_rear still same_side passed no_need direct ordered some_up some_down legal start width h long room =
+    stage_accepts front one count (keeps_front.law count legal (λ need. absurd (both_ways _ no_need need))) legal ordered start width h long
     (λ c from to. ready_at_once front.down.pace one.down c direct
     (queue_asks front rear one two depth held count keeps_front queue keeps_rear still same_side passed no_need direct some_down legal c (omega arith) (omega (arith, room c from to, some_up))))

@@ -1,5 +1,6 @@
 pub mod Stage
 pub mod ReadyCycles
+pub mod Allowances
 pub mod Flow
 pub mod Parts
 pub mod Windows

@@ -40,11 +40,11 @@ pub fn queue_takes_in()
         → KeepsStageLaw rear two → IsStill rear → rear.up ≡ direct_side front.down
         → ((channel : ℕ) → IsTrue (front.passes channel) → IsTrue (rear.passes channel))
         → front.needs_ready ≡ false → front.down.pace.latency ≡ 0
-        → front.up.pace.allowance ≡ front.up.pace.latency
+        → front.up.pace.latency ≤ front.up.pace.allowance
         → 0 < front.up.symbols → 0 < front.down.symbols
         → IsLegalSource front.up one.up count
         → (start width : ℕ) → start + width ≤ count
-        → front.up.pace.latency + front.largest + (front.step + 1) * front.hold < width
+        → front.largest + (front.step + 1) * (front.hold + front.up.pace.allowance * front.up.symbols) < width
         → Throughout start width
         (λ c. beats_begun front.down.symbols (undelivered front.passes front.up rear.down one.up two.down c) + front.up.symbols ≤ depth)
         → Sometime start width (λ c. IsTrue (is_high one.up.ready c)) }
@@ -123,6 +123,11 @@ pub fn buffer_is_a_stage()
         → side.pace.allowance < places
         → 0 < side.symbols → PassesAll passes side
         → KeepsStageLaw (buffer_shape passes places side) (plain_run up down) }
+    ensures allowance_ready { (passes : ℕ → Bool) (places : ℕ) (side : Side) (up down : EndView)
+        (held : ℕ → List Beat) → IsAllowanceRun places side up down held
+        → 0 < side.pace.latency → side.pace.latency < side.pace.allowance
+        → side.pace.allowance < places
+        → PassesReady (buffer_shape passes places side) (plain_run up down) }
 {}
 
 /// A register for one beat is a stage.

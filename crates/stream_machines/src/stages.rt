@@ -57,9 +57,9 @@ pub fn rank_keeps_awake()
         (λ c. IsTrue (makes_beat shape.down.symbols (undelivered shape.passes shape.up shape.down run.up run.down c)))
         → Sometime start width (λ c. IsTrue (is_transfer shape.down.pace run.down c)) }
     ensures accepts { (shape : Shape) (run : StageRun) (count : ℕ) → StageLaw shape run count
-        → IsLegalSource shape.up run.up count → shape.up.pace.allowance ≡ shape.up.pace.latency
+        → IsLegalSource shape.up run.up count → shape.up.pace.latency ≤ shape.up.pace.allowance
         → (start width : ℕ) → start + width ≤ count
-        → shape.up.pace.latency + shape.largest + (shape.step + 1) * shape.hold < width
+        → shape.largest + (shape.step + 1) * (shape.hold + shape.up.pace.allowance * shape.up.symbols) < width
         → Throughout start width (λ c. IsTrue (is_ready_cycle shape.down.pace run.down c))
         → Sometime start width (λ c. IsTrue (is_high run.up.ready c)) }
     ensures shows { (shape : Shape) (run : StageRun) (count : ℕ) → StageLaw shape run count

@@ -28,7 +28,7 @@ use Rattle.st_channel.specs.FilterNets.{IsFilterShape, compares, is_ready_wire}
 use Rattle.st_format.specs.declared.reorder.Reorder.{Reorder}
 use Rattle.st_format.specs.ReorderNets.{IsReorderShape}
 use Rattle.st_timing.specs.declared.timing.Timing.{Timing}
-use Rattle.st_timing.specs.declared.timing.Timing.TheVariants.{Tie, Buffer, Wire}
+use Rattle.st_timing.specs.declared.timing.Timing.TheVariants.{Tie, Buffer, Allowance, Wire}
 use Rattle.st_timing.specs.DelayNets.{IsDelayShape}
 use Rattle.st_timing.specs.TimingNets.{IsTimingOf, timing_shape, timing_memories, LeadsToZero}
 use Rattle.st_timing.specs.Ends.{declared}
@@ -182,21 +182,27 @@ joined_all source sink side same channel most = le-leb channel (joined_channel s
 
 -- ---- the filter and the stage to ready latency 0
 
-timing_holds : (timing : Timing) (shape : Shape) → timing_shape timing shape → shape.hold ≤ (shape.up.pace.latency + 1) * shape.up.symbols
+timing_holds : (timing : Timing) (shape : Shape) → timing_shape timing shape → shape.hold ≤ (shape.up.pace.allowance + 2) * shape.up.symbols
 timing_holds (Tie stage) shape has = let none : shape.hold ≡ 0 = ap (λ (s : Shape). s.hold) has.is in omega arith
-timing_holds (Buffer stage) shape has = let all : shape.hold ≡ (shape.up.pace.latency + 1) * shape.up.symbols = ap (λ (s : Shape). s.hold) has.is in omega arith
+timing_holds (Buffer stage) shape has =
+    let all : shape.hold ≡ (shape.up.pace.latency + 1) * shape.up.symbols = ap (λ (s : Shape). s.hold) has.is in
+    let fewer : (shape.up.pace.latency + 1) * shape.up.symbols ≤ (shape.up.pace.allowance + 2) * shape.up.symbols = mul-le-mul_right shape.up.symbols (let strict = has.strict in omega (arith, strict)) in
+    omega (arith, all, fewer)
+timing_holds (Allowance stage) shape has = let all : shape.hold ≡ (shape.up.pace.allowance + 2) * shape.up.symbols = ap (λ (s : Shape). s.hold) has.is in omega arith
 timing_holds (Wire stage) shape has = let none : shape.hold ≡ 0 = ap (λ (s : Shape). s.hold) has.is in omega arith
 
 -- the memories of a buffer's beats, and else none
 pub timing_few : (timing : Timing) → timing_memories timing ≤ 6
 timing_few (Tie stage) = omega arith
 timing_few (Buffer stage) = omega arith
+timing_few (Allowance stage) = omega arith
 timing_few (Wire stage) = omega arith
 
 -- behind ready latency 0 nothing is held
-timing_free : (source : StreamPort) (sink : StreamPort) (timing : Timing) (shape : Shape) → IsTimingOf source sink timing → timing_shape timing shape → ready_latency source ≡ 0 → shape.hold ≡ 0
+timing_free : (source : StreamPort) (sink : StreamPort) (timing : Timing) (shape : Shape) → IsTimingOf source sink timing → timing_shape timing shape → (pace_of (declared source)).latency ≡ 0 → shape.hold ≡ 0
 timing_free source sink (Tie stage) shape is has at_once = ap (λ (s : Shape). s.hold) has.is
-timing_free source sink (Buffer stage) shape is has at_once = absurd (let same = is.1 in let some = is.2 in omega (arith, same, some, at_once))
+timing_free source sink (Buffer stage) shape is has at_once = absurd (let same = is.latency_is in let some = stage.some in omega (arith, same, some, at_once))
+timing_free source sink (Allowance stage) shape is has at_once = absurd (let same = is.latency_is in let some = stage.some in omega (arith, same, some, at_once))
 timing_free source sink (Wire stage) shape is has at_once = ap (λ (s : Shape). s.hold) has.is
 
 not_true : (b : Bool) → not b ≡ true → b ≡ false
@@ -208,6 +214,7 @@ timing_needs : (source : StreamPort) (sink : StreamPort) (timing : Timing) (shap
 timing_needs source sink (Tie stage) shape is has needs =
     record { no_ready = not_true sink.ready (and_parts (not sink.ready) _ is).0; whole = eqb-true _ 0 (and_parts (not sink.ready) _ is).1 }
 timing_needs source sink (Buffer stage) shape is has needs = absurd (let none : shape.needs_ready ≡ false = ap (λ (s : Shape). s.needs_ready) has.is in cc)
+timing_needs source sink (Allowance stage) shape is has needs = absurd (let none : shape.needs_ready ≡ false = ap (λ (s : Shape). s.needs_ready) has.is in cc)
 timing_needs source sink (Wire stage) shape is has needs = absurd (let none : shape.needs_ready ≡ false = ap (λ (s : Shape). s.needs_ready) has.is in cc)
 
 abbrev pub pace_latency : Pace → ℕ
@@ -257,7 +264,7 @@ module _ (from : StreamPort) (to : StreamPort) (filter : ChannelFilter) (timing 
   late_is = ap (λ (s : Side). s.pace.latency) leads.up
 
   none_held : nat_lt 0 latency ≡ false → leads.shape.hold ≡ 0
-  none_held at_once = timing_free from to timing leads.shape is leads.has (let none : latency ≤ 0 = ltb-false 0 latency at_once in let same = pace_is from in omega (arith, none, same))
+  none_held at_once = timing_free from to timing leads.shape is leads.has (let none : latency ≤ 0 = ltb-false 0 latency at_once in omega (arith, none))
 
   step_none : (chain_shape gate leads.shape).step ≤ 0
   step_none = subst (λ n. (if nat_lt 0 n then leads.shape.step else (if nat_le leads.shape.hold 0 then 0 + leads.shape.step else 0 + leads.shape.step + 1)) ≤ 0) (sym late_is) (by_late (nat_lt 0 latency) refl)
@@ -282,7 +289,7 @@ module _ (from : StreamPort) (to : StreamPort) (filter : ChannelFilter) (timing 
     down_is = leads.down;
     test = refl;
     room = omega arith;
-    hold = subst (λ (s : Side). 0 + leads.shape.hold ≤ (s.pace.latency + 1) * s.symbols) leads.up (let most = timing_holds timing leads.shape leads.has in omega arith);
+    hold = subst (λ (s : Side). 0 + leads.shape.hold ≤ (s.pace.allowance + 2) * s.symbols) leads.up (let most = timing_holds timing leads.shape leads.has in omega arith);
     rest = (let none = leads.rest in omega (arith, none));
     step = step_none;
     largest = largest_few;
@@ -412,8 +419,8 @@ side_by_parts : (p p' : Pace) (b b' : ℕ) (k k' : Bool) (n m e : ℕ) (h : Bool
     → ◌≡◌ {A = Side} (record { pace = p; symbols = n; symbol_bits = b; first_high = h; packets = k; max_channel = m; error_bits = e }) (record { pace = p'; symbols = n; symbol_bits = b'; first_high = h; packets = k'; max_channel = m; error_bits = e })
 side_by_parts p p' b b' k k' n m e h q0 q1 q2 = rw (q0, q1, q2) refl
 
-pace_by_parts : (pace : Pace) (latency : ℕ) → latency ≡ pace.latency → pace.allowance ≡ pace.latency → ◌≡◌ {A = Pace} (record { latency = latency; allowance = latency }) pace
-pace_by_parts pace latency same strict = rw (same) (ap (λ (n : ℕ). record { latency = pace.latency; allowance = n }) (sym strict))
+strict_by : (latency other : ℕ) → latency ≡ other → ◌≡◌ {A = Pace} (record { latency = latency; allowance = latency }) (record { latency = other; allowance = other })
+strict_by latency other same = rw same refl
 
 no_latency : (end : Declared) → end.ready ≡ false → (pace_of end).latency ≡ 0
 no_latency end none = ap (λ (p : Pace). p.latency) (ap (λ (b : Bool). if b then record { latency = end.latency; allowance = end.allowance } else record { latency = 0; allowance = 0 }) none)
@@ -427,7 +434,7 @@ delay_part source sink latency cycles join at_once same =
     record {
       shape = wire_shape (joined_test source sink) (ordered source sink) (delayed_side (ordered source sink) cycles) 0 false;
       up_is = refl;
-      down_is = side_by_parts _ _ _ _ _ _ _ _ _ _ (pace_by_parts (pace_of sink) (0 + cycles) (omega (arith, same)) join.sink_fits.pace.strict) join.symbol_bits join.packets;
+      down_is = side_by_parts _ _ _ _ _ _ _ _ _ _ (strict_by (0 + cycles) (pace_of sink).latency (omega (arith, same))) join.symbol_bits join.packets;
       test = refl;
       room = omega arith;
       hold = omega arith;
@@ -444,31 +451,29 @@ delay_part source sink latency cycles join at_once same =
 larger_left : (a b : ℕ) → a ≤ max a b
 larger_left a b = omega arith
 
-lag_fits : (n m latency allowance depth : ℕ) → latency ≤ allowance → (latency + 1) * n + (n + m) + depth * m ≤ n * (allowance + 3) + m * (depth + 3)
-lag_fits n m latency allowance depth fewer =
-    let more : (latency + 2) * n ≤ (allowance + 3) * n = mul-le-mul_right n (omega arith) in
+lag_fits : (n m own allowance depth : ℕ) → own ≤ allowance → (own + 2) * n + (n + m) + depth * m ≤ n * (allowance + 3) + m * (depth + 3)
+lag_fits n m own allowance depth fewer =
+    let more : (own + 3) * n ≤ (allowance + 3) * n = mul-le-mul_right n (omega arith) in
     omega (arith, more)
 
-lag_within : (source sink : Declared) (depth : ℕ) → CanJoin source sink → queued_hold source sink depth ≤ stream_lag (stream_of source sink depth)
-lag_within source sink depth join =
+lag_within : (source sink : Declared) (depth : ℕ) → queued_hold source sink depth ≤ stream_lag (stream_of source sink depth)
+lag_within source sink depth =
     let larger : (pace_of source).allowance ≤ max (pace_of source).allowance (pace_of sink).allowance = larger_left (pace_of source).allowance (pace_of sink).allowance in
-    let strict = join.source_fits.pace.strict in
-    lag_fits source.symbols sink.symbols (pace_of source).latency (max (pace_of source).allowance (pace_of sink).allowance) depth (omega (arith, larger, strict))
+    lag_fits source.symbols sink.symbols (pace_of source).allowance (max (pace_of source).allowance (pace_of sink).allowance) depth larger
 
-window_fits : (n m latency allowance depth hold step largest : ℕ) → latency ≤ allowance → hold ≤ (latency + 1) * n + (n + m) + depth * m → step ≤ 3 → largest ≤ latency + n + 2 * m + 3 * (depth * m)
-    → latency + largest + (step + 1) * hold < 8 * (n * (allowance + 3) + m * (depth + 3) + 2 * allowance + 8)
-window_fits n m latency allowance depth hold step largest fewer held steps most =
-    let product : (step + 1) * hold ≤ 4 * ((latency + 1) * n + (n + m) + depth * m) = product_within (step + 1) 4 hold ((latency + 1) * n + (n + m) + depth * m) (omega (arith, steps)) held in
-    let more : latency * n ≤ allowance * n = mul-le-mul_right n fewer in
-    omega (arith, product, more, most, fewer)
+window_fits : (n m latency own allowance depth hold step largest : ℕ) → latency ≤ own → own ≤ allowance → hold ≤ (own + 2) * n + (n + m) + depth * m → step ≤ 3 → largest ≤ latency + n + 2 * m + 3 * (depth * m)
+    → largest + (step + 1) * (hold + own * n) < 8 * (n * (allowance + 3) + m * (depth + 3) + 2 * allowance + 8)
+window_fits n m latency own allowance depth hold step largest ordered fewer held steps most =
+    let product : (step + 1) * (hold + own * n) ≤ 4 * ((own + 2) * n + (n + m) + depth * m + own * n) = product_within (step + 1) 4 (hold + own * n) ((own + 2) * n + (n + m) + depth * m + own * n) (omega (arith, steps)) (omega (arith, held)) in
+    let more : own * n ≤ allowance * n = mul-le-mul_right n fewer in
+    omega (arith, product, more, most, ordered, fewer)
 
 -- a stage with such numbers stands still no longer than a window
 pub within_window : (source sink : Declared) (depth : ℕ) (shape : Shape) → CanJoin source sink → shape.hold ≤ queued_hold source sink depth → shape.step ≤ 3 → shape.largest ≤ (queued_bounds source sink depth).largest
-    → (pace_of source).latency + shape.largest + (shape.step + 1) * shape.hold < stream_window (stream_of source sink depth)
+    → shape.largest + (shape.step + 1) * (shape.hold + (pace_of source).allowance * source.symbols) < stream_window (stream_of source sink depth)
 within_window source sink depth shape join held steps most =
     let larger : (pace_of source).allowance ≤ max (pace_of source).allowance (pace_of sink).allowance = larger_left (pace_of source).allowance (pace_of sink).allowance in
-    let strict = join.source_fits.pace.strict in
-    window_fits source.symbols sink.symbols (pace_of source).latency (max (pace_of source).allowance (pace_of sink).allowance) depth shape.hold shape.step shape.largest (omega (arith, larger, strict)) held steps most
+    window_fits source.symbols sink.symbols (pace_of source).latency (pace_of source).allowance (max (pace_of source).allowance (pace_of sink).allowance) depth shape.hold shape.step shape.largest join.source_fits.pace.ordered larger held steps most
 
 module _ (source sink : Declared) (depth : ℕ) (has passing : Shape → Type 0) (join : CanJoin source sink) (front : LeadsOn source sink (side_of source) (at_sink source sink) (queued_bounds source sink depth) has passing) where
   leads_from : LeadsFrom source sink depth front.shape
@@ -477,7 +482,7 @@ module _ (source sink : Declared) (depth : ℕ) (has passing : Shape → Type 0)
     down = front.down_is;
     passes = front.test;
     room = front.room;
-    hold = (let held = front.hold in let most = lag_within source sink depth join in omega (arith, held, most));
+    hold = (let held = front.hold in let most = lag_within source sink depth in omega (arith, held, most));
     rest = (let few = front.rest in let some = join.sink_fits.some in omega (arith, few, some));
     window = within_window source sink depth front.shape join front.hold front.step front.largest;
     always_ready = front.always_ready;
@@ -515,7 +520,7 @@ module _ (source sink : Declared) (depth latency cycles : ℕ) (join : CanJoin s
   down =
       one_side (record { latency = (pace_of source).latency + cycles; allowance = (pace_of source).latency + cycles }) _ _ _ _ _ _ _ _ _ _ _ _
       enough.form.symbols enough.form.symbol_bits enough.form.first_high enough.form.packets enough.form.error_bits same_channel
-      ∙ ap (λ (p : Pace). record (at_sink source sink) { pace = p }) (pace_by_parts (pace_of sink) ((pace_of source).latency + cycles) (omega (arith, latency_is, cycles_are)) join.sink_fits.pace.strict)
+      ∙ ap (λ (p : Pace). record (at_sink source sink) { pace = p }) (strict_by ((pace_of source).latency + cycles) (pace_of sink).latency (omega (arith, latency_is, cycles_are)))
 
   pub delay_front : LeadsOn source sink (side_of source) (at_sink source sink) (queued_bounds source sink depth) (IsDelayShape latency cycles) (DelayPasses latency cycles)
   delay_front = record {
@@ -529,7 +534,7 @@ module _ (source sink : Declared) (depth latency cycles : ℕ) (join : CanJoin s
     step = omega arith;
     largest = omega arith;
     always_ready = λ needs. absurd (cc);
-    keeps = record { is = refl; behind = sym latency_is; strict = join.source_fits.pace.strict; some = join.source_fits.some; passes = joined_all source sink (side_of source) same_channel };
+    keeps = record { is = refl; behind = sym latency_is; strict = enough.strict; some = join.source_fits.some; passes = joined_all source sink (side_of source) same_channel };
     passes = λ whole. absurd (let has = enough.ready in let none = whole.no_ready in cc);
   }
 

@@ -28,8 +28,8 @@ same_undelivered passes test source up sink down from to c same_test same_up sam
 abbrev pub QueueTakesIn : Type 0
 QueueTakesIn =
     (front rear : Shape) (one two : StageRun) (depth : ℕ) (held : ℕ → List Beat) (count : ℕ) → KeepsStageLaw front one → IsQueueRun depth front.down one.down two.up held → KeepsStageLaw rear two → IsStill rear → rear.up ≡ direct_side front.down
-    → ((channel : ℕ) → IsTrue (front.passes channel) → IsTrue (rear.passes channel)) → front.needs_ready ≡ false → front.down.pace.latency ≡ 0 → front.up.pace.allowance ≡ front.up.pace.latency → 0 < front.up.symbols → 0 < front.down.symbols
-    → IsLegalSource front.up one.up count → (start width : ℕ) → start + width ≤ count → front.up.pace.latency + front.largest + (front.step + 1) * front.hold < width
+    → ((channel : ℕ) → IsTrue (front.passes channel) → IsTrue (rear.passes channel)) → front.needs_ready ≡ false → front.down.pace.latency ≡ 0 → front.up.pace.latency ≤ front.up.pace.allowance → 0 < front.up.symbols → 0 < front.down.symbols
+    → IsLegalSource front.up one.up count → (start width : ℕ) → start + width ≤ count → front.largest + (front.step + 1) * (front.hold + front.up.pace.allowance * front.up.symbols) < width
     → Throughout start width (λ c. beats_begun front.down.symbols (undelivered front.passes front.up rear.down one.up two.down c) + front.up.symbols ≤ depth) → Sometime start width (λ c. IsTrue (is_high one.up.ready c))
 
 module _ (source sink : Declared) (depth places : ℕ) (fronts passing rears rears_passing : Shape → Type 0) (shows queued_shows : Type 0) (join : CanJoin source sink) (same : places ≡ depth)
@@ -68,8 +68,8 @@ module _ (source sink : Declared) (depth places : ℕ) (fronts passing rears rea
     needs_ready = free;
   }
 
-  fits : front.shape.up.pace.latency + front.shape.largest + (front.shape.step + 1) * front.shape.hold < stream_window (stream_of source sink depth)
-  fits = subst (λ (s : Side). s.pace.latency + front.shape.largest + (front.shape.step + 1) * front.shape.hold < stream_window (stream_of source sink depth)) (sym front.up_is)
+  fits : front.shape.largest + (front.shape.step + 1) * (front.shape.hold + front.shape.up.pace.allowance * front.shape.up.symbols) < stream_window (stream_of source sink depth)
+  fits = subst (λ (s : Side). front.shape.largest + (front.shape.step + 1) * (front.shape.hold + s.pace.allowance * s.symbols) < stream_window (stream_of source sink depth)) (sym front.up_is)
       (within_window source sink depth front.shape join (let held = front.hold in omega (arith, held)) (let few = front.step in omega (arith, few)) (let few = front.largest in omega (arith, few)))
 
   pub takes_in : QueueTakesIn → (netlist : Netlist) (from : BeatNets) (made : StreamNets) (ready : NetValue) → HasQueue fronts places rears netlist from made.ready made.beat ready → whole.shape.needs_ready ≡ false
@@ -86,7 +86,7 @@ module _ (source sink : Declared) (depth places : ℕ) (fronts passing rears rea
       one.keeps row.1 two.keeps (is_still none.1) (rear.up_is ∙ ap direct_side (sym front.down_is))
       (λ channel h. subst (λ (p : ℕ → Bool). IsTrue (p channel)) (front.test ∙ sym rear.test) h)
       none.0 direct
-      (subst (λ (s : Side). s.pace.allowance ≡ s.pace.latency) (sym front.up_is) join.source_fits.pace.strict)
+      (subst (λ (s : Side). s.pace.latency ≤ s.pace.allowance) (sym front.up_is) join.source_fits.pace.ordered)
       (subst (λ (s : Side). 0 < s.symbols) (sym front.up_is) join.source_fits.some)
       (subst (λ (s : Side). 0 < s.symbols) (sym front.down_is) join.sink_fits.some)
       (subst (λ (s : Side). IsLegalSource s up count) (sym front.up_is) legal)

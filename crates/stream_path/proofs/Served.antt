@@ -11,6 +11,7 @@ use Rattle.stream_runs.specs.Awake.{Throughout, Sometime, stream_window, undeliv
 use Rattle.stream_runs.specs.Ends.{Declared, side_of, stream_of}
 use Rattle.stream_runs.specs.Laws.{kept_more}
 use Rattle.stream_machines.specs.Stage.{Shape, StageRun, StageLaw, KeepsStageLaw}
+use Rattle.stream_machines.specs.Allowances.{allowed_by_larger}
 use Rattle.stage_core.specs.Law.{ReadyPasses}
 use Rattle.stream_path.specs.Joining.{TakesWhole, CanJoin}
 use Rattle.stream_path.specs.Between.{LeadsFrom, TakesIn, at_sink, joined_test, joined_channel}
@@ -24,8 +25,8 @@ pub record RankLaw : Type 0 where
       → Throughout start width (λ c. IsTrue (is_ready_cycle shape.down.pace run.down c))
       → Throughout start width (λ c. IsTrue (makes_beat shape.down.symbols (undelivered shape.passes shape.up shape.down run.up run.down c)))
       → Sometime start width (λ c. IsTrue (is_transfer shape.down.pace run.down c))
-  pub accepts : (shape : Shape) (run : StageRun) (count : ℕ) → StageLaw shape run count → IsLegalSource shape.up run.up count → shape.up.pace.allowance ≡ shape.up.pace.latency → (start width : ℕ) → start + width ≤ count
-      → shape.up.pace.latency + shape.largest + (shape.step + 1) * shape.hold < width
+  pub accepts : (shape : Shape) (run : StageRun) (count : ℕ) → StageLaw shape run count → IsLegalSource shape.up run.up count → shape.up.pace.latency ≤ shape.up.pace.allowance → (start width : ℕ) → start + width ≤ count
+      → shape.largest + (shape.step + 1) * (shape.hold + shape.up.pace.allowance * shape.up.symbols) < width
       → Throughout start width (λ c. IsTrue (is_ready_cycle shape.down.pace run.down c))
       → Sometime start width (λ c. IsTrue (is_high run.up.ready c))
   pub shows : (shape : Shape) (run : StageRun) (count : ℕ) → StageLaw shape run count → shape.rest < shape.down.symbols → shape.down.pace.latency ≡ 0 → (start width : ℕ) → start + width ≤ count → shape.largest < width
@@ -127,7 +128,8 @@ module _ (source sink : Declared) (depth : ℕ) (shape : Shape) (up down : EndVi
           (same_kept (suc c) lt) (at_sink_ports.errors some c lt moves);
     };
     lags = λ c le. subst (λ (xs : List Symbol). length xs ≤ length (delivered_symbols (side_of sink) (at_ports sink down) c) + stream_lag (stream_of source sink depth)) (same_kept c le) (let few = lags_at_sink c le in let most = leads.hold in omega (arith, few, most));
-    proper = proper_at_ports sink down (side_of sink) count (λ c lt. record { allowed = (legal_down c lt).paced.allowed; held = (legal_down c lt).paced.held });
+    proper = proper_at_ports sink down (side_of sink) count
+        (λ c lt. record { allowed = allowed_by_larger (side_of sink).pace down count join.sink_fits.pace.ordered (λ k below. (legal_down k below).paced.allowed) c lt; held = (legal_down c lt).paced.held });
     drops = λ c lt. shows c lt ∙ ap (λ n. is_transfer (side_of source).pace up c && nat_lt n (up.channel c)) (sym sink_channel);
   }
 
@@ -161,7 +163,7 @@ module _ (source sink : Declared) (depth : ℕ) (shape : Shape) (up down : EndVi
           delivers = λ start le asked full.
               subst (λ (pace : Pace). Sometime start window (λ c. IsTrue (is_transfer pace down c))) down_pace
               (laws.delivers shape stage_run count law rest_fits start window le largest_fits (λ c after below. asked_of_stage c (asked c after below)) (λ c after below. full_of_stage c (omega (arith, le, below)) (full c after below)));
-          accepts = λ start le asked. laws.accepts shape stage_run count law legal_up strict start window le whole_fits (λ c after below. asked_of_stage c (asked c after below));
+          accepts = λ start le asked. laws.accepts shape stage_run count law legal_up ordered start window le whole_fits (λ c after below. asked_of_stage c (asked c after below));
           takes_in = λ start le room. by_needs start le room shape.needs_ready refl;
           shows = λ at_once start le full.
               laws.shows shape stage_run count law rest_fits (ap (λ (pace : Pace). pace.latency) down_pace ∙ at_once) start window le largest_fits (λ c after below. full_of_stage c (omega (arith, le, below)) (full c after below));
@@ -173,11 +175,11 @@ module _ (source sink : Declared) (depth : ℕ) (shape : Shape) (up down : EndVi
         rest_fits : shape.rest < shape.down.symbols
         rest_fits = subst (λ (s : Side). shape.rest < s.symbols) (sym leads.down) leads.rest
 
-        strict : shape.up.pace.allowance ≡ shape.up.pace.latency
-        strict = subst (λ (s : Side). s.pace.allowance ≡ s.pace.latency) (sym leads.up) join.source_fits.pace.strict
+        ordered : shape.up.pace.latency ≤ shape.up.pace.allowance
+        ordered = subst (λ (s : Side). s.pace.latency ≤ s.pace.allowance) (sym leads.up) join.source_fits.pace.ordered
 
-        whole_fits : shape.up.pace.latency + shape.largest + (shape.step + 1) * shape.hold < window
-        whole_fits = subst (λ (s : Side). s.pace.latency + shape.largest + (shape.step + 1) * shape.hold < window) (sym leads.up) leads.window
+        whole_fits : shape.largest + (shape.step + 1) * (shape.hold + shape.up.pace.allowance * shape.up.symbols) < window
+        whole_fits = subst (λ (s : Side). shape.largest + (shape.step + 1) * (shape.hold + s.pace.allowance * s.symbols) < window) (sym leads.up) leads.window
 
         largest_fits : shape.largest < window
         largest_fits = let most = leads.window in omega (arith, most)

@@ -12,6 +12,7 @@ use Rattle.stream_runs.specs.Ends.{Declared, pace_of, side_of, stream_of}
 use Rattle.stream_machines.specs.Buffers.{direct_side}
 use Rattle.stream_machines.specs.Stage.{Shape}
 use Rattle.stream_machines.specs.Wires.{filtered_side, with_error_bits}
+use Rattle.stream_machines.specs.Allowances.{strict_pace}
 use Rattle.stage_core.specs.declared.beat.BeatNets.{BeatNets}
 use Rattle.stage_core.specs.declared.stream.StreamNets.{StreamNets}
 use Rattle.stage_core.specs.Beats.{Widths, widths_of, view_of, AreBeatNets}
@@ -56,12 +57,13 @@ abbrev pub IsReadyOf : Netlist → Option NetValue → NetValue → Type 0
 IsReadyOf netlist (Some port) net = net ≡ port
 IsReadyOf netlist None net = Always netlist (λ cycle. cycle.net net.number ≡ 1)
 
--- a delay of ready leads from the source to the sink alone: their beats have one form, no queue is asked for, and the sink's
--- ready comes no sooner
+-- a delay of ready leads from the source to the sink alone: their beats have one form, no queue is asked for, the source sends
+-- in ready cycles alone, and the sink's ready comes no sooner
 pub record IsDelayEnough (source sink : Declared) (depth : ℕ) : Type 0 where
   pub form : HaveOneForm source sink
   pub ready : IsTrue sink.ready
   pub no_queue : depth ≡ 0
+  pub strict : (pace_of source).allowance ≡ (pace_of source).latency
   pub no_sooner : (pace_of source).latency ≤ (pace_of sink).latency
 
 -- ---- the sides from the source on
@@ -94,9 +96,9 @@ formed source sink = record (with_errors source sink) { symbols = sink.symbols; 
 abbrev pub ordered : Declared → Declared → Side
 ordered source sink = record (formed source sink) { first_high = sink.first_high }
 
--- and at the sink
+-- and at the sink, where beats are shown in ready cycles alone, whatever its allowance
 abbrev pub at_sink : Declared → Declared → Side
-at_sink source sink = filtered_side (side_of sink) (joined_channel source sink)
+at_sink source sink = record (side_of sink) { pace = strict_pace (pace_of sink); max_channel = joined_channel source sink }
 
 -- the channels that pass
 abbrev pub joined_test : Declared → Declared → ℕ → Bool
@@ -105,7 +107,7 @@ joined_test source sink = reaches (at_sink source sink)
 -- how many symbols are held at most: behind the stage to ready latency 0, behind those that change the symbols of a beat,
 -- and behind the queue
 abbrev pub timed_hold : Declared → ℕ
-timed_hold source = ((pace_of source).latency + 1) * source.symbols
+timed_hold source = ((pace_of source).allowance + 2) * source.symbols
 
 abbrev pub formed_hold : Declared → Declared → ℕ
 formed_hold source sink = timed_hold source + (source.symbols + sink.symbols)
@@ -189,7 +191,7 @@ pub record LeadsFrom (source sink : Declared) (depth : ℕ) (shape : Shape) : Ty
   pub room : depth * sink.symbols ≤ shape.hold
   pub hold : shape.hold ≤ stream_lag (stream_of source sink depth)
   pub rest : shape.rest < sink.symbols
-  pub window : (pace_of source).latency + shape.largest + (shape.step + 1) * shape.hold < stream_window (stream_of source sink depth)
+  pub window : shape.largest + (shape.step + 1) * (shape.hold + (pace_of source).allowance * source.symbols) < stream_window (stream_of source sink depth)
   pub always_ready : IsTrue shape.needs_ready → TakesWhole source sink
 
 -- between these views, whatever the sink does: in each window in which the queue has room for a beat of a legal source, the

@@ -1,7 +1,7 @@
 -- Which ends of a stream a path joins.
 use Rattle.std.specs.Prelude.{◌≡◌, ◌*◌, ◌%◌, ◌^◌, ◌<◌, ◌≤◌, IsTrue, IsFalse}
-use Rattle.stream_runs.specs.View.{Pace}
 use Rattle.stream_runs.specs.Ends.{Declared, pace_of}
+use Rattle.st_timing.specs.Ends.{IsPaced}
 
 -- beats of the same form, and no channel that the sink doesn't take
 pub record HaveOneForm (source sink : Declared) : Type 0 where
@@ -14,18 +14,13 @@ pub record HaveOneForm (source sink : Declared) : Type 0 where
   pub packets : source.packets ≡ sink.packets
   pub empty_bits : source.empty_bits ≡ sink.empty_bits
 
--- a ready latency of at most 8 cycles, and no larger allowance
-pub record IsStrict (pace : Pace) : Type 0 where
-  pub short : pace.latency ≤ 8
-  pub strict : pace.allowance ≡ pace.latency
-
 -- what is declared of an end fits its ports: its largest channel, and in packets the empty symbols
 pub record FitsPorts (end : Declared) : Type 0 where
   pub some : 1 ≤ end.symbols
   pub few : end.symbols ≤ 32
   pub some_bits : 1 ≤ end.symbol_bits
   pub small : end.symbols * end.symbol_bits ≤ 128
-  pub pace : IsStrict (pace_of end)
+  pub pace : IsPaced (pace_of end)
   pub channel : end.channel_bits ≤ 16
   pub channels : end.max_channel < 2 ^ end.channel_bits
   pub error : end.error_bits ≤ 32

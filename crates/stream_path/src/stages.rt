@@ -50,6 +50,14 @@ fn has_one_form(source: &SourcePort, sink: &SinkPort) -> bool
         && source.empty_bits == sink.empty_bits
 }
 
+/// Whether the source sends in ready cycles alone.
+fn is_strict(source: &SourcePort) -> bool
+    ensures strict { IsTrue result → (pace_of (declared source.now)).allowance ≡ (pace_of (declared source.now)).latency }
+    ensures always { (pace_of (declared source.now)).allowance ≡ (pace_of (declared source.now)).latency → IsTrue result }
+{
+    !source.ready || source.allowance == source.latency
+}
+
 /// The filter on the channels that both ends have.
 pub(crate) fn filter_of(source: &SourcePort, sink: &SinkPort) -> ChannelFilter
     requires source { HasChannels source.now.channel_bits source.now.max_channel }
@@ -243,8 +251,8 @@ fn emit_chain(
     emit_tied(joint, with_errors, builder, from, ready)
 }
 
-/// Makes what stands between ends of one form of which the sink's ready latency isn't the shorter one, where no queue is needed:
-/// ready is delayed by the difference.
+/// Makes what stands between ends of one form of which the sink's ready latency isn't the shorter one, where the source sends in
+/// ready cycles alone and no queue is needed: ready is delayed by the difference.
 fn emit_delay(
     joint: &Joint,
     builder: &mut Builder,
@@ -296,8 +304,9 @@ pub(crate) fn emit_stages(
     ensures same_widths { IsDelayEnough (source_of joint.now) (sink_of joint.now) joint.now.depth → IfOk result (λ made. widths_of made.beat ≡ widths_of from) }
 {
     let one_form = has_one_form(&joint.source, &joint.sink);
+    let strict = is_strict(&joint.source);
     let sooner = joint.source.ready_latency() <= joint.sink.ready_latency();
-    if one_form && joint.sink.ready && joint.depth == 0 && sooner {
+    if one_form && joint.sink.ready && joint.depth == 0 && strict && sooner {
         emit_delay(joint, builder, from, ready)
     } else {
         emit_chain(joint, builder, from, ready)

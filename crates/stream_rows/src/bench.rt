@@ -1,6 +1,7 @@
 //! A source and a sink that keep to what they declare, and what the sink is given.
 
 use crate::beat::Beat;
+use crate::end::End;
 use crate::row::Row;
 use crate::still::{Moves, Still, Way};
 use std::alloc::{AllocError, Global};
@@ -41,6 +42,8 @@ pub struct Tally {
 #[derive(Drop)]
 pub struct Ends {
     sent: usize,
+    /// How many beats were accepted since the source saw ready.
+    since: u8,
     /// The ready that the source saw, and the one that the sink showed, cycle by cycle.
     upstream: Vec<bool>,
     downstream: Vec<bool>,
@@ -58,10 +61,22 @@ fn was_ready(levels: &[bool], latency: u8, cycle: u32) -> bool {
     }
 }
 
+/// Whether ready was high in some cycle at least so many before this one.
+fn was_ever_ready(levels: &[bool], latency: u8, cycle: u32) -> bool {
+    match cycle.checked_sub(u32::from(latency)) {
+        Some(before) => levels
+            .iter()
+            .take((before as usize).saturating_add(1))
+            .any(|level| *level),
+        None => false,
+    }
+}
+
 impl Ends {
     pub fn new(alloc: Global) -> Ends {
         Ends {
             sent: 0,
+            since: 0,
             upstream: Vec::new(alloc),
             downstream: Vec::new(alloc),
             waiting: None,
@@ -78,12 +93,22 @@ impl Ends {
         }
     }
 
+    /// Whether the source may show a beat, whatever ready is in this cycle.
+    fn may_show(&self, source: &End, cycle: u32) -> bool {
+        let latency = source.ready_latency();
+        let allowance = source.ready_allowance();
+        let upstream = self.upstream.as_slice();
+        if latency > 0 && allowance > latency {
+            self.since < allowance && was_ever_ready(upstream, latency, cycle)
+        } else {
+            latency == 0 || was_ready(upstream, latency, cycle)
+        }
+    }
+
     /// What both ends show: the source its next beat, whenever it may.
     pub fn shows(&self, row: &Row, cycle: u32) -> Shown {
-        let latency = row.source.ready_latency();
-        let may_show = latency == 0 || was_ready(self.upstream.as_slice(), latency, cycle);
         Shown {
-            beat: if may_show {
+            beat: if self.may_show(&row.source, cycle) {
                 row.beats.get(self.sent).copied()
             } else {
                 None
@@ -146,6 +171,11 @@ impl Ends {
         self.way.go_on(row, &moves)?;
         if moves.accepted {
             self.sent = self.sent.saturating_add(1);
+        }
+        if seen.ready {
+            self.since = 0;
+        } else if moves.accepted {
+            self.since = self.since.saturating_add(1);
         }
         if !seen.ready && self.sent > 0 && self.tally.held_back.is_none() {
             self.tally.held_back = Some(cycle);

@@ -11,6 +11,8 @@ pub struct End {
     pub bits: u8,
     /// The ready latency, None where it has no `ready`.
     pub latency: Option<u8>,
+    /// The ready allowance, None where it is the latency.
+    pub allowance: Option<u8>,
     /// The first symbol has the low-order bits.
     pub low_first: bool,
     pub packets: bool,
@@ -33,6 +35,7 @@ impl End {
         let number = small_number(number)?;
         match name {
             "ready" => self.latency = Some(number),
+            "allowance" => self.allowance = Some(number),
             "low" => self.low_first = true,
             "packets" => self.packets = true,
             "empty" => self.empty_bits = number,
@@ -52,6 +55,7 @@ impl End {
             symbols,
             bits,
             latency: None,
+            allowance: None,
             low_first: false,
             packets: false,
             empty_bits: 0,
@@ -68,6 +72,11 @@ impl End {
     /// The ready latency, 0 without `ready`.
     pub fn ready_latency(&self) -> u8 {
         self.latency.unwrap_or(0)
+    }
+
+    /// The ready allowance, 0 without `ready`.
+    pub fn ready_allowance(&self) -> u8 {
+        self.allowance.unwrap_or(self.ready_latency())
     }
 
     /// The bits below symbol `k` in a word.

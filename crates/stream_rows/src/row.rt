@@ -170,13 +170,13 @@ impl Row {
 
     /// The cycles of a window of the stream, in which it has to go on.
     pub fn window(&self) -> u32 {
-        let source = u32::from(self.source.ready_latency());
-        let latency = source.max(u32::from(self.sink.ready_latency()));
-        let before = u32::from(self.source.symbols).saturating_mul(latency.saturating_add(3));
+        let source = u32::from(self.source.ready_allowance());
+        let allowance = source.max(u32::from(self.sink.ready_allowance()));
+        let before = u32::from(self.source.symbols).saturating_mul(allowance.saturating_add(3));
         let depth = u32::from(self.depth).saturating_add(3);
         let behind = u32::from(self.sink.symbols).saturating_mul(depth);
         let lag = before.saturating_add(behind);
-        lag.saturating_add(latency.saturating_mul(2))
+        lag.saturating_add(allowance.saturating_mul(2))
             .saturating_add(8)
             .saturating_mul(8)
     }

@@ -50,12 +50,20 @@ fn push_property(
     )
 }
 
-/// Appends the ready latency and the port.
+/// Appends the ready latency, the allowance where one is given, and the port.
 fn push_ready(text: &mut String, names: &Names, end: &End) -> Result<(), AllocError> {
     let Some(latency) = end.latency else {
         return Ok(());
     };
     push_property(text, names.interface, "readyLatency", u32::from(latency))?;
+    if let Some(allowance) = end.allowance {
+        push_property(
+            text,
+            names.interface,
+            "readyAllowance",
+            u32::from(allowance),
+        )?;
+    }
     push_port(text, names.interface, "ready", names.ready, 1)
 }
 

@@ -228,6 +228,33 @@ beats_from (suc start) count = None ∷ beats_from start count
 abbrev pub bold_source : ℕ → ℕ → EndView
 bold_source start count = showing (signal_of (0 ∷ 1 ∷ [])) (beats_from start count)
 
+-- from there to latency 0: the source's ready is low from cycle 3 to cycle 7, and the sink's from cycle 1 to cycle 3
+
+-- 33, 44 and 55 come after the last ready
+abbrev pub going_on : EndView
+going_on =
+    showing (signal_of (1 ∷ 1 ∷ 1 ∷ 0 ∷ 0 ∷ 0 ∷ 0 ∷ 0 ∷ 1 ∷ 1 ∷ []))
+    (None ∷ Some (word 0x11) ∷ Some (word 0x22) ∷ Some (word 0x33) ∷ Some (word 0x44) ∷ Some (word 0x55) ∷ None ∷ None ∷ None ∷ Some (word 0x66) ∷ [])
+
+abbrev pub bold_to_direct : Stream
+bold_to_direct = record { source = bold_side 3; sink = byte_side (later 0) 0; fifo_depth = 0 }
+
+abbrev pub bold_run : EndView → StreamRun
+bold_run sink = record { source = going_on; sink = sink; dropped = never }
+
+-- what the sink shows, and the beats from cycle 5 on behind 11, which waits
+abbrev pub waiting_sink : List (Option Beat) → EndView
+waiting_sink beats =
+    showing (signal_of (1 ∷ 0 ∷ 0 ∷ 0 ∷ 1 ∷ 1 ∷ 1 ∷ 1 ∷ 1 ∷ 1 ∷ []))
+    (None ∷ Some (word 0x11) ∷ Some (word 0x11) ∷ Some (word 0x11) ∷ Some (word 0x11) ∷ beats)
+
+abbrev pub filled_sink : EndView
+filled_sink = waiting_sink (Some (word 0x22) ∷ Some (word 0x33) ∷ Some (word 0x44) ∷ Some (word 0x55) ∷ Some (word 0x66) ∷ [])
+
+-- a buffer that counts the beats of the latency alone loses 55
+abbrev pub overfull_sink : EndView
+overfull_sink = waiting_sink (Some (word 0x22) ∷ Some (word 0x33) ∷ Some (word 0x44) ∷ None ∷ Some (word 0x66) ∷ [])
+
 -- ---- what a source may do
 
 -- a byte a beat in packets, channels 0 and 1, no error

@@ -5,7 +5,7 @@ ghost use Rattle.stream_runs.specs.Source.{IsLegalSource, IsProperAtSink};
 ghost use Rattle.stream_runs.specs.Symbols.{transferred_symbols};
 ghost use Rattle.stream_runs.specs.Delivery.{LagsWithin, ShowsDropped, IsServed, reaches};
 ghost use Rattle.stream_runs.specs.Awake.{NeverIdles, beats_begun};
-ghost use Rattle.stream_runs.specs.Rows.{IsDelivered, never, signal_of, word, on_channel, with_error, opens, closes, later, packet_side, byte_side, pair_side, three_source, four_sink, three_to_four, three_to_four_run, swapped_sink, late_mark_sink, lost_beat_sink, hasty_sink, short_source, four_to_one, four_to_one_run, single_sink, padded_sink, hollow_sink, one_word, high_to_low, high_to_low_run, channel_source, fewer_channels, channel_run, filtered_sink, cut_sink, cut_sink_so_far, late_source, late_to_direct, late_run, stalled_sink, losing_sink, doubling_sink, changing_sink, withdrawing_sink, bold_side, bold_source, channel_packets, two_beats, two_packets, plain_stream, shut_out, swallowed, both_shut, both_wait, kept_out, byte_wire, packet, swapped_packet, hurried_packet, overrun_packet};
+ghost use Rattle.stream_runs.specs.Rows.{IsDelivered, never, signal_of, word, on_channel, with_error, opens, closes, later, packet_side, byte_side, pair_side, three_source, four_sink, three_to_four, three_to_four_run, swapped_sink, late_mark_sink, lost_beat_sink, hasty_sink, short_source, four_to_one, four_to_one_run, single_sink, padded_sink, hollow_sink, one_word, high_to_low, high_to_low_run, channel_source, fewer_channels, channel_run, filtered_sink, cut_sink, cut_sink_so_far, late_source, late_to_direct, late_run, stalled_sink, losing_sink, doubling_sink, changing_sink, withdrawing_sink, bold_side, bold_source, going_on, bold_to_direct, bold_run, filled_sink, overfull_sink, channel_packets, two_beats, two_packets, plain_stream, shut_out, swallowed, both_shut, both_wait, kept_out, byte_wire, packet, swapped_packet, hurried_packet, overrun_packet};
 ghost use Rattle.stream_runs.specs.Ends.{side_of, view_of, run_of, byte_packets};
 
 /// A wire of byte packets, and wires with a fault.
@@ -85,6 +85,14 @@ pub fn allowances()
     ensures not_two { ¬ IsLegalSource (bold_side 1) (bold_source 2 2) 4 }
     ensures not_four { ¬ IsLegalSource (bold_side 3) (bold_source 2 4) 6 }
     ensures not_early { ¬ IsLegalSource (bold_side 3) (bold_source 1 1) 2 }
+{}
+
+/// A sink that stalls is given all beats of a source that sends three after the last ready.
+pub fn beats_after_ready()
+    ensures source { IsLegalSource (bold_side 3) going_on 10 }
+    ensures not_two { ¬ IsLegalSource (bold_side 2) going_on 6 }
+    ensures served { IsServed bold_to_direct (bold_run filled_sink) 10 }
+    ensures beat_lost { ¬ IsDelivered bold_to_direct (bold_run overfull_sink) 10 }
 {}
 
 /// What a source may do, and what it may not.

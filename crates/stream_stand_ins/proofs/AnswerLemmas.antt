@@ -1,13 +1,13 @@
 -- What a source shows follows from the cycles in which the module was ready.
-use Rattle.std.proofs.Common.{◌≡◌, ℕ, zero, suc, ◌-◌, ◌<◌, ◌≤◌, ◌&&◌, ◌||◌, ◌==◌, nat_le, List, Option, refl, ap, sym, ◌∙◌, arith}
+use Rattle.std.proofs.Common.{◌≡◌, ℕ, zero, suc, ◌-◌, ◌<◌, ◌≤◌, ◌&&◌, ◌||◌, ◌==◌, nat_le, List, Option, refl, ap, ap₂, sym, ◌∙◌, arith}
 use Rattle.std.specs.Prelude.{is_some, unwrap_or}
 use Rattle.std.proofs.Math.Nat.{le_of_suc-le, le_of_lt}
 use Rattle.histories.specs.History.{one_if}
 use Rattle.iface_roles.specs.declared.records.StreamPort.{StreamPort}
-use Rattle.stream_runs.specs.View.{EndView, Beat, Pace, is_ready_cycle, AgreeBefore}
+use Rattle.stream_runs.specs.View.{EndView, Beat, Pace, is_high, is_ready_cycle, AgreeBefore}
 use Rattle.scenario_tables.specs.declared.statements.SourceStatement.{SourceStatement}
 use Rattle.stream_stand_ins.specs.Step.{Step}
-use Rattle.stream_stand_ins.specs.Steps.{steps_of, left_behind, left_before, next_beat}
+use Rattle.stream_stand_ins.specs.Steps.{Standing, steps_of, next_beat, may_send, goes_on, came_due, standing}
 use Rattle.stream_stand_ins.specs.Sources.{port_pace, no_beat, beat_shown, IsSourceStandIn}
 
 abbrev AreReadyAlike : EndView → EndView → ℕ → Type 0
@@ -16,17 +16,21 @@ AreReadyAlike one two end = (c : ℕ) → c < end → one.ready c ≡ two.ready 
 same_ready_cycles : (pace : Pace) (one two : EndView) (end c : ℕ) → AreReadyAlike one two end → c < end → is_ready_cycle pace one c ≡ is_ready_cycle pace two c
 same_ready_cycles pace one two end c alike h = ap (λ level. nat_le pace.latency c && (level == 1)) (alike (c - pace.latency) (omega arith))
 
-same_left : (pace : Pace) (steps : List Step) (one two : EndView) (end c : ℕ) → AreReadyAlike one two end → c ≤ end → left_before pace steps one c ≡ left_before pace steps two c
-same_left pace steps one two end zero alike h = refl
-same_left pace steps one two end (suc c) alike h =
-    ap (λ ready. left_behind ready (left_before pace steps one c)) (same_ready_cycles pace one two end c alike h)
-    ∙ ap (λ (left : List Step). left_behind (is_ready_cycle pace two c) left) (same_left pace steps one two end c alike (le_of_suc-le h))
+same_came : (pace : Pace) (one two : EndView) (end c : ℕ) → AreReadyAlike one two end → c ≤ end → came_due pace one c ≡ came_due pace two c
+same_came pace one two end zero alike h = refl
+same_came pace one two end (suc c) alike h = ap₂ (λ came due. came || due) (same_came pace one two end c alike (le_of_suc-le h)) (same_ready_cycles pace one two end c alike h)
+
+same_standing : (pace : Pace) (steps : List Step) (one two : EndView) (end c : ℕ) → AreReadyAlike one two end → c ≤ end → standing pace steps one c ≡ standing pace steps two c
+same_standing pace steps one two end zero alike h = refl
+same_standing pace steps one two end (suc c) alike h =
+    ap₂ (λ came due. goes_on pace came due (is_high one.ready c) (standing pace steps one c)) (same_came pace one two end c alike (le_of_suc-le h)) (same_ready_cycles pace one two end c alike h)
+    ∙ ap₂ (λ level (now : Standing). goes_on pace (came_due pace two c) (is_ready_cycle pace two c) (level == 1) now) (alike c h) (same_standing pace steps one two end c alike (le_of_suc-le h))
 
 same_shown : (port : StreamPort) (script : List SourceStatement) (one two : EndView) (end c : ℕ) → AreReadyAlike one two end → c < end → beat_shown port script one c ≡ beat_shown port script two c
 same_shown port script one two end c alike h =
     let pace = port_pace port in
-    ap (λ ready. next_beat ((pace.latency == 0) || ready) (left_before pace (steps_of script) one c)) (same_ready_cycles pace one two end c alike h)
-    ∙ ap (λ (left : List Step). next_beat ((pace.latency == 0) || is_ready_cycle pace two c) left) (same_left pace (steps_of script) one two end c alike (le_of_lt h))
+    ap₂ (λ came due. next_beat (may_send pace came due (standing pace (steps_of script) one c).sent) (standing pace (steps_of script) one c).left) (same_came pace one two end c alike (le_of_lt h)) (same_ready_cycles pace one two end c alike h)
+    ∙ ap (λ (now : Standing). next_beat (may_send pace (came_due pace two c) (is_ready_cycle pace two c) now.sent) now.left) (same_standing pace (steps_of script) one two end c alike (le_of_lt h))
 
 pub stand_ins_agree : (port : StreamPort) (script : List SourceStatement) (one two : EndView) (end : ℕ) → AreReadyAlike one two end
     → IsSourceStandIn port script one end → IsSourceStandIn port script two end → AgreeBefore one two end

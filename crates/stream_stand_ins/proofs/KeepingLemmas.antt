@@ -1,5 +1,5 @@
 -- What a source keeps is enough to know what it shows.
-use Rattle.std.proofs.Common.{◌≡◌, ℕ, zero, suc, ◌-◌, ◌<◌, ◌≤◌, Bool, true, false, ◌&&◌, ◌||◌, ◌==◌, nat_le, List, ◌∷◌, take, refl, sym, ap, ◌∙◌, subst, arith}
+use Rattle.std.proofs.Common.{◌≡◌, ℕ, zero, suc, ◌-◌, ◌<◌, ◌≤◌, Bool, true, false, ◌&&◌, ◌||◌, ◌==◌, nat_le, nat_lt, List, ◌∷◌, take, refl, sym, ap, ap₂, ◌∙◌, subst, arith}
 use Rattle.std.specs.Prelude.{replicate, slice_index_or, if◌then◌else◌}
 use Rattle.std.proofs.lemmas.Bool.{le-leb}
 use Rattle.std.proofs.lemmas.List.{get_or-take}
@@ -9,8 +9,8 @@ use Rattle.iface_roles.specs.declared.records.StreamPort.{StreamPort}
 use Rattle.iface_roles.specs.Records.{ready_latency}
 use Rattle.stream_runs.specs.View.{EndView, Pace, is_high, is_ready_cycle}
 use Rattle.scenario_tables.specs.declared.statements.SourceStatement.{SourceStatement}
-use Rattle.stream_stand_ins.specs.Steps.{left_behind, next_beat}
-use Rattle.stream_stand_ins.specs.Sources.{Keeping, port_pace, lately_ready, keeping_at, keeping_behind, is_taken, beat_kept, beat_shown}
+use Rattle.stream_stand_ins.specs.Steps.{steps_of, next_beat, may_send, stands_behind, came_due, standing}
+use Rattle.stream_stand_ins.specs.Sources.{Keeping, port_pace, lately_ready, keeping_at, keeping_behind, may_send_now, beat_kept, beat_shown}
 
 never_ready : (count ago : ℕ) → slice_index_or (replicate count false) ago false ≡ false
 never_ready zero ago = refl
@@ -39,23 +39,30 @@ latency_of false latency allowance = refl
 pub within_eight : (port : StreamPort) → ready_latency port ≤ 8 → (port_pace port).latency ≤ 8
 within_eight port h = let P : ℕ → Type 0 = λ n. n ≤ 8 in subst P (sym (latency_of port.ready port.latency port.allowance)) h
 
-pub taken_in_ready_cycles : (port : StreamPort) (script : List SourceStatement) (view : EndView) (c : ℕ) → ready_latency port ≤ 8
-    → is_taken (keeping_at port script view c) (is_high view.ready c) ≡ is_ready_cycle (port_pace port) view c
-taken_in_ready_cycles port script view c h = ready_ago view c (port_pace port).latency (within_eight port h)
+-- whether it may send doesn't depend on ready in the cycle itself
+may_by_what_is_kept : (view : EndView) (c latency allowance sent : ℕ) (came : Bool) → latency ≤ 8
+    → may_send (record { latency = latency; allowance = allowance }) came (slice_index_or (false ∷ lately_ready view c) latency false) sent
+    ≡ may_send (record { latency = latency; allowance = allowance }) came (nat_le latency c && is_high view.ready (c - latency)) sent
+may_by_what_is_kept view c zero allowance sent came h = refl
+may_by_what_is_kept view c (suc latency) allowance sent came h =
+    ap (λ due. may_send (record { latency = suc latency; allowance = allowance }) came due sent) (ready_ago view c (suc latency) h)
+
+may_send_is : (port : StreamPort) (script : List SourceStatement) (view : EndView) (c : ℕ) → ready_latency port ≤ 8
+    → may_send_now (keeping_at port script view c) ≡ may_send (port_pace port) (came_due (port_pace port) view c) (is_ready_cycle (port_pace port) view c) (keeping_at port script view c).sent
+may_send_is port script view c h =
+    may_by_what_is_kept view c (port_pace port).latency (port_pace port).allowance (keeping_at port script view c).sent (came_due (port_pace port) view c) (within_eight port h)
 
 pub keeping_goes_on : (port : StreamPort) (script : List SourceStatement) (view : EndView) (c : ℕ) → ready_latency port ≤ 8
     → keeping_behind (keeping_at port script view c) (is_high view.ready c) ≡ keeping_at port script view (suc c)
 keeping_goes_on port script view c h =
-    let with_test : Bool → Keeping = λ taken. record (keeping_at port script view (suc c)) { left = left_behind taken (keeping_at port script view c).left } in
-    ap with_test (taken_in_ready_cycles port script view c h)
-
--- whether a beat may be shown doesn't depend on ready in the cycle itself
-may_show_by_what_is_kept : (view : EndView) (c latency : ℕ) → latency ≤ 8
-    → ((latency == 0) || slice_index_or (false ∷ lately_ready view c) latency false) ≡ ((latency == 0) || (nat_le latency c && is_high view.ready (c - latency)))
-may_show_by_what_is_kept view c zero h = refl
-may_show_by_what_is_kept view c (suc latency) h = ap (λ b. (suc latency == 0) || b) (ready_ago view c (suc latency) h)
+    let pace = port_pace port in
+    let kept = keeping_at port script view c in
+    let ready = is_high view.ready c in
+    let with_tests : Bool → Bool → Keeping = λ may due.
+    (let behind = stands_behind pace.allowance ready (may && (nat_lt 0 pace.latency || ready)) (standing pace (steps_of script) view c) in
+    let made : Keeping = record { pace = pace; left = behind.left; sent = behind.sent; came = came_due pace view c || due; lately = lately_ready view (suc c) } in made) in
+    ap₂ with_tests (may_send_is port script view c h) (ready_ago view c pace.latency (within_eight port h))
 
 pub beat_kept_is_shown : (port : StreamPort) (script : List SourceStatement) (view : EndView) (c : ℕ) → ready_latency port ≤ 8
     → beat_kept (keeping_at port script view c) ≡ beat_shown port script view c
-beat_kept_is_shown port script view c h =
-    ap (λ may_show. next_beat may_show (keeping_at port script view c).left) (may_show_by_what_is_kept view c (port_pace port).latency (within_eight port h))
+beat_kept_is_shown port script view c h = ap (λ may. next_beat may (keeping_at port script view c).left) (may_send_is port script view c h)

@@ -7,14 +7,14 @@ use Rattle.scenario_tables.specs.declared.statements.SourceStatement.{SourceStat
 use Rattle.scenario_tables.specs.declared.statements.SourceStatement.TheVariants as states
 use Rattle.scenario_tables.specs.declared.statements.Pattern.{Pattern}
 
-abbrev pub byte_port : ℕ → StreamPort
-byte_port latency = record {
+abbrev pub byte_port : ℕ → ℕ → StreamPort
+byte_port latency allowance = record {
   symbols = 1;
   symbol_bits = 8;
   first_high = true;
   ready = true;
   latency = latency;
-  allowance = latency;
+  allowance = allowance;
   channel_bits = 0;
   max_channel = 0;
   error_bits = 0;
@@ -31,11 +31,20 @@ with_gap = sends 0x11 ∷ states.Gap 2 ∷ sends 0x22 ∷ []
 abbrev pub two_beats : List SourceStatement
 two_beats = sends 0x11 ∷ sends 0x22 ∷ []
 
+abbrev pub four_beats : List SourceStatement
+four_beats = sends 0x11 ∷ sends 0x22 ∷ sends 0x33 ∷ sends 0x44 ∷ []
+
 abbrev pub one : Option Beat
 one = Some (word 0x11)
 
 abbrev pub two : Option Beat
 two = Some (word 0x22)
+
+abbrev pub three : Option Beat
+three = Some (word 0x33)
+
+abbrev pub four : Option Beat
+four = Some (word 0x44)
 
 -- ready in these cycles, and these beats shown
 abbrev pub row : List ℕ → List (Option Beat) → EndView

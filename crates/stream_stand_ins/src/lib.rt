@@ -7,8 +7,8 @@ mod sources;
 mod steps;
 
 pub use laws::{
-    direct_sources, late_sources, one_source_for_each_answer, pattern_sinks, sources_keep_enough,
-    stand_in_sources_are_legal,
+    allowed_sources, direct_sources, late_sources, one_source_for_each_answer, pattern_sinks,
+    sources_keep_enough, stand_in_sources_are_legal,
 };
 pub use sinks::{is_ready, stalls};
 pub use sources::SourceStandIn;

@@ -54,7 +54,7 @@ pub sound : (plan : PlanTable) (number : ℕ) (link : StreamLink) → IsStreamLi
 sound plan number link is keeps sources sinks =
     let rules = keeps is.connection is.connection_is in
     let long = or_parts _ _ (rules 6) in
-    let late = or_parts _ _ (rules 7) in
+    let late = or_parts _ _ (or_parts _ _ (rules 7)).0 in
     record {
       is = is;
       source_end = an_end plan.system link.source_end (source_among plan.system number link is);

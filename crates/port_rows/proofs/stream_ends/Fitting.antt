@@ -86,7 +86,7 @@ left_fits port false (Sends beat ∷ later) fits = fits
 
 pub left_before_fits : (port : StreamPort) (pace : Pace) (steps : List Step) (view : EndView) (c : ℕ) → All (StepFits port) steps → All (StepFits port) (left_before pace steps view c)
 left_before_fits port pace steps view zero fits = fits
-left_before_fits port pace steps view (suc c) fits = left_fits port (is_ready_cycle pace view c) (left_before pace steps view c) (left_before_fits port pace steps view c fits)
+left_before_fits port pace steps view (suc c) fits = left_fits port _ (left_before pace steps view c) (left_before_fits port pace steps view c fits)
 
 pub next_fits : (port : StreamPort) (may : Bool) (steps : List Step) → All (StepFits port) steps → FitsSource port (unwrap_or (next_beat may steps) no_beat)
 next_fits port may [] fits = silence_fits port

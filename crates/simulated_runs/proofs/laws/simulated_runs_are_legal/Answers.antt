@@ -8,6 +8,5 @@ returns c plan scenario netlist run end is_plan fits simulated = record {
     hosts = legal_host plan scenario netlist run end c.ends_are_known.ensures.hosts c.stand_in_hosts_are_legal.ensures is_plan fits simulated;
     agents = legal_agent plan scenario netlist run end c.ends_are_known.ensures.agents c.stand_in_agents_are_legal.ensures is_plan fits simulated;
   };
-  sources = λ s link at. legal_source plan scenario netlist run end c.stand_in_sources_are_legal.ensures fits simulated s link at (slice_get_within _ s link at)
-      (c.streams_are_numbered.ensures.links plan.system is_plan.system s link at) (c.links_keep_rules.ensures.streams plan is_plan s link at);
+  sources = λ s link at. legal_source plan scenario netlist run end c.stand_in_sources_are_legal.ensures fits simulated s link at (slice_get_within _ s link at);
 }

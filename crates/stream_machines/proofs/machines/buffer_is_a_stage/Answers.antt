@@ -9,3 +9,6 @@ returns-clause-ready c = BuffersLaw.ready_buffer_passes_ready
 
 pub returns-clause-allowance : goal.returns-clause-allowance
 returns-clause-allowance c = BuffersLaw.allowance_buffer_keeps
+
+pub returns-clause-allowance_ready : goal.returns-clause-allowance_ready
+returns-clause-allowance_ready c = BuffersLaw.allowance_buffer_passes_ready

@@ -6,7 +6,7 @@ use Rattle.stream_stand_ins.specs.Worked.{byte_port, with_gap, one, two, row}
 use Rattle.stream_stand_ins.proofs.laws.direct_sources.Goals as goal
 
 pub returns-clause-waits : goal.returns-clause-waits
-returns-clause-waits c = λ cycle below. each_below (λ k. let view = row (0 ∷ 1 ∷ 0 ∷ 0 ∷ 1 ∷ []) (one ∷ one ∷ None ∷ None ∷ two ∷ []) in Shows view k (beat_shown (byte_port 0) with_gap view k)) 6 cycle ((((((tt, record { valid = refl; signals = refl }), record { valid = refl; signals = refl }), record { valid = refl; signals = refl }), record { valid = refl; signals = refl }), record { valid = refl; signals = refl }), record { valid = refl; signals = refl }) below
+returns-clause-waits c = λ cycle below. each_below (λ k. let view = row (0 ∷ 1 ∷ 0 ∷ 0 ∷ 1 ∷ []) (one ∷ one ∷ None ∷ None ∷ two ∷ []) in Shows view k (beat_shown (byte_port 0 0) with_gap view k)) 6 cycle ((((((tt, record { valid = refl; signals = refl }), record { valid = refl; signals = refl }), record { valid = refl; signals = refl }), record { valid = refl; signals = refl }), record { valid = refl; signals = refl }), record { valid = refl; signals = refl }) below
 
 pub returns-clause-withdrawn : goal.returns-clause-withdrawn
 returns-clause-withdrawn c = λ stands. let e : ◌≡◌ {A = ℕ} 0 1 = (stands 1 (lit< tt)).valid in omega arith

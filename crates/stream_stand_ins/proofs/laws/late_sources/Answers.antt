@@ -5,7 +5,7 @@ use Rattle.stream_stand_ins.specs.Worked.{byte_port, two_beats, one, two, row}
 use Rattle.stream_stand_ins.proofs.laws.late_sources.Goals as goal
 
 pub returns-clause-ready_cycles : goal.returns-clause-ready_cycles
-returns-clause-ready_cycles c = λ cycle below. each_below (λ k. let view = row (1 ∷ 0 ∷ 1 ∷ []) (None ∷ None ∷ one ∷ None ∷ two ∷ []) in Shows view k (beat_shown (byte_port 2) two_beats view k)) 6 cycle ((((((tt, record { valid = refl; signals = refl }), record { valid = refl; signals = refl }), record { valid = refl; signals = refl }), record { valid = refl; signals = refl }), record { valid = refl; signals = refl }), record { valid = refl; signals = refl }) below
+returns-clause-ready_cycles c = λ cycle below. each_below (λ k. let view = row (1 ∷ 0 ∷ 1 ∷ []) (None ∷ None ∷ one ∷ None ∷ two ∷ []) in Shows view k (beat_shown (byte_port 2 2) two_beats view k)) 6 cycle ((((((tt, record { valid = refl; signals = refl }), record { valid = refl; signals = refl }), record { valid = refl; signals = refl }), record { valid = refl; signals = refl }), record { valid = refl; signals = refl }), record { valid = refl; signals = refl }) below
 
 pub returns-clause-too_early : goal.returns-clause-too_early
 returns-clause-too_early c = λ stands. let e : ◌≡◌ {A = ℕ} 1 0 = (stands 0 (lit< tt)).valid in omega arith
