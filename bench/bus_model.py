@@ -228,19 +228,23 @@ class Route:
 
 
 class Cutter:
-    """Makes bursts of at most so many beats. A write passes beat by beat; a read is accepted with its first burst, and the others are sent by
-    itself, one a cycle, while what stands above waits."""
+    """Makes bursts of at most so many beats, or as many as lie in one wide word of so many bytes. A write passes beat by beat; a read is
+    accepted with its first burst, and the others are sent by itself, one a cycle, while what stands above waits."""
 
-    def __init__(self, host, longest):
-        self.bytes, self.longest, self.rest, self.place = host.bytes, longest, None, 0
+    def __init__(self, host, longest, wide=None):
+        self.bytes, self.longest, self.wide, self.rest, self.place = host.bytes, longest, wide, None, 0
+
+    def most(self, address):
+        """The beats that a read from an address on may have."""
+        return (self.wide - address % self.wide) // self.bytes if self.wide else self.longest
 
     def below(self, command):
         self.command, self.shown = command, self.rest or command
         if self.shown.kind is None:
             return NOTHING
         if self.shown.kind == "r":
-            follows = self.shown.left > self.longest
-            return self.shown.but(left=min(self.shown.left, self.longest), more=follows)
+            most = self.most(self.shown.address)
+            return self.shown.but(left=min(self.shown.left, most), more=self.shown.left > most)
         self.done = 0 if command.begins else self.place
         begins = self.done % self.longest == 0
         behind = self.longest - self.done % self.longest
@@ -255,11 +259,10 @@ class Cutter:
             return
         if self.shown.kind == "w":
             self.place = self.done + 1
-        elif self.shown.left > self.longest:
-            address = self.shown.address + self.longest * self.bytes
-            self.rest = self.shown.but(address=address, left=self.shown.left - self.longest)
-        else:
-            self.rest = None
+            return
+        most = self.most(self.shown.address)
+        further = self.shown.but(address=self.shown.address + most * self.bytes, left=self.shown.left - most)
+        self.rest = further if further.left > 0 else None
 
 
 class Selector:
@@ -285,6 +288,39 @@ class Selector:
 
     def edge(self):
         self.places = self.places[self.came :] + ([self.place] if self.taken else [])
+
+
+class Gatherer(Selector):
+    """A selector for reads that lie in one wide word: each goes as one beat, and its words are given out of the wide one, one a cycle.
+
+    Wide words that come wait behind the reads that they are for; one that finds none before it is given from in its cycle.
+    """
+
+    def __init__(self, host, agent, room):
+        super().__init__(host, agent, room)
+        self.words, self.done = [], 0
+
+    def below(self, command):
+        shown = super().below(command)
+        if shown.kind != "r":
+            return shown
+        self.asked = [self.place + k * self.narrow for k in range(command.left)]
+        return shown.but(left=1, lanes=sum(command.lanes << place for place in self.asked))
+
+    def above(self, wait, word):
+        self.taken = self.command.kind == "r" and not self.shut and not wait
+        self.words += [] if word is None else [word]
+        self.gives = bool(self.words)
+        given = self.words[0] >> 8 * self.places[0][self.done] & (1 << 8 * self.narrow) - 1 if self.gives else None
+        return self.shut or wait, given
+
+    def edge(self):
+        if self.gives:
+            self.done += 1
+            if self.done == len(self.places[0]):
+                self.done = 0
+                del self.places[0], self.words[0]
+        self.places += [self.asked] if self.taken else []
 
 
 class Splitter:
@@ -384,18 +420,22 @@ class Dropper:
 
 
 class Links:
-    """What fits a host's bursts, words and lanes to those of an agent. Where words or lanes differ, bursts are of one beat."""
+    """What fits a host's bursts, words and lanes to those of an agent. Where words or lanes differ, bursts are of one beat; reads of a narrower
+    host with bursts are as long as a wide word lasts, and gathered to one beat."""
 
     def __init__(self, host, agent, stages):
         # the reads that host, agent and pipe let be under way
         below = (max(agent.latency, 1) + 1 if agent.fixed else agent.bound()) + 3 * stages
         above = min(MOST_READS if host.valid else 1, below)
         drops = host.enables and not agent.enables
+        narrower, packs = host.bytes < agent.bytes, host.bytes < agent.bytes and host.longest() > 1
         longest = agent.longest() if host.bytes == agent.bytes and not drops else 1
         self.links = []
         if longest < host.longest():
-            self.links.append(Cutter(host, longest))
-        if host.bytes < agent.bytes:
+            self.links.append(Cutter(host, longest, agent.bytes if packs else None))
+        if packs:
+            self.links.append(Gatherer(host, agent, max(below + 1, 2)))
+        if narrower and not packs:
             self.links.append(Selector(host, agent, max(above, 2)))
         if host.bytes > agent.bytes:
             self.links.append(Splitter(host, agent, above))

@@ -6,8 +6,9 @@ Reads what crates/bus_rows prints, or bench/bus_model.py, and says of each row w
     python3 bench/bus_model.py <rows | python3 bench/judge_rows.py
 
 Each agent takes the bytes that each host reads and writes there in the host's order, and those of one command together; a host is given, in
-the order of its reads, the bytes that the writes before them have left. Bursts at an agent are whole and no longer than it takes them, no
-more reads are unanswered than it bears, and a host's read waits while another place owes it words. `judge_rows.py draw COUNT SEED` prints
+the order of its reads, the bytes that the writes before them have left. An agent whose words are no narrower is read once for each of its
+words that a read burst touches. Bursts at an agent are whole and no longer than it takes them, no more reads are unanswered than it bears,
+and a host's read waits while another place owes it words. `judge_rows.py draw COUNT SEED` prints
 rows that were drawn at random.
 """
 import re
@@ -35,7 +36,8 @@ def byte_of(word, lane):
 
 
 class Issued:
-    """What a host asks of its agents: for each the operations in order, (kind, offset, byte, command), and its read words in order."""
+    """What a host asks of its agents: for each the operations in order, (kind, offset, byte, command, whether it begins a touch), and its read
+    words in order. A touch are the neighbouring words of a read that lie in one word of the agent, one behind the other."""
 
     def __init__(self, row, number):
         self.row, self.number, self.host = row, number, row.hosts[number]
@@ -46,6 +48,7 @@ class Issued:
             first = self.byte_address(access)
             if access.begins:
                 command, place = command + 1, self.place(first, access.kind)
+            self.before = None
             for k in range(access.left if access.kind == "r" else 1):
                 self.add(place, command, access, first + k * self.host.bytes)
 
@@ -68,11 +71,18 @@ class Issued:
             pieces = sorted({lane // agent.bytes for lane in lanes})
             self.beats[place] += max(self.host.bytes // agent.bytes, 1)
             filled = lanes if agent.enables else [lane for piece in pieces for lane in range(piece * agent.bytes, (piece + 1) * agent.bytes)]
+            touches = self.begins_touch(agent, address % agent.span(), filled)
             for lane in filled:
                 byte = byte_of(access.word, lane) if access.kind == "w" else None
-                self.operations[place].append((access.kind, (address + lane) % agent.span(), byte, command))
+                begins = touches and lane == filled[0]
+                self.operations[place].append((access.kind, (address + lane) % agent.span(), byte, command, begins))
         if access.kind == "r":
             self.words.append((place, command, filled if place is not None else lanes))
+
+    def begins_touch(self, agent, offset, filled):
+        """Whether a word at an offset lies elsewhere than the one before it."""
+        last, self.before = self.before, offset if filled else None
+        return last is None or last // agent.bytes != offset // agent.bytes or offset <= last
 
 
 class AgentRun:
@@ -159,10 +169,17 @@ class Judge:
         for k in range(words):
             if kind == "r":
                 run.gives.append((run.gives_at(cycle), cycle, k + 1 == words))
+            self.is_packed(number, host, kind, lanes)
             for lane in range(agent.bytes):
                 if lanes >> lane & 1:
                     at = (offset + k * agent.bytes + lane) % agent.span()
                     self.operation(cycle, number, host, kind, at, byte_of(word, lane) if kind == "w" else None)
+
+    def is_packed(self, number, host, kind, lanes):
+        """A word that is read of an agent no narrower than the host is read where a touch begins."""
+        todo, done = self.issued[host].operations[number], self.taken[number, host]
+        asked = kind == "r" and lanes and self.row.hosts[host].bytes <= self.agents[number].agent.bytes and done < len(todo)
+        demand(not asked or todo[done][4], f"agent {number} is read twice for one of its words that host {host} reads")
 
     def gets(self, cycle, host, word):
         number, words = self.given[host], self.issued[host].words
@@ -199,7 +216,7 @@ class Judge:
         # accepted commands may still be in the stages, or be kept
         behind = 0 if self.row.cycles > self.last + 100 else 6 + 2 * self.row.stages
         for (number, host), done in self.taken.items():
-            waiting = {command for _, _, _, command in self.issued[host].operations[number][done:]}
+            waiting = {each[3] for each in self.issued[host].operations[number][done:]}
             demand(len(waiting) <= behind, f"agent {number} hasn't taken all of host {host}")
         for host, given in enumerate(self.given):
             demand(given == len(self.issued[host].words), f"host {host} wasn't given all words")
