@@ -10,7 +10,7 @@ top=$(cd -- "$(dirname -- "$0")/.." && pwd)
 program=$(readlink -f -- "${1:-$top/avalon}")
 export PYTHONDONTWRITEBYTECODE=1
 source "$top/bench/cells.sh"
-further=("$top"/bench/by_hand/{arbiter,bursts,crossbar,widths}.v)
+further=("$top"/bench/by_hand/{arbiter,bursts,crossbar,packs,widths}.v)
 
 # Generates ours into `generated.v`: the folder of the scripts, and their names.
 generate() {
@@ -76,6 +76,13 @@ burst() {
   weigh "bursts, $1 bits at the agent" bursts "$folder/bursts.v" lockstep rate
 }
 
+# The same of a host of so many bits, and an agent of more, whose words each burst reads once.
+pack() {
+  "$top/bench/packs.py" "$1" "$2" "$folder"
+  generate "$folder" packs.tcl host.tcl agent.tcl
+  weigh "bursts, $1 bits to $2" packs "$folder/packs.v" lockstep rate
+}
+
 examples() {
   example bus bus bus.tcl master.tcl memory.tcl
   example control control control.tcl cpu.tcl ram.tcl flash.tcl port.tcl
@@ -90,6 +97,14 @@ hosts() {
 
 bursts() {
   for bits in 0 1 3 5; do burst $bits; done
+}
+
+packs() {
+  for host in 8 16 32 64; do
+    for agent in 16 32 64 128; do
+      [ $host -ge $agent ] || pack $host $agent
+    done
+  done
 }
 
 # wide words to narrow ones, of agents that say when a word comes
@@ -133,7 +148,7 @@ small() {
 }
 
 parts=("${@:2}")
-[ ${#parts[@]} -gt 0 ] || parts=(examples hosts bursts dropped said lanes plain crossbar small)
+[ ${#parts[@]} -gt 0 ] || parts=(examples hosts bursts packs dropped said lanes plain crossbar small)
 printf '%-42s %20s %20s %13s   %s\n' "" ours "by hand" ratio "writes, reads a cycle"
 printf '%-42s %6s %6s %6s %6s %6s %6s %6s %6s   %s\n' "" cells flops levels cells flops levels cells flops "ours, by hand"
 for part in "${parts[@]}"; do $part; done
