@@ -6,3 +6,4 @@ pub mod Agent
 pub mod Above
 pub mod Rows
 pub mod Whole
+pub mod Beginnings

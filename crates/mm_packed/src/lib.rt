@@ -1,6 +1,8 @@
 //! Packed reads in whole systems of machines: each word of an agent that a host's read touches is read once. From rows of links to the ports of a system.
 #![tactic(auto)]
 
+pub mod agree;
+
 ghost use Rattle.std.specs.Prelude.{◌≡◌, ℕ, ◌<◌, ◌≤◌, ◌*◌};
 ghost use Rattle.mm_runs.specs.Packed.{ReadsEachTouchedWordOnce};
 ghost use Rattle.mm_runs.specs.Views.{Responses, System, Run};
