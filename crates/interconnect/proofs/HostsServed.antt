@@ -27,6 +27,7 @@ use Rattle.mm_runs.specs.Order.{ActsAsMemory, ReadsFromMemory, ReturnsInCommandO
 use Rattle.mm_runs.specs.Whole.{IsLegalRun, IsSafe}
 use Rattle.mm_runs.specs.Awake.{NeverIdles, IsFair}
 use Rattle.mm_runs.specs.Moment.{Moment, AgentSees, HaveAlikeInputs, IgnoresReaddata}
+use Rattle.mm_runs.specs.Packed.{ReadsEachTouchedWordOnce}
 use Rattle.memory_plans.specs.Systems.{side_of_host, side_of_agent, memory_system}
 use Rattle.mm_path.specs.Maps.{IsAgentOf}
 use Rattle.mm_path.specs.Shown.{silent_host, silent_agent, moment_in, standing_still}
@@ -262,6 +263,9 @@ pub record FabricLaws (plan : PlanTable) : Type 0 where
       → IsLegalRun (memory_system plan) (seen_in plan fabric run) (end + 2) → NeverIdles (memory_system plan) (seen_in plan fabric run) end
   pub fair : (netlist : Netlist) (fabric : Fabric) → IsFabric plan netlist fabric → (longer : Netlist) → Extends netlist longer → (run : Run) → IsEndlessRun longer run → (end : ℕ)
       → IsLegalRun (memory_system plan) (seen_in plan fabric run) end → IsFair (memory_system plan) (seen_in plan fabric run) end
+  pub packed : (netlist : Netlist) (fabric : Fabric) → IsFabric plan netlist fabric → (longer : Netlist) → Extends netlist longer → (run : Run) → IsEndlessRun longer run → (end : ℕ)
+      → IsLegalRun (memory_system plan) (seen_in plan fabric run) end → (host agent : ℕ) → host < (memory_system plan).hosts → agent < (memory_system plan).agents
+      → ReadsEachTouchedWordOnce (memory_system plan) (seen_in plan fabric run) host agent end
   pub ignores : (netlist : Netlist) (fabric : Fabric) → IsFabric plan netlist fabric → (longer : Netlist) → Extends netlist longer → IgnoresReaddata AreZero (memory_system plan) (FabricShows plan longer fabric)
 
 -- and what those of runs say
@@ -271,6 +275,7 @@ pub record RunLaws : Type 0 where
   pub safe : (responses : Responses) (system : System) (one two : MemoryRun) (end : ℕ) → RunsAgreeBefore one two end → IsSafe responses system one end → IsSafe responses system two end
   pub awake : (system : System) (one two : MemoryRun) (end : ℕ) → RunsAgreeBefore one two end → NeverIdles system one end → NeverIdles system two end
   pub fair : (system : System) (one two : MemoryRun) (end : ℕ) → RunsAgreeBefore one two end → IsFair system one end → IsFair system two end
+  pub packed : (system : System) (one two : MemoryRun) (host agent end : ℕ) → RunsAgreeBefore one two end → ReadsEachTouchedWordOnce system one host agent end → ReadsEachTouchedWordOnce system two host agent end
   pub reads : (system : System) (run : MemoryRun) (agent : ℕ) (contents : ℕ → ℕ) (end host : ℕ) → ActsAsMemory system run contents agent end → ReturnsInCommandOrder system run host end
       → ReadsFromMemory system run host agent contents end
 
@@ -346,6 +351,14 @@ module _ (plan : PlanTable) (netlist : Netlist) (m : IsMemoryIn plan netlist) (f
         runs.fair whole (seen_in plan made on.endless) (module_run plan netlist run) cycles (runs.turned _ _ cycles a)
         (fabrics.fair netlist made is_made netlist (extends-refl netlist) on.endless on.is_run cycles (runs.legal whole _ _ cycles a legal))
 
+    packed_there : (run : Run) (cycles host agent : ℕ) → host < whole.hosts → agent < whole.agents → IsRun netlist run cycles → IsLegalRun whole (module_run plan netlist run) cycles
+        → ReadsEachTouchedWordOnce whole (module_run plan netlist run) host agent cycles
+    packed_there run cycles host agent here there r legal =
+        let on = goes_on run cycles r in
+        let a = agree run cycles r in
+        runs.packed whole (seen_in plan made on.endless) (module_run plan netlist run) host agent cycles (runs.turned _ _ cycles a)
+        (fabrics.packed netlist made is_made netlist (extends-refl netlist) on.endless on.is_run cycles (runs.legal whole _ _ cycles a legal) host agent here there)
+
     ignores_there : IgnoresReaddata AreZero whole (CanShow plan netlist)
     ignores_there state one other can_one can_other alike a below =
         let x = can_one.0 in
@@ -378,6 +391,7 @@ module _ (plan : PlanTable) (netlist : Netlist) (m : IsMemoryIn plan netlist) (f
       fair = fair_there;
       reads_back = λ run cycles host agent contents here there r legal acts.
           runs.reads whole (module_run plan netlist run) agent contents cycles host acts ((safe_there run cycles r legal).returned host here);
+      packed = packed_there;
       ignores_readdata = ignores_there;
     }
 
@@ -414,6 +428,7 @@ module _ (plan : PlanTable) (netlist : Netlist) (m : IsMemoryIn plan netlist) (f
       };
       fair = λ run cycles r legal. record { few = λ a below. absurd (no_agent a below); turns = λ a below. absurd (no_agent a below) };
       reads_back = λ run cycles host agent contents here there. absurd (no_host host here);
+      packed = λ run cycles host agent here there. absurd (no_host host here);
       ignores_readdata = λ state one other can_one can_other alike a below. absurd (no_agent a below);
     }
 

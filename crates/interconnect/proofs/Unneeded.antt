@@ -22,6 +22,7 @@ use Rattle.mm_runs.specs.Order.{ActsAsMemory, ReadsFromMemory}
 use Rattle.mm_runs.specs.Whole.{IsLegalRun, IsSafe}
 use Rattle.mm_runs.specs.Awake.{NeverIdles, IsFair}
 use Rattle.mm_runs.specs.Moment.{Moment}
+use Rattle.mm_runs.specs.Packed.{ReadsEachTouchedWordOnce}
 use Rattle.memory_plans.specs.Systems.{memory_system}
 use Rattle.mm_path.specs.Shown.{silent_host, silent_agent, moment_in, standing_still}
 use Rattle.port_tables.specs.Ports.{EndName, port_name, name_at, is_forward, role_word}
@@ -140,6 +141,10 @@ memory_as plan whole pruned p h = record {
       subst (λ (m : MemoryRun). ReadsFromMemory (memory_system plan) m host agent contents cycles) same
       (h.reads_back w.whole_run cycles host agent contents a b w.is_run (subst (λ (m : MemoryRun). IsLegalRun (memory_system plan) m cycles) (sym same) legal)
       (subst (λ (m : MemoryRun). ActsAsMemory (memory_system plan) m contents agent cycles) (sym same) acts)));
+  packed = λ run cycles host agent a b is legal. (let w = p.runs run cycles is in
+      let same = same_memory plan whole pruned w.whole_run run w.signals in
+      subst (λ (m : MemoryRun). ReadsEachTouchedWordOnce (memory_system plan) m host agent cycles) same
+      (h.packed w.whole_run cycles host agent a b w.is_run (subst (λ (m : MemoryRun). IsLegalRun (memory_system plan) m cycles) (sym same) legal)));
   ignores_readdata = λ state one other shows_one shows_other inputs a lt. (let s = p.states state in
       h.ignores_readdata s.whole_state one other (can_show plan whole pruned state one s shows_one) (can_show plan whole pruned state other s shows_other) inputs a lt);
 }

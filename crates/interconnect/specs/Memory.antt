@@ -15,6 +15,7 @@ use Rattle.mm_runs.specs.Order.{ActsAsMemory, ReadsFromMemory}
 use Rattle.mm_runs.specs.Whole.{IsLegalRun, IsSafe}
 use Rattle.mm_runs.specs.Awake.{NeverIdles, IsFair}
 use Rattle.mm_runs.specs.Moment.{Moment, IgnoresReaddata}
+use Rattle.mm_runs.specs.Packed.{ReadsEachTouchedWordOnce}
 use Rattle.memory_plans.specs.Systems.{memory_system}
 use Rattle.mm_path.specs.Shown.{silent_host, silent_agent, moment_in, standing_still}
 use Rattle.port_tables.specs.Ports.{EndName, port_name, name_at}
@@ -79,7 +80,8 @@ CanShow plan netlist state moment =
 
 -- In every run of the module whose hosts and agents are legal, the module keeps its own side of the rules at them all, the granted order, the
 -- return of words in command order, and the lag; a wanted agent is served within its window, and hosts that ask have their shares; every byte that
--- a host is given from an agent that acts as memory is what the writes before its read have left; and no command depends on the word that comes in its cycle
+-- a host is given from an agent that acts as memory is what the writes before its read have left; each word of an agent that a read touches, of a host
+-- whose word is no larger, is read once; and no command depends on the word that comes in its cycle
 pub record ServesMemory (plan : PlanTable) (netlist : Netlist) : Type 0 where
   pub kept : IsMemoryPlan (memory_system plan)
   pub safe : (run : Run) (cycles : ℕ) → IsRun netlist run cycles → IsLegalRun (memory_system plan) (module_run plan netlist run) cycles
@@ -91,4 +93,7 @@ pub record ServesMemory (plan : PlanTable) (netlist : Netlist) : Type 0 where
   pub reads_back : (run : Run) (cycles host agent : ℕ) (contents : ℕ → ℕ) → host < (memory_system plan).hosts → agent < (memory_system plan).agents
       → IsRun netlist run cycles → IsLegalRun (memory_system plan) (module_run plan netlist run) cycles → ActsAsMemory (memory_system plan) (module_run plan netlist run) contents agent cycles
       → ReadsFromMemory (memory_system plan) (module_run plan netlist run) host agent contents cycles
+  pub packed : (run : Run) (cycles host agent : ℕ) → host < (memory_system plan).hosts → agent < (memory_system plan).agents
+      → IsRun netlist run cycles → IsLegalRun (memory_system plan) (module_run plan netlist run) cycles
+      → ReadsEachTouchedWordOnce (memory_system plan) (module_run plan netlist run) host agent cycles
   pub ignores_readdata : IgnoresReaddata AreZero (memory_system plan) (CanShow plan netlist)

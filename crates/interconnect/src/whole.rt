@@ -11,6 +11,7 @@ use iface_roles::proper_records_are_bounded;
 use link_rules::{Plan, memory_links_are_numbered};
 use memory_plans::plans_are_memory_plans;
 use mm_fabric::{fabrics_are_served, fabrics_ignore_words, links_are_few};
+use mm_packed::agree::packed_runs_agree;
 use mm_path::links_are_connections;
 use mm_runs::{memory_is_read_back, same_beginnings};
 use netlist::{Module, goes_on};
@@ -45,6 +46,7 @@ pub fn build(alloc: Global, plan: &Plan) -> Result<Built, NoMemory>
     fabrics_are_served();
     fabrics_ignore_words();
     same_beginnings();
+    packed_runs_agree();
     memory_is_read_back();
     goes_on();
     proper_records_are_bounded();

@@ -56,6 +56,7 @@ returns-clause-module c =
       safe = c.fabrics_are_served.ensures.safe plan is_plan;
       awake = c.fabrics_are_served.ensures.awake plan is_plan;
       fair = c.fabrics_are_served.ensures.fair plan is_plan;
+      packed = c.fabrics_are_served.ensures.packed plan is_plan;
       ignores = c.fabrics_ignore_words.ensures plan is_plan;
     }) (record {
       turned = c.same_beginnings.ensures.turned;
@@ -63,6 +64,7 @@ returns-clause-module c =
       safe = c.same_beginnings.ensures.safe;
       awake = c.same_beginnings.ensures.awake;
       fair = c.same_beginnings.ensures.fair;
+      packed = c.packed_runs_agree.ensures;
       reads = c.memory_is_read_back.ensures;
     }) (c.goes_on.ensures c.join_streams.new.builder c.well_made-2.ensures) whole))
 
