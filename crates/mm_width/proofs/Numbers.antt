@@ -1,6 +1,6 @@
 -- How many nets the links of a pair take, and the widths that they are given.
-use Rattle.std.proofs.Common.{◌≡◌, ℕ, ◌+◌, ◌*◌, ◌≤◌, Bool, true, false, if◌then◌else◌, nat_lt, refl, sym, ap₂, ◌∙◌, arith, ltb-true, ltb-false}
-use Rattle.std.specs.Prelude.{Option, Some, None, unwrap_or, option_map}
+use Rattle.std.proofs.Common.{◌≡◌, ℕ, ◌+◌, ◌*◌, ◌≤◌, Bool, true, false, if◌then◌else◌, nat_eq, refl, sym, ap, ap₂, ◌∙◌, arith}
+use Rattle.std.specs.Prelude.{unwrap_or, option_map}
 use Rattle.iface_roles.specs.declared.records.HostPort.{HostPort}
 use Rattle.iface_roles.specs.declared.records.AgentPort.{AgentPort}
 use Rattle.command_nets.specs.Nets.{Widths}
@@ -9,104 +9,105 @@ use Rattle.mm_burst.specs.CutterNets as cutter
 use Rattle.mm_burst.specs.Ways.{more_nets}
 use Rattle.mm_select.specs.declared.select.Select.{Select}
 use Rattle.mm_select.specs.SelectNets.{given_widths}
+use Rattle.mm_gather.specs.declared.gather.Gather.{Gather}
+use Rattle.mm_gather.specs.GatherNets as gather
 use Rattle.mm_split.specs.declared.split.Split.{Split}
 use Rattle.mm_split.specs.SplitNets.{narrow_widths}
 use Rattle.mm_drop.specs.declared.dropper.Dropper.{Dropper}
 use Rattle.mm_width.specs.Links.{Fitting, Width, cutter_if, fitting_by, fitting_of, width_of}
-use Rattle.mm_width.specs.Pairs.{MayAskOf, cutter_between, widths_between, widths_below, needs_cut, needs_drop}
+use Rattle.mm_width.specs.Pairs.{MayAskOf, cutter_between, widths_between, widths_below, packs, place_bits, bits_between, needs_cut, needs_drop}
+use Rattle.mm_width.proofs.Bursts.{by_words, no_places, same_cut, single_between, packed_cut}
 
 -- ---- nets
 
 -- so many for each link that is there
-abbrev for_links : (cutter : Cutter → ℕ) (select split dropper : ℕ) → Width → ℕ
-for_links cutter select split dropper width =
+abbrev for_links : (cutter : Cutter → ℕ) (select gather split dropper : ℕ) → Width → ℕ
+for_links cutter select gather split dropper width =
     let fitting = width.second in
+    let words = fitting.first in
     unwrap_or (option_map cutter width.first.link) 0
-    + ((unwrap_or (option_map (λ (s : Select). select) fitting.first.first.link) 0 + unwrap_or (option_map (λ (s : Split). split) fitting.first.second.link) 0)
+    + (((unwrap_or (option_map (λ (s : Select). select) words.first.first.link) 0 + unwrap_or (option_map (λ (s : Gather). gather) words.first.second.link) 0) + unwrap_or (option_map (λ (s : Split). split) words.second.link) 0)
     + unwrap_or (option_map (λ (s : Dropper). dropper) fitting.second.link) 0)
 
 -- the most nets of the first call, and of the second
 abbrev pub nets_of : Width → ℕ
-nets_of width = for_links (λ s. 50 + 7 * more_nets s.place_bits) 41 337 31 width
+nets_of width = for_links (λ s. 50 + 7 * more_nets s.place_bits) 41 103 337 31 width
 
 abbrev pub answers_of : Width → ℕ
-answers_of width = for_links (λ s. 20) 69 239 49 width
+answers_of width = for_links (λ s. 20) 69 93 239 49 width
 
--- and its memories: there are none
+-- and its memories
 abbrev pub memories_of : Width → ℕ
-memories_of width = for_links (λ s. 0) 0 0 0 width
+memories_of width = for_links (λ s. 0) 0 4 0 0 width
 
-abbrev none_each : {L : Type 0} → Option L → ℕ
-none_each {L} link = unwrap_or (option_map (λ (s : L). 0) link) 0
+abbrev Few : (most : ℕ) (cutter : Cutter → ℕ) (select gather split dropper : ℕ) → HostPort → AgentPort → ℕ → Bool → Bool → Bool → Bool → Bool → Type 0
+Few most cutter select gather split dropper host agent stages cuts drops selected gathered wider =
+    for_links cutter select gather split dropper (record { first = record { link = cutter_if cuts host agent }; second = fitting_by selected gathered wider drops host agent stages }) ≤ most
 
-none_of : {L : Type 0} (link : Option L) → none_each link ≡ 0
-none_of {L} (Some link) = refl
-none_of {L} None = refl
+abbrev words_sum : (select gather split : ℕ) → Bool → Bool → Bool → HostPort → AgentPort → ℕ → ℕ
+words_sum select gather split selected gathered wider host agent stages =
+    let words = (fitting_by selected gathered wider false host agent stages).first in
+    (unwrap_or (option_map (λ (s : Select). select) words.first.first.link) 0 + unwrap_or (option_map (λ (s : Gather). gather) words.first.second.link) 0) + unwrap_or (option_map (λ (s : Split). split) words.second.link) 0
 
-pub no_memories : (width : Width) → memories_of width ≡ 0
-no_memories width =
-    let cutter = none_of width.first.link in
-    let select = none_of width.second.first.first.link in
-    let split = none_of width.second.first.second.link in
-    let dropper = none_of width.second.second.link in
-    omega (arith, cutter, select, split, dropper)
+-- one of three links stands between cutter and dropper, or none
+few_one : (most : ℕ) (cutter : Cutter → ℕ) (select gather split dropper : ℕ) (host : HostPort) (agent : AgentPort) (stages : ℕ) (cuts drops selected gathered wider : Bool) → words_sum select gather split selected gathered wider host agent stages + cutter (cutter_between host agent) + dropper ≤ most →
+    Few most cutter select gather split dropper host agent stages cuts drops selected gathered wider
+few_one most cutter select gather split dropper host agent stages true true selected gathered wider h = omega (arith, h)
+few_one most cutter select gather split dropper host agent stages true false selected gathered wider h = omega (arith, h)
+few_one most cutter select gather split dropper host agent stages false true selected gathered wider h = omega (arith, h)
+few_one most cutter select gather split dropper host agent stages false false selected gathered wider h = omega (arith, h)
 
-not_both : (m n : ℕ) → nat_lt m n ≡ true → nat_lt n m ≡ true → ⊥
-not_both m n less more = let low = ltb-true m n less in let high = ltb-true n m more in omega (arith, low, high)
+few_links : (most : ℕ) (cutter : Cutter → ℕ) (select gather split dropper : ℕ) (host : HostPort) (agent : AgentPort) (stages : ℕ) →
+    (packs host agent ≡ false → cutter (cutter_between host agent) + select + dropper ≤ most) → cutter (cutter_between host agent) + gather + dropper ≤ most → (packs host agent ≡ false → cutter (cutter_between host agent) + split + dropper ≤ most) →
+    for_links cutter select gather split dropper (width_of host agent stages) ≤ most
+few_links most cutter select gather split dropper host agent stages selects gathers splits =
+    let cut = cutter (cutter_between host agent) in
+    by_words host agent (Few most cutter select gather split dropper host agent stages (needs_cut host agent) (needs_drop host agent))
+    (λ less single plain. few_one most cutter select gather split dropper host agent stages (needs_cut host agent) (needs_drop host agent) true false false (let h = selects plain in omega (arith, h)))
+    (λ less p. few_one most cutter select gather split dropper host agent stages (needs_cut host agent) (needs_drop host agent) false true false (omega (arith, gathers)))
+    (λ less plain. few_one most cutter select gather split dropper host agent stages (needs_cut host agent) (needs_drop host agent) false false true (let h = splits plain in omega (arith, h)))
+    (λ same plain. few_one most cutter select gather split dropper host agent stages (needs_cut host agent) (needs_drop host agent) false false false (let h = splits plain in omega (arith, h)))
 
--- a lane selector and a splitter don't stand in one row
-few_by : (most : ℕ) (cutter : Cutter → ℕ) (select split dropper : ℕ) (cuts narrower wider drops : Bool) (host : HostPort) (agent : AgentPort) (stages : ℕ) → cutter (cutter_between host agent) + (select + dropper) ≤ most → cutter (cutter_between host agent) + (split + dropper) ≤ most → (narrower ≡ true → wider ≡ true → ⊥) →
-    for_links cutter select split dropper (record { first = record { link = cutter_if cuts host agent }; second = fitting_by narrower wider drops host agent stages }) ≤ most
-few_by most cutter select split dropper cuts true true drops host agent stages selects splits never = absurd (never refl refl)
-few_by most cutter select split dropper true true false true host agent stages selects splits never = omega (arith, selects)
-few_by most cutter select split dropper true true false false host agent stages selects splits never = omega (arith, selects)
-few_by most cutter select split dropper true false true true host agent stages selects splits never = omega (arith, splits)
-few_by most cutter select split dropper true false true false host agent stages selects splits never = omega (arith, splits)
-few_by most cutter select split dropper true false false true host agent stages selects splits never = omega (arith, selects)
-few_by most cutter select split dropper true false false false host agent stages selects splits never = omega (arith, selects)
-few_by most cutter select split dropper false true false true host agent stages selects splits never = omega (arith, selects)
-few_by most cutter select split dropper false true false false host agent stages selects splits never = omega (arith, selects)
-few_by most cutter select split dropper false false true true host agent stages selects splits never = omega (arith, splits)
-few_by most cutter select split dropper false false true false host agent stages selects splits never = omega (arith, splits)
-few_by most cutter select split dropper false false false true host agent stages selects splits never = omega (arith, selects)
-few_by most cutter select split dropper false false false false host agent stages selects splits never = omega (arith, selects)
-
-few_links : (most : ℕ) (cutter : Cutter → ℕ) (select split dropper : ℕ) (host : HostPort) (agent : AgentPort) (stages : ℕ) → cutter (cutter_between host agent) + (select + dropper) ≤ most → cutter (cutter_between host agent) + (split + dropper) ≤ most → for_links cutter select split dropper (width_of host agent stages) ≤ most
-few_links most cutter select split dropper host agent stages selects splits =
-    few_by most cutter select split dropper (needs_cut host agent) (nat_lt host.word_bytes agent.word_bytes) (nat_lt agent.word_bytes host.word_bytes) (needs_drop host agent) host agent stages selects splits (not_both host.word_bytes agent.word_bytes)
+more_few : (places : ℕ) → more_nets places ≤ 1
+more_few places = by (nat_eq places 0)
+  where
+    by : (none : Bool) → (if none then 0 else 1) ≤ 1
+    by true = omega arith
+    by false = omega arith
 
 pub few_nets : (host : HostPort) (agent : AgentPort) (stages : ℕ) → nets_of (width_of host agent stages) ≤ 418
-few_nets host agent stages = few_links 418 (λ s. 50 + 7 * more_nets s.place_bits) 41 337 31 host agent stages (omega arith) (omega arith)
+few_nets host agent stages =
+    let more = more_few (place_bits host agent) in
+    let none : packs host agent ≡ false → more_nets (place_bits host agent) ≡ 0 = λ plain. ap more_nets (no_places host agent plain) in
+    few_links 418 (λ s. 50 + 7 * more_nets s.place_bits) 41 103 337 31 host agent stages (λ plain. omega (arith, more)) (omega (arith, more)) (λ plain. (let e = none plain in omega (arith, e)))
 
 pub few_answers : (host : HostPort) (agent : AgentPort) (stages : ℕ) → answers_of (width_of host agent stages) ≤ 310
-few_answers host agent stages = few_links 310 (λ s. 20) 69 239 49 host agent stages (omega arith) (omega arith)
+few_answers host agent stages = few_links 310 (λ s. 20) 69 93 239 49 host agent stages (λ plain. omega arith) (omega arith) (λ plain. omega arith)
+
+pub few_memories : (host : HostPort) (agent : AgentPort) (stages : ℕ) → memories_of (width_of host agent stages) ≤ 4
+few_memories host agent stages = few_links 4 (λ s. 0) 0 4 0 0 host agent stages (λ plain. omega arith) (omega arith) (λ plain. omega arith)
 
 -- ---- widths, link by link
 
 abbrev pub widths_through : Width → Widths → Widths
 widths_through width widths =
     let fitting = width.second in
+    let words = fitting.first in
     let cut = unwrap_or (option_map (λ (s : Cutter). cutter.given_widths s widths) width.first.link) widths in
-    let first = unwrap_or (option_map (λ (s : Select). given_widths s cut) fitting.first.first.link) cut in
-    let second = unwrap_or (option_map (λ (s : Split). narrow_widths s first) fitting.first.second.link) first in
-    unwrap_or (option_map (λ (s : Dropper). second) fitting.second.link) second
+    let selected = unwrap_or (option_map (λ (s : Select). given_widths s cut) words.first.first.link) cut in
+    let gathered = unwrap_or (option_map (λ (s : Gather). gather.given_widths s selected) words.first.second.link) selected in
+    let split = unwrap_or (option_map (λ (s : Split). narrow_widths s gathered) words.second.link) gathered in
+    unwrap_or (option_map (λ (s : Dropper). split) fitting.second.link) split
 
--- with the agent's word
-abbrev narrowed : AgentPort → Widths → Widths
-narrowed agent widths = record widths { word = agent.word_bytes * 8; enables = agent.word_bytes }
+-- with the agent's word, and so many bits of burstcount
+abbrev fitted : AgentPort → ℕ → Widths → Widths
+fitted agent count widths = record widths { word = agent.word_bytes * 8; enables = agent.word_bytes; count = count }
 
 abbrev between : Bool → HostPort → AgentPort → Widths → Widths
 between cuts host agent widths = if cuts then cutter.given_widths (cutter_between host agent) widths else widths
 
-fit_through : (narrower wider drops : Bool) (host : HostPort) (agent : AgentPort) (stages : ℕ) (widths : Widths) → (narrower ≡ true → wider ≡ true → ⊥) → (narrower ≡ false → wider ≡ false → narrowed agent widths ≡ widths) →
-    widths_through (record { first = record { link = cutter_if false host agent }; second = fitting_by narrower wider drops host agent stages }) widths ≡ narrowed agent widths
-fit_through true true drops host agent stages widths never same = absurd (never refl refl)
-fit_through true false true host agent stages widths never same = refl
-fit_through true false false host agent stages widths never same = refl
-fit_through false true true host agent stages widths never same = refl
-fit_through false true false host agent stages widths never same = refl
-fit_through false false true host agent stages widths never same = sym (same refl refl)
-fit_through false false false host agent stages widths never same = sym (same refl refl)
+abbrev fit_only : Bool → Bool → Bool → Bool → HostPort → AgentPort → ℕ → Widths → Widths
+fit_only drops selected gathered wider host agent stages widths = widths_through (record { first = record { link = cutter_if false host agent }; second = fitting_by selected gathered wider drops host agent stages }) widths
 
 cut_through : (cuts : Bool) (fitting : Fitting) (host : HostPort) (agent : AgentPort) (widths : Widths) →
     widths_through (record { first = record { link = cutter_if cuts host agent }; second = fitting }) widths ≡ widths_through (record { first = record { link = cutter_if false host agent }; second = fitting }) (between cuts host agent widths)
@@ -118,22 +119,53 @@ same_lanes : (cuts : Bool) (host : HostPort) (agent : AgentPort) (widths : Width
 same_lanes true host agent widths = refl
 same_lanes false host agent widths = refl
 
+abbrev count_on : Bool → HostPort → AgentPort → Widths → ℕ
+count_on cuts host agent widths = if cuts then bits_between host agent else widths.count
+
+-- and but for bursts that are gathered, so many bits of burstcount as go on
+same_count : (cuts : Bool) (host : HostPort) (agent : AgentPort) (widths : Widths) → packs host agent ≡ false → (between cuts host agent widths).count ≡ count_on cuts host agent widths
+same_count true host agent widths plain = same_cut host agent plain
+same_count false host agent widths plain = refl
+
 -- and the tag
-tag_by : (cuts : Bool) (host : HostPort) (agent : AgentPort) (widths : Widths) → record (narrowed agent (between cuts host agent widths)) { tag = widths.tag } ≡ narrowed agent (between cuts host agent widths)
-tag_by true host agent widths = refl
-tag_by false host agent widths = refl
+tag_by : (cuts : Bool) (host : HostPort) (agent : AgentPort) (count : ℕ) (widths : Widths) → record (fitted agent count (between cuts host agent widths)) { tag = widths.tag } ≡ fitted agent count (between cuts host agent widths)
+tag_by true host agent count widths = refl
+tag_by false host agent count widths = refl
 
 pub same_tag : (host : HostPort) (agent : AgentPort) (widths : Widths) → record (widths_below host agent widths) { tag = widths.tag } ≡ widths_below host agent widths
-same_tag host agent widths = tag_by (needs_cut host agent) host agent widths
+same_tag host agent widths = tag_by (needs_cut host agent) host agent (count_on (needs_cut host agent) host agent widths) widths
+
+module _ (host : HostPort) (agent : AgentPort) (stages : ℕ) (widths : Widths) where
+  select_through : (drops : Bool) → fit_only drops true false false host agent stages widths ≡ fitted agent widths.count widths
+  select_through true = refl
+  select_through false = refl
+
+  gather_through : (drops : Bool) → fit_only drops false true false host agent stages widths ≡ fitted agent 1 widths
+  gather_through true = refl
+  gather_through false = refl
+
+  split_through : (drops : Bool) → fit_only drops false false true host agent stages widths ≡ fitted agent widths.count widths
+  split_through true = refl
+  split_through false = refl
+
+  none_through : (drops : Bool) → fit_only drops false false false host agent stages widths ≡ widths
+  none_through true = refl
+  none_through false = refl
 
 pub through : (host : HostPort) (agent : AgentPort) (stages : ℕ) (widths : Widths) → MayAskOf host agent widths → widths_through (width_of host agent stages) widths ≡ widths_below host agent widths
 through host agent stages widths may =
-    cut_through (needs_cut host agent) (fitting_of host agent stages) host agent widths
-    ∙ fit_through (nat_lt host.word_bytes agent.word_bytes) (nat_lt agent.word_bytes host.word_bytes) (needs_drop host agent) host agent stages (widths_between host agent widths) (not_both host.word_bytes agent.word_bytes)
-    (λ less more.
-    (let low = ltb-false host.word_bytes agent.word_bytes less in
-    let high = ltb-false agent.word_bytes host.word_bytes more in
-    let bytes : agent.word_bytes ≡ host.word_bytes = omega (arith, low, high) in
-    let word = may.word in
+    let cuts = needs_cut host agent in
+    let drops = needs_drop host agent in
+    let cut = widths_between host agent widths in
+    let below = widths_below host agent widths in
+    let plain : packs host agent ≡ false → fitted agent cut.count cut ≡ below = λ p. ap (λ n. fitted agent n cut) (same_count cuts host agent widths p) in
+    cut_through cuts (fitting_of host agent stages) host agent widths
+    ∙ by_words host agent (λ selected gathered wider. fit_only drops selected gathered wider host agent stages cut ≡ below)
+    (λ less single p. select_through host agent stages cut drops ∙ plain p)
+    (λ less p. gather_through host agent stages cut drops ∙ ap (λ n. fitted agent n cut) (sym (ap (λ (b : Bool). count_on b host agent widths) (packed_cut host agent p) ∙ single_between host agent p)))
+    (λ less p. split_through host agent stages cut drops ∙ plain p)
+    (λ same p. none_through host agent stages cut drops
+    ∙ (let word = may.word in
     let enables = may.enables in
-    ap₂ (λ (w e : ℕ). record (widths_between host agent widths) { word = w; enables = e }) (omega (arith, bytes, word)) (omega (arith, bytes, enables)) ∙ sym (same_lanes (needs_cut host agent) host agent widths)))
+    same_lanes cuts host agent widths ∙ ap₂ (λ (w e : ℕ). record cut { word = w; enables = e }) (omega (arith, same, word)) (omega (arith, same, enables)))
+    ∙ plain p)

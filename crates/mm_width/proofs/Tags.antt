@@ -9,6 +9,8 @@ use Rattle.mm_machines.specs.Link.{Port, takes}
 use Rattle.mm_machines.specs.Machines.{Raw, raw_at, joined}
 use Rattle.mm_links.specs.Cutters.{Reach, Rest, CutterState, RunsAsCutter, is_sending, read_burst_of, write_of_burst, first_burst, whole_read, behind_burst}
 use Rattle.mm_links.specs.Drops.{DropState, RunsAsDrop, keeps, sent_beat, standing_at}
+use Rattle.mm_links.specs.Gathers.{GatherState, RunsAsGather}
+use Rattle.mm_links.specs.Gathers as gathers
 use Rattle.mm_links.specs.Selects.{RunsAsSelect, is_shut, takes_read}
 use Rattle.mm_links.specs.Splits.{SplitState, RunsAsSplit, split_at, opens}
 use Rattle.link_core.specs.Lines.{with_tag}
@@ -97,6 +99,30 @@ module _ (tags : ℕ → ℕ) (room : ℕ) (up down : Port) (offsets : ℕ → L
   pub select_shows_tags : ShowsTags tags up → ShowsTags tags down
   select_shows_tags bears c shown =
       run.tag c ∙ bears c (shown_above (is_shut room up offsets c) (up.commands.read c) (up.commands.write c) (ap (λ (l : Levels). is_raised l.read || is_raised l.write) (sym (run.levels c)) ∙ shown))
+
+-- ---- a gatherer
+
+module _ (tags : ℕ → ℕ) (room : ℕ) (up down : Port) (state : GatherState) (run : RunsAsGather room up down state) where
+  pub retagged_gather : RunsAsGather room (with_tag tags up) (with_tag tags down) state
+  retagged_gather = record {
+    levels = run.levels;
+    more = run.more;
+    tag = λ c. refl;
+    waitrequest = run.waitrequest;
+    entries_begin = run.entries_begin;
+    entries_next = run.entries_next;
+    words_begin = run.words_begin;
+    words_next = run.words_next;
+    given_begins = run.given_begins;
+    given_next = run.given_next;
+    valid = run.valid;
+    word = run.word;
+    code = run.code;
+  }
+
+  pub gather_shows_tags : ShowsTags tags up → ShowsTags tags down
+  gather_shows_tags bears c shown =
+      run.tag c ∙ bears c (shown_above (gathers.is_shut room up state c) (up.commands.read c) (up.commands.write c) (ap (λ (l : Levels). is_raised l.read || is_raised l.write) (sym (run.levels c)) ∙ shown))
 
 -- ---- a splitter
 

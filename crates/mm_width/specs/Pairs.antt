@@ -1,5 +1,5 @@
 -- What a host and an agent need between them, and what is asked of the host's command.
-use Rattle.std.specs.Prelude.{◌≡◌, ℕ, ◌*◌, ◌^◌, ◌<◌, ◌≤◌, Bool, true, not, ◌&&◌, ◌==◌, if◌then◌else◌, nat_lt}
+use Rattle.std.specs.Prelude.{◌≡◌, ℕ, ◌+◌, ◌-◌, ◌*◌, ◌^◌, ◌<◌, ◌≤◌, max, Bool, true, not, ◌&&◌, ◌==◌, if◌then◌else◌, nat_lt}
 use Rattle.iface_roles.specs.declared.records.HostPort.{HostPort}
 use Rattle.iface_roles.specs.declared.records.AgentPort.{AgentPort}
 use Rattle.iface_roles.specs.Proper.{IsWordSize}
@@ -9,7 +9,7 @@ use Rattle.netlist.specs.Runs.{Always}
 use Rattle.command_nets.specs.declared.nets.CommandNets.{CommandNets}
 use Rattle.command_nets.specs.Nets.{Widths}
 use Rattle.mm_burst.specs.declared.cutter.Cutter.{Cutter}
-use Rattle.mm_burst.specs.CutterNets.{given_widths}
+use Rattle.mm_burst.specs.CutterNets.{given_widths, lane_exponent}
 
 -- a beat may have no enabled lane, and the agent couldn't see it
 abbrev pub needs_drop : HostPort → AgentPort → Bool
@@ -19,13 +19,29 @@ needs_drop host agent = host.enables && not agent.enables
 abbrev pub keeps_beats : HostPort → AgentPort → Bool
 keeps_beats host agent = (host.word_bytes == agent.word_bytes) && not (needs_drop host agent)
 
--- bursts may have so many bits of burstcount below the cutter: the agent's, or where a beat may become none or many, that of single beats
+-- the host's read bursts are gathered from wide words
+abbrev pub packs : HostPort → AgentPort → Bool
+packs host agent = nat_lt host.word_bytes agent.word_bytes && nat_lt 1 host.burst_bits
+
+-- else its narrow words are selected from wide ones
+abbrev pub selects : HostPort → AgentPort → Bool
+selects host agent = nat_lt host.word_bytes agent.word_bytes && not (packs host agent)
+
+-- the bits of a narrow word's place in a wide one, where reads are gathered
+abbrev pub place_bits : HostPort → AgentPort → ℕ
+place_bits host agent = if packs host agent then lane_exponent agent.word_bytes - lane_exponent host.word_bytes else 0
+
+-- bursts may go on with so many bits of burstcount: the agent's, or where a beat may become none or many, or many one, that of single beats
 abbrev pub bits_between : HostPort → AgentPort → ℕ
 bits_between host agent = if keeps_beats host agent then burst_width agent.burst_bits else 1
 
 -- the host may have longer ones
 abbrev pub needs_cut : HostPort → AgentPort → Bool
 needs_cut host agent = nat_lt (bits_between host agent) (burst_width host.burst_bits)
+
+-- a cutter leaves them so many bits: those, and where reads are gathered enough for the narrow words of a wide one
+abbrev pub bits_cut : HostPort → AgentPort → ℕ
+bits_cut host agent = bits_between host agent + place_bits host agent
 
 -- nothing stands between them
 abbrev pub is_wire_pair : HostPort → AgentPort → Bool
@@ -50,15 +66,16 @@ pub record MayAskOf (host : HostPort) (agent : AgentPort) (widths : Widths) : Ty
 
 -- what cuts the host's bursts, where that is needed
 abbrev pub cutter_between : HostPort → AgentPort → Cutter
-cutter_between host agent = record { word_bytes = host.word_bytes; count_bits = burst_width host.burst_bits; below_bits = bits_between host agent; place_bits = 0 }
+cutter_between host agent = record { word_bytes = host.word_bytes; count_bits = max (burst_width host.burst_bits) (bits_cut host agent); below_bits = bits_cut host agent; place_bits = place_bits host agent }
 
 -- below the cutter
 abbrev pub widths_between : HostPort → AgentPort → Widths → Widths
 widths_between host agent widths = if needs_cut host agent then given_widths (cutter_between host agent) widths else widths
 
--- the same with the agent's word
+-- the same with the agent's word, and with bursts that may go on
 abbrev pub widths_below : HostPort → AgentPort → Widths → Widths
-widths_below host agent widths = record (widths_between host agent widths) { word = agent.word_bytes * 8; enables = agent.word_bytes }
+widths_below host agent widths =
+    record (widths_between host agent widths) { word = agent.word_bytes * 8; enables = agent.word_bytes; count = if needs_cut host agent then bits_between host agent else widths.count }
 
 -- each command bears this one tag, the number of its host
 pub record BearsOneTag (netlist : Netlist) (command : CommandNets) : Type 0 where

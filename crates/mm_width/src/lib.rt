@@ -5,6 +5,6 @@ mod links;
 mod pairs;
 mod width;
 
-pub use links::{Width, WidthKept, width_of};
+pub use links::{KeptByGather, Width, WidthKept, width_of};
 pub use pairs::{is_wire_pair, needs_drop};
 pub use width::{begin_width, finish_width};

@@ -1,18 +1,22 @@
 //! The links of a host and an agent.
 
 ghost use Rattle.std.specs.Prelude.{◌≡◌, ◌≤◌};
+ghost use Rattle.mm_width.specs.Pairs.{MayMeet};
 ghost use Rattle.mm_width.specs.Links.{within_64, reads_below, reads_above, fitting_of, width_of};
 
-use crate::pairs::{cutter_between, needs_cut, needs_drop};
+use crate::pairs::{cutter_between, needs_cut, needs_drop, packs, selects};
 use iface_roles::{AgentPort, HostPort};
+use item_queues::{ItemQueue, Pointers, Storage, StoredItems};
 use link_core::{Chain, Maybe};
 use mm_burst::{Cutter, CutterKept};
 use mm_drop::{Dropper, DropperKept};
+use mm_gather::{Gather, GatherKept, HeldReads};
 use mm_select::{Select, SelectKept};
 use mm_split::{Split, SplitKept};
+use netlist::Mem;
 
-/// The links of a pair below its cutter: a lane selector or a splitter, and what drops beats without a lane.
-type Fitting = Chain<Chain<Maybe<Select>, Maybe<Split>>, Maybe<Dropper>>;
+/// The links of a pair below its cutter: a lane selector, a gatherer or a splitter, and what drops beats without a lane.
+type Fitting = Chain<Chain<Chain<Maybe<Select>, Maybe<Gather>>, Maybe<Split>>, Maybe<Dropper>>;
 
 /// The links of a pair, each where it is needed. The highest one is a cutter of bursts.
 pub type Width = Chain<Maybe<Cutter>, Fitting>;
@@ -20,7 +24,21 @@ pub type Width = Chain<Maybe<Cutter>, Fitting>;
 /// What is kept of them between their two calls, link by link.
 pub type WidthKept = (
     Option<CutterKept>,
-    ((Option<SelectKept>, Option<SplitKept>), Option<DropperKept>),
+    (
+        ((Option<SelectKept>, Option<GatherKept>), Option<SplitKept>),
+        Option<DropperKept>,
+    ),
+);
+
+/// The types in what is kept of a gatherer. A function that changes a vector of these links has to name them: rattle doesn't find
+/// what stands in an array.
+pub type KeptByGather = (
+    HeldReads,
+    ItemQueue<2>,
+    Storage<2>,
+    StoredItems<2>,
+    Pointers,
+    Mem,
 );
 
 /// From 1 to 64, as a plan's bound is.
@@ -59,12 +77,16 @@ fn fitting_of(host: &HostPort, agent: &AgentPort, stages: u8) -> Fitting
 {
     let above = reads_above(host, agent, stages);
     let below = reads_below(agent, stages);
-    let narrower = host.word_bytes < agent.word_bytes;
     let wider = agent.word_bytes < host.word_bytes;
     let select = Select {
         narrow_bytes: host.word_bytes,
         wide_bytes: agent.word_bytes,
         reads: above.max(2),
+    };
+    let gather = Gather {
+        narrow_bytes: host.word_bytes,
+        wide_bytes: agent.word_bytes,
+        reads: below + 1,
     };
     let split = Split {
         wide_bytes: host.word_bytes,
@@ -77,8 +99,21 @@ fn fitting_of(host: &HostPort, agent: &AgentPort, stages: u8) -> Fitting
     };
     Chain {
         first: Chain {
-            first: Maybe {
-                link: if narrower { Some(select) } else { None },
+            first: Chain {
+                first: Maybe {
+                    link: if selects(host, agent) {
+                        Some(select)
+                    } else {
+                        None
+                    },
+                },
+                second: Maybe {
+                    link: if packs(host, agent) {
+                        Some(gather)
+                    } else {
+                        None
+                    },
+                },
             },
             second: Maybe {
                 link: if wider { Some(split) } else { None },
@@ -97,6 +132,7 @@ fn fitting_of(host: &HostPort, agent: &AgentPort, stages: u8) -> Fitting
 /// The links that a host and an agent need, with so many stages before the agent.
 pub fn width_of(host: &HostPort, agent: &AgentPort, stages: u8) -> Width
     requires stages { stages ≤ 4 }
+    requires pair { MayMeet host.now agent.now }
     ensures { result ≡ width_of host.now agent.now stages }
 {
     let cutter = cutter_between(host, agent);

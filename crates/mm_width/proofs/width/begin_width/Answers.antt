@@ -1,23 +1,28 @@
-use Rattle.std.proofs.Common.{rules, ◌≡◌, ◌+◌, ◌^◌, ◌<◌, ◌≤◌, ◌∙◌, List, length, ◌⊎◌, arith, inl, inr, sym, subst, ap, ap₂, ℕ}
+use Rattle.std.proofs.Common.{rules, ◌≡◌, ◌+◌, ◌^◌, ◌<◌, ◌≤◌, ◌∙◌, Bool, true, false, List, length, ◌⊎◌, nat_lt, arith, inl, inr, refl, sym, subst, ap, ap₂, ℕ}
+use Rattle.std.proofs.lemmas.Bool.{ltb-true, ltb-false}
 use Rattle.iface_roles.specs.declared.records.HostPort.{HostPort}
 use Rattle.iface_roles.specs.declared.records.AgentPort.{AgentPort}
-use Rattle.netlist.specs.Netlists.{Netlist, IsWaiting}
-use Rattle.net_parts.specs.Growth.{GrowsBy}
-use Rattle.net_parts.specs.Laws.{owned_same, waiting_within, grows_fewer}
-use Rattle.net_parts.specs.Memories.{ForwardGrows, forward_grown}
+use Rattle.netlist.specs.Netlists.{Netlist, IsWaiting, WaitsForWrite}
+use Rattle.net_parts.specs.Growth.{GrowsInMemory}
+use Rattle.net_parts.specs.Laws.{owned_same, waiting_within}
+use Rattle.net_parts.specs.Memories.{ForwardGrows, ForwardMemories, MemoriesCome, forward_grown, memory_grows_fewer, memories_come, memory_within}
 use Rattle.net_parts.specs.Refusing.{handed_on}
-use Rattle.link_core.specs.Rooms.{WithRoomFor}
+use Rattle.link_core.specs.Rooms.{WithRoomFor, room_told}
 use Rattle.mm_machines.specs.Machines.{Raw}
 use Rattle.command_nets.specs.declared.nets.CommandNets.{CommandNets}
 use Rattle.command_nets.specs.Nets.{Widths, widths_of}
 use Rattle.mm_width.specs.Links.{Width, width_of}
-use Rattle.mm_width.specs.Kept.{WidthCommand, command_lasts, none_kept}
-use Rattle.mm_width.specs.Widths.{BegunWidth, AreBegunWidths, IsOfAnyWidth}
-use Rattle.mm_width.proofs.Numbers.{nets_of, memories_of, no_memories, few_nets, widths_through, through, same_tag}
-use Rattle.mm_width.proofs.Rows.{begun_push, last_owned}
+use Rattle.mm_width.specs.Kept.{WidthKept, WidthCommand, stores_width, command_lasts}
+use Rattle.mm_width.specs.Widths.{BegunWidth, AreBegunWidths, IsOfAnyWidth, IsStoredByAnyWidth}
+use Rattle.mm_width.proofs.Numbers.{nets_of, memories_of, few_nets, few_memories, widths_through, through, same_tag}
+use Rattle.mm_width.proofs.Rows.{begun_push, last_owned, last_stored}
 use Rattle.mm_width.proofs.Takes.{Takes, takes}
 use Rattle.mm_width.proofs.Wires.{wired_command}
 use Rattle.mm_width.proofs.width.begin_width.Goals as goal
+
+-- the memories of the links
+come : (width : Width) (kept : WidthKept) (old new : Netlist) → ForwardGrows (memories_of width) (nets_of width) old new → ForwardMemories (memories_of width) (stores_width kept) old new → MemoriesCome (stores_width kept) old new
+come width kept old new grows written = memories_come (memories_of width) (nets_of width) (stores_width kept) old new grows written
 
 pub emit_command-requires-clause-widths : goal.emit_command-requires-clause-widths
 emit_command-requires-clause-widths c =
@@ -50,22 +55,33 @@ returns-clause-begun c =
     let here = subst (λ (n : CommandNets). WidthCommand c.width_of-link.result c.args.from n c.in_ok-to.kept c.emit_command.new.builder) (sym c.copied-2.ensures) made in
     subst (λ (l : List BegunWidth). AreBegunWidths l c.emit_command.new.builder) (sym {A = List BegunWidth} c.in_ok-push.ensures.items)
     (begun_push _ _ c.args.builder.now c.emit_command.new.builder c.requires.begun (forward_grown _ _ _ _ c.emit_command.ensures.grows).extends c.emit_command.ensures.waits
-    (record { kept = c.in_ok-to.ensures.kept; made = here; waits = c.in_ok-to.ensures.own_wait }) c.in_ok-to.ensures.owned)
+    (record { kept = c.in_ok-to.ensures.kept; made = here; waits = c.in_ok-to.ensures.own_wait }) c.in_ok-to.ensures.owned
+    (come c.width_of-link.result c.in_ok-to.kept c.args.builder.now c.emit_command.new.builder c.emit_command.ensures.grows c.in_ok-to.ensures.written))
 
--- the links of a pair make nets alone
-grown : (host : HostPort) (agent : AgentPort) (stages : ℕ) (width : Width) (old new : Netlist) → width ≡ width_of host agent stages → ForwardGrows (memories_of width) (nets_of width) old new → GrowsBy 418 old new
+grown : (host : HostPort) (agent : AgentPort) (stages : ℕ) (width : Width) (old new : Netlist) → width ≡ width_of host agent stages → ForwardGrows (memories_of width) (nets_of width) old new → GrowsInMemory 418 4 old new
 grown host agent stages width old new is grows =
-    grows_fewer _ _ _ _ (subst (λ (w : Width). nets_of w ≤ 418) (sym is) (few_nets host agent stages)) (subst (λ stored. ForwardGrows stored (nets_of width) old new) (no_memories width) grows)
+    memory_grows_fewer (nets_of width) 418 (memories_of width) 4 old new (subst (λ (w : Width). nets_of w ≤ 418) (sym is) (few_nets host agent stages)) (subst (λ (w : Width). memories_of w ≤ 4) (sym is) (few_memories host agent stages))
+    (forward_grown (memories_of width) (nets_of width) old new grows)
 
 pub returns-in_err-to-clause-grows : goal.returns-in_err-to-clause-grows
 returns-in_err-to-clause-grows c = grown c.args.host.now c.args.agent.now c.args.stages c.width_of-link.result c.args.builder.now c.emit_command.new.builder c.width_of-link.ensures c.emit_command.ensures.grows
 
+-- with room for their memories the nets are too many
+too_many : (nets stored lines memories : ℕ) (netlist : Netlist) → nets ≤ 418 → stored ≤ 4 → length netlist.lines ≡ lines → length netlist.memories ≡ memories → WithRoomFor stored netlist (2 ^ 20 < length netlist.lines + nets) → (2 ^ 20 < lines + 418) ⊎ (2 ^ 16 < memories + 4)
+too_many nets stored lines memories netlist few less l m full = by (nat_lt (2 ^ 16) (memories + 4)) refl
+  where
+    by : (t : Bool) → nat_lt (2 ^ 16) (memories + 4) ≡ t → (2 ^ 20 < lines + 418) ⊎ (2 ^ 16 < memories + 4)
+    by true e = inr (ltb-true (2 ^ 16) (memories + 4) e)
+    by false e =
+        let enough = ltb-false (2 ^ 16) (memories + 4) e in
+        let most = room_told stored netlist (inr (omega (arith, enough, less, m))) full in
+        inl (omega (arith, most, few, l))
+
 pub returns-in_err-to-clause-full : goal.returns-in_err-to-clause-full
 returns-in_err-to-clause-full c e =
     let few = subst (λ (w : Width). nets_of w ≤ 418) (sym c.width_of-link.ensures) (few_nets c.args.host.now c.args.agent.now c.args.stages) in
-    let full = subst (λ stored. WithRoomFor stored c.args.builder.now (2 ^ 20 < length c.args.builder.now.lines + nets_of c.width_of-link.result)) (no_memories c.width_of-link.result)
-    (c.emit_command.ensures.full (handed_on _ _ _ _ c.in_err-to.was c.from_residual.ensures.1 e)) in
-    omega (arith, few, full)
+    let less = subst (λ (w : Width). memories_of w ≤ 4) (sym c.width_of-link.ensures) (few_memories c.args.host.now c.args.agent.now c.args.stages) in
+    too_many (nets_of c.width_of-link.result) (memories_of c.width_of-link.result) _ _ c.args.builder.now few less refl refl (c.emit_command.ensures.full (handed_on _ _ _ _ c.in_err-to.was c.from_residual.ensures.1 e))
 
 pub returns-in_err-push-clause-grows : goal.returns-in_err-push-clause-grows
 returns-in_err-push-clause-grows c = grown c.args.host.now c.args.agent.now c.args.stages c.width_of-link.result c.args.builder.now c.emit_command.new.builder c.width_of-link.ensures c.emit_command.ensures.grows
@@ -88,6 +104,10 @@ returns-clause-pushed c = record {
   below_is = search rules;
   is = search rules;
   fresh = λ n own waits. (let below = waiting_within c.args.builder.now n waits in let from = c.in_ok-to.ensures.owned n own in omega (arith, below, from.0));
+  fresh_memories = λ m own waits. (
+      let below = memory_within c.args.builder.now m waits in
+      let from = (come c.width_of-link.result c.in_ok-to.kept c.args.builder.now c.emit_command.new.builder c.emit_command.ensures.grows c.in_ok-to.ensures.written).between m own in
+      omega (arith, below, from.0));
 }
 
 pub returns-clause-newly : goal.returns-clause-newly
@@ -95,9 +115,17 @@ returns-clause-newly c n w =
     subst (λ (l : List BegunWidth). IsWaiting c.args.builder.now n ⊎ IsOfAnyWidth l n) (sym c.in_ok-push.ensures.items)
     (elim (c.in_ok-to.ensures.newly n w) [ inl old ↦ inl old | inr own ↦ inr (last_owned _ _ n own) ])
 
+pub returns-clause-still_wait_for_write : goal.returns-clause-still_wait_for_write
+returns-clause-still_wait_for_write c = (come c.width_of-link.result c.in_ok-to.kept c.args.builder.now c.emit_command.new.builder c.emit_command.ensures.grows c.in_ok-to.ensures.written).still
+
+pub returns-clause-newly_written : goal.returns-clause-newly_written
+returns-clause-newly_written c m w =
+    subst (λ (l : List BegunWidth). WaitsForWrite c.args.builder.now m ⊎ IsStoredByAnyWidth l m) (sym c.in_ok-push.ensures.items)
+    (elim ((come c.width_of-link.result c.in_ok-to.kept c.args.builder.now c.emit_command.new.builder c.emit_command.ensures.grows c.in_ok-to.ensures.written).newly m w) [ inl old ↦ inl old | inr own ↦ inr (last_stored _ _ m own) ])
+
 pub returns-clause-ignores_answer : goal.returns-clause-ignores_answer
 returns-clause-ignores_answer c longer e one other v w state same =
     let made = subst (λ (n : CommandNets). WidthCommand c.width_of-link.result n c.in_ok-to.to c.in_ok-to.kept c.emit_command.new.builder) c.copied.ensures c.in_ok-to.ensures.made in
     let below = c.law.ensures.ignores_answer c.args.from c.in_ok-to.to c.in_ok-to.kept longer (command_lasts c.width_of-link.result c.args.from c.in_ok-to.to c.in_ok-to.kept c.emit_command.new.builder longer made e) one other v w
-    (λ n o. owned_same c.emit_command.new.builder longer n one other c.well_made.ensures e (c.in_ok-to.ensures.own_wait n o) state) (λ m memory o. absurd (none_kept c.in_ok-to.kept m o)) same in
+    (λ n o. owned_same c.emit_command.new.builder longer n one other c.well_made.ensures e (c.in_ok-to.ensures.own_wait n o) state) (λ m memory o is place within. state.words m memory is place within) same in
     ap₂ (λ (r : Raw) (t : ℕ). record r { tag = t }) below (ap (λ (r : Raw). r.tag) same)
