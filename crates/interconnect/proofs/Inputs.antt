@@ -234,14 +234,15 @@ path_room plan number netlist h links inside upto =
     let streams = h.planned.few_streams in
     omega (arith, few, inputs, memory, streams, inside)
 
-pub path_memory_room : (plan : PlanTable) (number : ℕ) (netlist : Netlist) → HasKnownPorts plan.system → number < length (streams_of plan.system) → IsJoinedUpTo plan number netlist
+pub path_memory_room : (plan : PlanTable) (number : ℕ) (netlist : Netlist) → HasKnownPorts plan.system → HasFewLinks plan.system → number < length (streams_of plan.system) → IsJoinedUpTo plan number netlist
     → length netlist.memories + most_memories ≤ 2 ^ 16
-path_memory_room plan number netlist h inside upto =
+path_memory_room plan number netlist h links inside upto =
     let few = upto.few_memories in
+    let few_links = links.agents in
     let hosts = h.planned.few_hosts in
     let agents = h.planned.few_agents in
     let streams = h.planned.few_streams in
-    omega (arith, few, hosts, agents, streams, inside)
+    omega (arith, few, few_links, hosts, agents, streams, inside)
 
 -- ---- what was added
 

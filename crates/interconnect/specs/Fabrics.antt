@@ -1,5 +1,5 @@
 -- What stands between the hosts and agents of a plan, and drives the outputs at them.
-use Rattle.std.specs.Prelude.{◌≡◌, ℕ, ◌+◌, length, Some, slice_get}
+use Rattle.std.specs.Prelude.{◌≡◌, ℕ, length, Some, slice_get}
 use Rattle.system_tables.specs.Tables.{SystemTable}
 use Rattle.address_map.specs.Maps.{hosts_of, agents_of}
 use Rattle.link_rules.specs.PlanLinks.{memory_links}
@@ -9,7 +9,7 @@ use Rattle.net_parts.specs.Growth.{GrowsInMemory, StillWait, StillWaitForWrite}
 use Rattle.mm_fabric.specs.declared.parts.HostPart.{HostPart}
 use Rattle.mm_fabric.specs.declared.parts.AgentPart.{AgentPart}
 use Rattle.mm_fabric.specs.declared.fabric.FabricParts.{FabricParts}
-use Rattle.mm_fabric.specs.Ends.{AreParts, host_end_of, agent_end_of, fabric_nets}
+use Rattle.mm_fabric.specs.Ends.{AreParts, host_end_of, agent_end_of, fabric_nets, fabric_memories}
 use Rattle.interconnect.specs.Each.{AreEachDriven}
 use Rattle.interconnect.specs.Hosts.{IsHostIn, host_outputs}
 use Rattle.interconnect.specs.Agents.{IsAgentIn, agent_outputs}
@@ -17,6 +17,10 @@ use Rattle.interconnect.specs.Agents.{IsAgentIn, agent_outputs}
 -- the most nets that the hosts and agents of a system take
 abbrev pub memory_nets : SystemTable → ℕ
 memory_nets system = fabric_nets (length (hosts_of system)) (length (agents_of system)) (length (memory_links system))
+
+-- and the most memories
+abbrev pub system_memories : SystemTable → ℕ
+system_memories system = fabric_memories (length (hosts_of system)) (length (agents_of system)) (length (memory_links system))
 
 -- a part for each host and each agent, by their numbers
 pub record ArePartsOf (system : SystemTable) (parts : FabricParts) : Type 0 where
@@ -29,7 +33,7 @@ pub record ArePartsOf (system : SystemTable) (parts : FabricParts) : Type 0 wher
 pub record AddsFabric (plan : PlanTable) (old new : Netlist) (parts : FabricParts) : Type 0 where
   pub of : ArePartsOf plan.system parts
   pub stands : AreParts plan new parts
-  pub grows : GrowsInMemory (memory_nets plan.system) (length (hosts_of plan.system) + length (agents_of plan.system)) old new
+  pub grows : GrowsInMemory (memory_nets plan.system) (system_memories plan.system) old new
   pub no_more_wait : StillWait new old
   pub no_more_wait_for_write : StillWaitForWrite new old
 

@@ -26,7 +26,7 @@ use Rattle.built_links.specs.Wires.{is_wire_at, wires_before}
 use Rattle.interconnect.specs.Streams.{IsStream, low_line}
 use Rattle.interconnect.specs.Outputs.{input_at, outputs_by, AreDrivenAt, IsNoPortOf}
 use Rattle.interconnect.specs.Each.{IsNoPortOfEach}
-use Rattle.interconnect.specs.Fabrics.{memory_nets, HasFabric}
+use Rattle.interconnect.specs.Fabrics.{memory_nets, system_memories, HasFabric}
 
 -- ---- the nets of a stream
 
@@ -176,4 +176,4 @@ pub record IsJoinedUpTo (plan : PlanTable) (streams : ℕ) (netlist : Netlist) :
   pub clocked : IsClocked netlist
   pub written : IsWritten netlist
   pub few : length netlist.lines ≤ input_count (ports_of plan.system) + length (streams_of plan.system) + memory_nets plan.system + streams * most_nets
-  pub few_memories : length netlist.memories ≤ length (hosts_of plan.system) + length (agents_of plan.system) + streams * most_memories
+  pub few_memories : length netlist.memories ≤ system_memories plan.system + streams * most_memories

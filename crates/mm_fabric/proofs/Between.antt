@@ -24,6 +24,7 @@ use Rattle.command_nets.specs.Nets.{port_in, raw_in, answer_view}
 use Rattle.mm_route.specs.declared.back.BackNets.{BackNets}
 use Rattle.mm_awake.specs.Rows.{IsWired, CutsBursts, FitsWords, GathersBelowCut, DropsBeats, DropsBeats.dropper, DropsBeats.no_dropper, drops_some}
 use Rattle.mm_awake.specs.Wires.{IsWire, HandsAllOn}
+use Rattle.mm_packed.specs.Packed.{RowPacks}
 use Rattle.mm_width.specs.Pairs.{needs_drop, keeps_beats, bits_between, needs_cut, is_wire_pair}
 use Rattle.mm_width.specs.Widths.{IsTargetOf, RunsAsWidth, inner_shape}
 use Rattle.mm_fabric.specs.declared.parts.Seat.{Seat}
@@ -107,6 +108,7 @@ pub record LeadsBy (target : Target) (drops : Bool) (up down : Port) (inner : In
   pub cuts : CutsBursts up inner.middle
   pub fits : FitsWords target inner.middle inner.low
   pub gathers : GathersBelowCut cuts fits
+  pub packs : RowPacks cuts fits
   pub dropped : DropsBeats target inner.low down
   pub is : drops_some dropped ≡ drops
 
@@ -119,7 +121,7 @@ pub record StandsBetween (plan : PlanTable) (fabric : Fabric) (run : Run) (h a :
   pub none : IsFalse (is_joined (memory_system plan) a h) → inner ≡ inner_of (below_route plan fabric run h a)
 
 leads_by : (target : Target) (drops : Bool) (up down : Port) → RunsAsWidth drops target up down → (inner : Inner) × LeadsBy target drops up down inner
-leads_by target drops up down run = (record { middle = run.middle; low = run.low }, record { cuts = run.cuts; fits = run.fits; gathers = run.gathers; dropped = run.dropped; is = run.is })
+leads_by target drops up down run = (record { middle = run.middle; low = run.low }, record { cuts = run.cuts; fits = run.fits; gathers = run.gathers; packs = run.packs; dropped = run.dropped; is = run.is })
 
 module _ (plan : PlanTable) (planned : IsMemoryPlan (memory_system plan)) (netlist : Netlist) (fabric : Fabric) (is : IsFabric plan netlist fabric)
     (longer : Netlist) (extends : Extends netlist longer) (run : Run) (endless : IsEndlessRun longer run) where

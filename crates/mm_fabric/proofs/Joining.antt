@@ -17,7 +17,7 @@ use Rattle.mm_fabric.specs.declared.parts.AgentPart.{AgentPart}
 use Rattle.mm_fabric.specs.declared.parts.Seat.{Seat}
 use Rattle.mm_fabric.specs.Asks.{asking, AllCanAsk, IsSeatFor}
 use Rattle.mm_fabric.specs.Lasting.{agent_part_lasts, meets_lasts}
-use Rattle.mm_fabric.specs.Joined.{IsAgentEnd, AreAgentEnds, IsJoined, AreJoinedFrom, end_of, most_agent_nets, link_nets, AreJoinedSoFar}
+use Rattle.mm_fabric.specs.Joined.{IsAgentEnd, AreAgentEnds, IsJoined, AreJoinedFrom, end_of, most_agent_nets, link_nets, most_memories, AreJoinedSoFar}
 use Rattle.mm_fabric.proofs.Beginning.{begun_lasts}
 use Rattle.mm_fabric.proofs.Telling.{told_lasts}
 use Rattle.mm_fabric.proofs.Counting.{links_more}
@@ -78,17 +78,17 @@ joined_more plan netlist begun from number [] last h e l = (subst (λ n. IsJoine
 joined_more plan netlist begun from number (first ∷ later) last h e l = (h.0, joined_more plan netlist begun (from + 1) number later last h.1 (omega (arith, e)) l)
 
 pub none_joined : (plan : PlanTable) (old : Netlist) (begun : List BegunHost) (ends : List AgentEnd) → AreJoinedSoFar plan old old begun ends [] 0
-none_joined plan old begun ends = record { ends_are = refl; each = tt; grows = memory_grows_fewer 0 _ 0 0 old old (omega arith) (omega arith) (grows_without_memory 0 old old (grows_none old)); waits = λ n w. w; no_more_wait = λ n w. w; waits_for_write = λ m w. w; no_more_wait_for_write = λ m w. w }
+none_joined plan old begun ends = record { ends_are = refl; each = tt; grows = memory_grows_fewer 0 _ 0 _ old old (omega arith) (omega arith) (grows_without_memory 0 old old (grows_none old)); waits = λ n w. w; no_more_wait = λ n w. w; waits_for_write = λ m w. w; no_more_wait_for_write = λ m w. w }
 
 pub one_more_joined : (plan : PlanTable) (old now new : Netlist) (begun : List BegunHost) (ends : List AgentEnd) (parts : List AgentPart) (count : ℕ) (end : AgentEnd) (last : AgentPart) → AreJoinedSoFar plan old now begun ends parts count → count < length ends → end ≡ get_or ends count end →
-    IsJoined plan new begun count last → end_of last ≡ end → GrowsInMemory (most_agent_nets + link_nets * length (asking plan.system count)) 1 now new → StillWait now new → StillWait new now → StillWaitForWrite now new → StillWaitForWrite new now → AreJoinedSoFar plan old new begun ends (parts ++ last ∷ []) (count + 1)
+    IsJoined plan new begun count last → end_of last ≡ end → GrowsInMemory (most_agent_nets + link_nets * length (asking plan.system count)) (most_memories 1 (length (asking plan.system count))) now new → StillWait now new → StillWait new now → StillWaitForWrite now new → StillWaitForWrite new now → AreJoinedSoFar plan old new begun ends (parts ++ last ∷ []) (count + 1)
 one_more_joined plan old now new begun ends parts count end last h lt is one same grows waits no_more writes no_more_writes =
     let more = links_more plan.system count in
     let many : length parts ≡ count = sym (length-map parts end_of) ∙ ap (λ (es : List AgentEnd). length es) h.ends_are ∙ length-take-le count ends (omega arith) in
     record {
       ends_are = map-append end_of parts (last ∷ []) ∙ ap (λ es. es ++ end_of last ∷ []) h.ends_are ∙ ap (λ e. take count ends ++ e ∷ []) (same ∙ is) ∙ sym (take_more ends count end lt);
       each = joined_more plan new begun 0 count parts last (joined_last plan now new begun 0 parts h.each grows.extends) (omega (arith, many)) one;
-      grows = memory_grows_within _ _ _ count 1 _ old now new h.grows grows (omega (arith, more)) (omega arith);
+      grows = memory_grows_within _ _ _ _ _ _ old now new h.grows grows (omega (arith, more)) (omega (arith, more));
       waits = λ n w. waits n (h.waits n w);
       no_more_wait = λ n w. h.no_more_wait n (no_more n w);
       waits_for_write = λ m w. writes m (h.waits_for_write m w);

@@ -40,6 +40,7 @@ use Rattle.mm_awake.specs.RowSystem.{RowPorts, AreRows, AreIdleWires, IsFairRow,
 use Rattle.mm_awake.specs.RowFront.{IsRowFront, ServeWhatFits, with_agents}
 use Rattle.mm_awake.specs.Theorem.{States, ArePlanned, AreMachines}
 use Rattle.mm_awake.specs.PipeStages.{stage_of}
+use Rattle.mm_packed.specs.Packed.{RowsPack}
 use Rattle.mm_links.specs.Pipes.{PipeSides}
 use Rattle.mm_width.specs.Pairs.{needs_drop}
 use Rattle.mm_path.specs.Maps.{IsHostOf, IsAgentOf, RoutesAreMapped}
@@ -93,6 +94,16 @@ no_agent_state = record { queue = λ c. []; row = λ c i. None; stood = λ c. 0 
 
 abbrev pub no_grant : ℕ → Grant
 no_grant c = record { open_host = None; round = record { left = 0; ring = [] } }
+
+-- ---- whether ends are joined
+
+joined_if : (b : Bool) → not b ≡ false → b ≡ true
+joined_if true e = refl
+joined_if false e = cc
+
+apart_if : (b : Bool) → not b ≡ true → b ≡ false
+apart_if true e = cc
+apart_if false e = refl
 
 -- ---- numbers
 
@@ -259,10 +270,28 @@ module _ (plan : PlanTable) (planned : IsMemoryPlan (memory_system plan)) (disti
       let enables = sym (ap (λ (side : HostSide). side.has_enables) (host_is plan netlist fabric is h low)) ∙ lacks in
       wired_below (target_of (memory_system plan) a) (fabric.host h).port (fabric.agent a).port (below_route plan fabric run h a) (above_arbiter fabric run h a) (inner h a) ((stands h low a there).leads has) enables
 
+  -- a row of links stands between those that are joined, wires between the others
+  abbrev rows : AreRows (memory_system plan) (seen_in plan fabric run) ports end
+  rows = record {
+    idle = λ h a. not (is_joined (memory_system plan) a h);
+    views = views.hosts;
+    cuts = λ h a low there links. ((stands h low a there).leads (joined_if (is_joined (memory_system plan) a h) links)).cuts;
+    fits = λ h a low there links. ((stands h low a there).leads (joined_if (is_joined (memory_system plan) a h) links)).fits;
+    gathers = λ h a low there links. ((stands h low a there).leads (joined_if (is_joined (memory_system plan) a h) links)).gathers;
+    drops = λ h a low there links. ((stands h low a there).leads (joined_if (is_joined (memory_system plan) a h) links)).dropped;
+    lanes = λ h a low there links none. lanes_at h a low there (joined_if (is_joined (memory_system plan) a h) links) none;
+    wired = front.wired;
+    apart = λ h a low there idle. (let none = apart_if (is_joined (memory_system plan) a h) idle in (none, idle_at h a low there none));
+  }
+
+  -- and each row packs reads
+  rows_pack : RowsPack rows
+  rows_pack h a low there links = ((stands h low a there).leads (joined_if (is_joined (memory_system plan) a h) links)).packs
+
   pub linked : RowsCarryWhatFits →
       (ports : RowPorts) × (states : States) × ArePlanned (memory_system plan) (boundaries_of ports) states × AreMachines AreZero (memory_system plan) (seen_in plan fabric run) (boundaries_of ports) states end
-      × AreRows (memory_system plan) (seen_in plan fabric run) ports end
+      × (rows : AreRows (memory_system plan) (seen_in plan fabric run) ports end) × RowsPack rows
       × ((agent host : ℕ) → agent < (memory_system plan).agents → IsTrue (is_joined (memory_system plan) agent host) → IsFairRow (memory_system plan) ports agent host)
   linked law =
       let made = law AreZero (memory_system plan) (seen_in plan fabric run) ports states end planned views front served legal in
-      (ports, with_agents states made.0, made.1, made.2, made.3, fair_row)
+      (ports, with_agents states made.0, made.1, made.2, rows, rows_pack, fair_row)

@@ -20,11 +20,11 @@ use Rattle.command_nets.specs.Groups.{command_lasts, answer_lasts}
 use Rattle.mm_route.specs.declared.back.BackNets.{BackNets}
 use Rattle.mm_width.specs.Pairs.{BearsOneTag, is_wire_pair, needs_drop}
 use Rattle.memory_sides.specs.Sides.{burst_width}
-use Rattle.mm_width.specs.Widths.{BegunWidth, WidthInLonger, RunsAsWidth, inner_shape, command_below, owns_width}
+use Rattle.mm_width.specs.Widths.{BegunWidth, WidthInLonger, RunsAsWidth, inner_shape, command_below, owns_width, stores_width}
 use Rattle.mm_fabric.specs.declared.parts.Asking.{Asking}
 use Rattle.mm_fabric.specs.declared.parts.Seat.{Seat}
 use Rattle.mm_fabric.specs.Lasting.{meets_lasts}
-use Rattle.mm_fabric.specs.Rows.{AllThree, MayLead, LeadsBelow, LeadsToSeat, IsOfRows, TellsSeat, told_seat}
+use Rattle.mm_fabric.specs.Rows.{AllThree, MayLead, LeadsBelow, LeadsToSeat, IsOfRows, IsStoredByRows, TellsSeat, told_seat}
 
 -- ---- three lists
 
@@ -93,6 +93,20 @@ of_rows_last (first ∷ rows) row n o = inr (of_rows_last rows row n o)
 pub of_rows_either : (rows : List BegunWidth) (row : BegunWidth) (n : ℕ) → IsOfRows (rows ++ row ∷ []) n → IsOfRows rows n ⊎ owns_width row.kept n
 of_rows_either [] row n o = elim o [ inl own ↦ inr own | inr none ↦ absurd none ]
 of_rows_either (first ∷ rows) row n o = elim o [ inl own ↦ inl (inl own) | inr later ↦ elim (of_rows_either rows row n later) [ inl more ↦ inl (inr more) | inr own ↦ inr own ] ]
+
+-- ---- memories
+
+pub stored_more : (rows : List BegunWidth) (row : BegunWidth) (m : ℕ) → IsStoredByRows rows m → IsStoredByRows (rows ++ row ∷ []) m
+stored_more [] row m o = absurd o
+stored_more (first ∷ rows) row m o = elim o [ inl own ↦ inl own | inr later ↦ inr (stored_more rows row m later) ]
+
+pub stored_last : (rows : List BegunWidth) (row : BegunWidth) (m : ℕ) → stores_width row.kept m → IsStoredByRows (rows ++ row ∷ []) m
+stored_last [] row m o = inl o
+stored_last (first ∷ rows) row m o = inr (stored_last rows row m o)
+
+pub stored_either : (rows : List BegunWidth) (row : BegunWidth) (m : ℕ) → IsStoredByRows (rows ++ row ∷ []) m → IsStoredByRows rows m ⊎ stores_width row.kept m
+stored_either [] row m o = elim o [ inl own ↦ inr own | inr none ↦ absurd none ]
+stored_either (first ∷ rows) row m o = elim o [ inl own ↦ inl (inl own) | inr later ↦ elim (stored_either rows row m later) [ inl more ↦ inl (inr more) | inr own ↦ inr own ] ]
 
 -- ---- what is begun lasts
 

@@ -103,7 +103,7 @@ count_fits host port widths may = by (needs_cut host port) refl
     between true = omega arith
     between false = some_width port.burst_bits
 
-    by : (b : Bool) → needs_cut host port ≡ b → (if b then given_widths (cutter_between host port) widths else widths).count ≤ burst_width port.burst_bits
+    by : (b : Bool) → needs_cut host port ≡ b → (if b then bits_between host port else widths.count) ≤ burst_width port.burst_bits
     by true cut = between (keeps_beats host port)
     by false whole =
         let most = between (keeps_beats host port) in

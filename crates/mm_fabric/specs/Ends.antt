@@ -12,7 +12,7 @@ use Rattle.mm_fabric.specs.declared.asks.AgentEnd.{AgentEnd}
 use Rattle.mm_fabric.specs.declared.parts.HostPart.{HostPart}
 use Rattle.mm_fabric.specs.declared.parts.AgentPart.{AgentPart}
 use Rattle.mm_fabric.specs.declared.fabric.FabricParts.{FabricParts}
-use Rattle.mm_width.specs.Widths.{width_command_nets, width_answer_nets}
+use Rattle.mm_width.specs.Widths.{width_command_nets, width_answer_nets, width_memories}
 use Rattle.mm_fabric.specs.Begun.{begun_nets}
 use Rattle.mm_fabric.specs.Joined.{most_agent_nets}
 use Rattle.mm_fabric.specs.Finished.{finished_nets}
@@ -58,3 +58,7 @@ AreParts plan netlist parts = (fabric : Fabric) → HasParts plan parts fabric �
 -- the most nets that so many hosts and agents with so many links take
 abbrev pub fabric_nets : ℕ → ℕ → ℕ → ℕ
 fabric_nets hosts agents links = (begun_nets + finished_nets) * hosts + most_agent_nets * agents + (width_command_nets + width_answer_nets) * links
+
+-- and the most memories
+abbrev pub fabric_memories : ℕ → ℕ → ℕ → ℕ
+fabric_memories hosts agents links = hosts + agents + width_memories * links

@@ -8,7 +8,7 @@ use Rattle.link_rules.specs.Plans.{PlanTable}
 use Rattle.netlist.specs.Netlists.{Netlist}
 use Rattle.net_parts.specs.Growth.{GrowsInMemory, StillWait, StillWaitForWrite}
 use Rattle.mm_agent.specs.Agents.{AreAgentNets}
-use Rattle.mm_width.specs.Widths.{width_command_nets, width_answer_nets}
+use Rattle.mm_width.specs.Widths.{width_command_nets, width_answer_nets, width_memories}
 use Rattle.mm_fabric.specs.declared.asks.AgentEnd.{AgentEnd}
 use Rattle.mm_fabric.specs.declared.begun.BegunHost.{BegunHost}
 use Rattle.mm_fabric.specs.declared.parts.AgentPart.{AgentPart}
@@ -56,6 +56,10 @@ most_agent_nets = 4 * 16 + agent_part_nets 16
 abbrev pub link_nets : ℕ
 link_nets = width_command_nets + width_answer_nets
 
+-- how many memories so many agents with so many links take
+abbrev pub most_memories : ℕ → ℕ → ℕ
+most_memories agents links = agents + width_memories * links
+
 -- how many links lead to the agents of numbers below so many
 abbrev pub links_below : SystemTable → ℕ → ℕ
 links_below system count = count_by (λ link. nat_lt link.agent_number count) (memory_links system)
@@ -64,7 +68,7 @@ links_below system count = count_by (λ link. nat_lt link.agent_number count) (m
 pub record AreJoinedSoFar (plan : PlanTable) (old now : Netlist) (begun : List BegunHost) (ends : List AgentEnd) (parts : List AgentPart) (count : ℕ) : Type 0 where
   pub ends_are : map end_of parts ≡ take count ends
   pub each : AreJoinedFrom plan now begun 0 parts
-  pub grows : GrowsInMemory (most_agent_nets * count + link_nets * links_below plan.system count) count old now
+  pub grows : GrowsInMemory (most_agent_nets * count + link_nets * links_below plan.system count) (most_memories count (links_below plan.system count)) old now
   pub waits : StillWait old now
   pub no_more_wait : StillWait now old
   pub waits_for_write : StillWaitForWrite old now

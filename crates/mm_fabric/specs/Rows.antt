@@ -7,7 +7,7 @@ use Rattle.command_nets.specs.Nets.{AreCommandNets, widths_of}
 use Rattle.link_core.specs.Rows.{IgnoresInLonger}
 use Rattle.mm_route.specs.declared.back.BackNets.{BackNets}
 use Rattle.mm_width.specs.Pairs.{MayMeet, MayAskOf, BearsOneTag, widths_below, is_wire_pair}
-use Rattle.mm_width.specs.Widths.{BegunWidth, width_of, owns_width, command_below}
+use Rattle.mm_width.specs.Widths.{BegunWidth, width_of, owns_width, stores_width, command_below}
 use Rattle.mm_fabric.specs.declared.parts.Asking.{Asking}
 use Rattle.mm_fabric.specs.declared.parts.Seat.{Seat}
 use Rattle.mm_fabric.specs.Askers.{IsToldBelow}
@@ -54,6 +54,11 @@ pub record LeadsToSeat (netlist : Netlist) (agent : AgentPort) (stages : ℕ) (a
 abbrev pub IsOfRows : List BegunWidth → ℕ → Type 0
 IsOfRows [] n = ⊥
 IsOfRows (row ∷ rows) n = owns_width row.kept n ⊎ IsOfRows rows n
+
+-- a memory of one of them
+abbrev pub IsStoredByRows : List BegunWidth → ℕ → Type 0
+IsStoredByRows [] m = ⊥
+IsStoredByRows (row ∷ rows) m = stores_width row.kept m ⊎ IsStoredByRows rows m
 
 -- the seat whose links tell this
 abbrev pub told_seat : Seat → BackNets → Seat

@@ -9,7 +9,7 @@ use Rattle.command_nets.specs.Nets.{AreCommandNets, widths_of, raw_in}
 use Rattle.mm_arbiter.specs.declared.asker.Asker.{Asker}
 use Rattle.mm_arbiter.specs.Wider.{wider}
 use Rattle.mm_width.specs.Pairs.{MayMeet, MayAskOf}
-use Rattle.mm_width.specs.Widths.{width_command_nets, width_answer_nets}
+use Rattle.mm_width.specs.Widths.{width_command_nets, width_answer_nets, width_memories}
 use Rattle.mm_fabric.specs.declared.parts.Asking.{Asking}
 use Rattle.mm_fabric.specs.declared.parts.Seat.{Seat}
 use Rattle.mm_fabric.specs.Askers.{IsTold, agent_part_nets}
@@ -52,3 +52,7 @@ pub record IsWidened (netlist : Netlist) (address count : ℕ) (command wide : C
 -- the most nets that an agent with so many askers takes, their links among them
 abbrev pub joined_agent_nets : ℕ → ℕ
 joined_agent_nets askers = (width_command_nets + width_answer_nets) * askers + 4 * askers + agent_part_nets askers
+
+-- and the most memories
+abbrev pub joined_agent_memories : ℕ → ℕ
+joined_agent_memories askers = width_memories * askers + 1

@@ -6,7 +6,7 @@ ghost use Rattle.iface_roles.specs.Proper.{IsBoundedAgent};
 ghost use Rattle.net_parts.specs.Growth.{GrowsInMemory, StillWait, StillWaitForWrite};
 ghost use Rattle.mm_agent.specs.Agents.{AreAgentNets};
 ghost use Rattle.mm_fabric.specs.Parts.{IsAgentPart, askers_of, commands_above, backs_above};
-ghost use Rattle.mm_fabric.specs.Wide.{AsksFor, IsSeated, joined_agent_nets};
+ghost use Rattle.mm_fabric.specs.Wide.{AsksFor, IsSeated, joined_agent_nets, joined_agent_memories};
 ghost use Rattle.mm_fabric.specs.Rows.{told_seats};
 ghost use Rattle.mm_fabric.specs.Askers.{MayAsk, AreAsked, AreToldBelow, agent_part_nets, HasNoRoomFor};
 ghost use Rattle.mm_fabric.specs.Lone.{BoundsReads};
@@ -168,14 +168,14 @@ pub(crate) fn join_agent(
     ensures askers { IfOk result (λ part. askers_of part.seats ≡ askers.now) }
     ensures seats { IfOk result (λ part. AllZip (IsSeated builder.new port.now) asking.now part.seats) }
     ensures bounds { IfOk result (λ part. stages ≡ 0 → BoundsReads builder.new part) }
-    ensures grows { GrowsInMemory (joined_agent_nets (length askers.now)) 1 builder.old builder.new }
+    ensures grows { GrowsInMemory (joined_agent_nets (length askers.now)) (joined_agent_memories (length askers.now)) builder.old builder.new }
     ensures waits { StillWait builder.old builder.new }
     ensures no_more_wait { OnOk result (StillWait builder.new builder.old) }
-    ensures still_wait_for_write { StillWaitForWrite builder.old builder.new }
+    ensures still_wait_for_write { OnOk result (StillWaitForWrite builder.old builder.new) }
     ensures no_more_wait_for_write { OnOk result (StillWaitForWrite builder.new builder.old) }
 
     // Memory may run out at any net.
-    ensures full { result ≡ Err NetFault.TooManyNets → HasNoRoomFor (joined_agent_nets (length askers.now)) 1 builder.old }
+    ensures full { result ≡ Err NetFault.TooManyNets → HasNoRoomFor (joined_agent_nets (length askers.now)) (joined_agent_memories (length askers.now)) builder.old }
 {
     let begun = begin_rows(alloc, builder, port, stages, asking)?;
     let bits = widest(builder, port, &begun.commands);

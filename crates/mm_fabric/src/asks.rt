@@ -7,7 +7,7 @@ ghost use Rattle.net_parts.specs.Growth.{GrowsInMemory, StillWait, StillWaitForW
 ghost use Rattle.mm_agent.specs.Agents.{AreAgentNets};
 ghost use Rattle.mm_fabric.specs.Parts.{IsAgentPart, askers_of};
 ghost use Rattle.mm_fabric.specs.Askers.{MayAsk, HasNoRoomFor};
-ghost use Rattle.mm_fabric.specs.Wide.{joined_agent_nets};
+ghost use Rattle.mm_fabric.specs.Wide.{joined_agent_nets, joined_agent_memories};
 ghost use Rattle.mm_fabric.specs.Lone.{BoundsReads};
 ghost use Rattle.mm_fabric.specs.Asks.{asking_among, asking, command_to, AsksAs, AllHaveCommands, AllCanAsk, IsSeatFor};
 
@@ -107,14 +107,14 @@ pub(crate) fn join_hosts(
     ensures askers { IfOk result (λ part. askers_of part.seats ≡ asking plan.now.system number) }
     ensures seats { IfOk result (λ part. AllZip (IsSeatFor builder.new end.now.port number begun.now) (asking plan.now.system number) part.seats) }
     ensures bounds { IfOk result (λ part. plan.now.system.stages ≡ 0 → BoundsReads builder.new part) }
-    ensures grows { GrowsInMemory (joined_agent_nets (length (asking plan.now.system number))) 1 builder.old builder.new }
+    ensures grows { GrowsInMemory (joined_agent_nets (length (asking plan.now.system number))) (joined_agent_memories (length (asking plan.now.system number))) builder.old builder.new }
     ensures waits { StillWait builder.old builder.new }
     ensures no_more_wait { OnOk result (StillWait builder.new builder.old) }
-    ensures still_wait_for_write { StillWaitForWrite builder.old builder.new }
+    ensures still_wait_for_write { OnOk result (StillWaitForWrite builder.old builder.new) }
     ensures no_more_wait_for_write { OnOk result (StillWaitForWrite builder.new builder.old) }
 
     // Memory may run out at any net.
-    ensures full { result ≡ Err NetFault.TooManyNets → HasNoRoomFor (joined_agent_nets (length (asking plan.now.system number))) 1 builder.old }
+    ensures full { result ≡ Err NetFault.TooManyNets → HasNoRoomFor (joined_agent_nets (length (asking plan.now.system number))) (joined_agent_memories (length (asking plan.now.system number))) builder.old }
 {
     plan.well_made();
     let askers = asking_among(alloc, plan.memory_links(), number)?;

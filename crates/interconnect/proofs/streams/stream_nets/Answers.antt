@@ -58,6 +58,7 @@ path_nets-requires-clause-room c =
 pub path_nets-requires-clause-memory_room : goal.path_nets-requires-clause-memory_room
 path_nets-requires-clause-memory_room c =
     path_memory_room c.args.plan.now c.args.number c.args.builder.now c.ports_are_known.ensures
+    (record { connections = c.links_are_connections.ensures c.args.plan.now c.well_made.ensures; agents = c.links_are_few.ensures c.args.plan.now c.well_made.ensures })
     (slice_get_within (streams_of c.args.plan.now.system) c.args.number c.args.link.now.connection c.requires.link.place_is) c.requires.joined
 
 -- what holds of a result that is there

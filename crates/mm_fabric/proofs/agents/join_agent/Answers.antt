@@ -24,13 +24,15 @@ pub begin_rows-requires-clause-asking : goal.begin_rows-requires-clause-asking
 begin_rows-requires-clause-asking c = all_may_lead _ _ _ _ c.requires.asking
 
 pub returns-in_err-begun-clause-grows : goal.returns-in_err-begun-clause-grows
-returns-in_err-begun-clause-grows c = let same = AllZip-long _ _ _ c.requires.asking in memory_grows_fewer _ _ _ _ _ _ (omega (arith, same)) (omega arith) (grows_without_memory _ _ _ c.begin_rows.ensures.grows)
+returns-in_err-begun-clause-grows c = let same = AllZip-long _ _ _ c.requires.asking in memory_grows_fewer _ _ _ _ _ _ (omega (arith, same)) (omega (arith, same)) c.begin_rows.ensures.grows
 
 pub returns-in_err-begun-clause-full : goal.returns-in_err-begun-clause-full
 returns-in_err-begun-clause-full c e =
     let same = AllZip-long _ _ _ c.requires.asking in
-    let full = c.begin_rows.ensures.full (handed_on _ _ _ _ c.in_err-begun.was c.from_residual.ensures.1 e) in
-    inl (omega (arith, same, full))
+    elim (c.begin_rows.ensures.full (handed_on _ _ _ _ c.in_err-begun.was c.from_residual.ensures.1 e)) [
+      | inl full ↦ inl (omega (arith, same, full))
+      | inr full ↦ inr (omega (arith, same, full))
+    ]
 
 pub widest-bits-requires-clause-commands : goal.widest-bits-requires-clause-commands
 widest-bits-requires-clause-commands c = subst (λ (ws : List CommandNets). AreCommands c.begin_rows.new.builder ws) (sym c.deref.ensures.value) (below_are_commands _ _ _ _ _ _ c.in_ok-begun.ensures.rows)
@@ -52,7 +54,7 @@ returns-in_err-wide-clause-grows c =
     let rows = three_first _ _ _ _ c.in_ok-begun.ensures.rows in
     let commands = three_last _ _ _ _ c.in_ok-begun.ensures.rows in
     let wide = ap (length {A = CommandNets}) c.deref-2.ensures.value in
-    memory_grows_within _ _ _ _ _ _ _ _ _ (grows_without_memory _ _ _ c.begin_rows.ensures.grows) (grows_without_memory _ _ _ (adds_grow _ _ _ c.widen_all.ensures.adds)) (omega (arith, same, rows, commands, wide)) (omega arith)
+    memory_grows_within _ _ _ _ _ _ _ _ _ c.begin_rows.ensures.grows (grows_without_memory _ _ _ (adds_grow _ _ _ c.widen_all.ensures.adds)) (omega (arith, same, rows, commands, wide)) (omega (arith, same))
 
 pub returns-in_err-wide-clause-full : goal.returns-in_err-wide-clause-full
 returns-in_err-wide-clause-full c e =
@@ -85,10 +87,7 @@ returns-in_err-part-clause-grows c =
     let rows = three_first _ _ _ _ c.in_ok-begun.ensures.rows in
     let commands = three_last _ _ _ _ c.in_ok-begun.ensures.rows in
     let wide = ap (length {A = CommandNets}) c.deref-2.ensures.value in
-    memory_grows_within _ _ _ _ _ _ _ _ _ (memory_grows_twice _ _ _ _ _ _ _ (grows_without_memory _ _ _ c.begin_rows.ensures.grows) (grows_without_memory _ _ _ (adds_grow _ _ _ c.widen_all.ensures.adds))) c.emit_agent_part.ensures.grows (omega (arith, same, rows, commands, wide)) (omega arith)
-
-pub returns-in_err-part-clause-still_wait_for_write : goal.returns-in_err-part-clause-still_wait_for_write
-returns-in_err-part-clause-still_wait_for_write c m w = c.emit_agent_part.ensures.still_wait_for_write m (writes_wait_alike c.begin_rows.new.builder c.widen_all.new.builder c.widen_all.ensures.adds.grows.memories m (writes_wait_alike c.args.builder.now c.begin_rows.new.builder c.begin_rows.ensures.grows.memories m w))
+    memory_grows_within _ _ _ _ _ _ _ _ _ (memory_grows_twice _ _ _ _ _ _ _ c.begin_rows.ensures.grows (grows_without_memory _ _ _ (adds_grow _ _ _ c.widen_all.ensures.adds))) c.emit_agent_part.ensures.grows (omega (arith, same, rows, commands, wide)) (omega (arith, same))
 
 pub returns-in_err-part-clause-full : goal.returns-in_err-part-clause-full
 returns-in_err-part-clause-full c e =
@@ -98,11 +97,11 @@ returns-in_err-part-clause-full c e =
     let wide = ap (length {A = CommandNets}) c.deref-2.ensures.value in
     let first = c.begin_rows.ensures.grows.most in
     let most = c.widen_all.ensures.adds.most in
-    let older = ap (length {A = Memory}) c.begin_rows.ensures.grows.memories in
+    let older = c.begin_rows.ensures.grows.most_memories in
     let memories = ap (length {A = Memory}) c.widen_all.ensures.adds.grows.memories in
     elim (c.emit_agent_part.ensures.full (handed_on _ _ _ _ c.in_err-part.was c.from_residual-in_err-part.ensures.1 e)) [
       | inl full ↦ inl (omega (arith, same, rows, commands, wide, first, most, full))
-      | inr full ↦ inr (omega (arith, older, memories, full))
+      | inr full ↦ inr (omega (arith, same, older, memories, full))
     ]
 
 pub finish_rows-requires-clause-rows : goal.finish_rows-requires-clause-rows
@@ -121,6 +120,7 @@ pub finish_rows-requires-clause-begun : goal.finish_rows-requires-clause-begun
 finish_rows-requires-clause-begun c =
     begun_lasts c.in_ok-begun.begun.rows.items c.begin_rows.new.builder c.emit_agent_part.new.builder c.in_ok-begun.ensures.begun (extends_twice _ _ _ c.widen_all.ensures.adds.grows.extends c.emit_agent_part.ensures.grows.extends)
     (λ n o w. c.emit_agent_part.ensures.waits n (c.widen_all.ensures.adds.grows.waits n w))
+    (λ m o w. c.emit_agent_part.ensures.still_wait_for_write m (writes_wait_alike c.begin_rows.new.builder c.widen_all.new.builder c.widen_all.ensures.adds.grows.memories m w))
 
 pub returns-in_err-told-clause-grows : goal.returns-in_err-told-clause-grows
 returns-in_err-told-clause-grows c =
@@ -128,13 +128,10 @@ returns-in_err-told-clause-grows c =
     let rows = three_first _ _ _ _ c.in_ok-begun.ensures.rows in
     let commands = three_last _ _ _ _ c.in_ok-begun.ensures.rows in
     let wide = ap (length {A = CommandNets}) c.deref-2.ensures.value in
-    memory_grows_within _ _ _ _ _ _ _ _ _ (memory_grows_twice _ _ _ _ _ _ _ (memory_grows_twice _ _ _ _ _ _ _ (grows_without_memory _ _ _ c.begin_rows.ensures.grows) (grows_without_memory _ _ _ (adds_grow _ _ _ c.widen_all.ensures.adds))) c.emit_agent_part.ensures.grows) (grows_without_memory _ _ _ c.finish_rows.ensures.grows) (omega (arith, same, rows, commands, wide)) (omega arith)
+    memory_grows_within _ _ _ _ _ _ _ _ _ (memory_grows_twice _ _ _ _ _ _ _ (memory_grows_twice _ _ _ _ _ _ _ c.begin_rows.ensures.grows (grows_without_memory _ _ _ (adds_grow _ _ _ c.widen_all.ensures.adds))) c.emit_agent_part.ensures.grows) c.finish_rows.ensures.grows (omega (arith, same, rows, commands, wide)) (omega (arith, same))
 
 pub returns-in_err-told-clause-waits : goal.returns-in_err-told-clause-waits
 returns-in_err-told-clause-waits c = λ n w. c.finish_rows.ensures.waits n (λ o. c.in_ok-begun.ensures.apart n o w) (c.emit_agent_part.ensures.waits n (c.widen_all.ensures.adds.grows.waits n (c.begin_rows.ensures.waits n w)))
-
-pub returns-in_err-told-clause-still_wait_for_write : goal.returns-in_err-told-clause-still_wait_for_write
-returns-in_err-told-clause-still_wait_for_write c = λ m w. writes_wait_alike c.emit_agent_part.new.builder c.finish_rows.new.builder c.finish_rows.ensures.grows.memories m (c.emit_agent_part.ensures.still_wait_for_write m (writes_wait_alike c.begin_rows.new.builder c.widen_all.new.builder c.widen_all.ensures.adds.grows.memories m (writes_wait_alike c.args.builder.now c.begin_rows.new.builder c.begin_rows.ensures.grows.memories m w)))
 
 pub returns-in_err-told-clause-full : goal.returns-in_err-told-clause-full
 returns-in_err-told-clause-full c e =
@@ -159,13 +156,10 @@ returns-in_err-part-2-clause-grows c =
     let rows = three_first _ _ _ _ c.in_ok-begun.ensures.rows in
     let commands = three_last _ _ _ _ c.in_ok-begun.ensures.rows in
     let wide = ap (length {A = CommandNets}) c.deref-2.ensures.value in
-    memory_grows_within _ _ _ _ _ _ _ _ _ (memory_grows_twice _ _ _ _ _ _ _ (memory_grows_twice _ _ _ _ _ _ _ (grows_without_memory _ _ _ c.begin_rows.ensures.grows) (grows_without_memory _ _ _ (adds_grow _ _ _ c.widen_all.ensures.adds))) c.emit_agent_part.ensures.grows) (grows_without_memory _ _ _ c.finish_rows.ensures.grows) (omega (arith, same, rows, commands, wide)) (omega arith)
+    memory_grows_within _ _ _ _ _ _ _ _ _ (memory_grows_twice _ _ _ _ _ _ _ (memory_grows_twice _ _ _ _ _ _ _ c.begin_rows.ensures.grows (grows_without_memory _ _ _ (adds_grow _ _ _ c.widen_all.ensures.adds))) c.emit_agent_part.ensures.grows) c.finish_rows.ensures.grows (omega (arith, same, rows, commands, wide)) (omega (arith, same))
 
 pub returns-in_err-part-2-clause-waits : goal.returns-in_err-part-2-clause-waits
 returns-in_err-part-2-clause-waits c = λ n w. c.finish_rows.ensures.waits n (λ o. c.in_ok-begun.ensures.apart n o w) (c.emit_agent_part.ensures.waits n (c.widen_all.ensures.adds.grows.waits n (c.begin_rows.ensures.waits n w)))
-
-pub returns-in_err-part-2-clause-still_wait_for_write : goal.returns-in_err-part-2-clause-still_wait_for_write
-returns-in_err-part-2-clause-still_wait_for_write c = λ m w. writes_wait_alike c.emit_agent_part.new.builder c.finish_rows.new.builder c.finish_rows.ensures.grows.memories m (c.emit_agent_part.ensures.still_wait_for_write m (writes_wait_alike c.begin_rows.new.builder c.widen_all.new.builder c.widen_all.ensures.adds.grows.memories m (writes_wait_alike c.args.builder.now c.begin_rows.new.builder c.begin_rows.ensures.grows.memories m w)))
 
 pub returns-clause-part : goal.returns-clause-part
 returns-clause-part c =
@@ -211,7 +205,7 @@ returns-clause-grows c =
     let rows = three_first _ _ _ _ c.in_ok-begun.ensures.rows in
     let commands = three_last _ _ _ _ c.in_ok-begun.ensures.rows in
     let wide = ap (length {A = CommandNets}) c.deref-2.ensures.value in
-    memory_grows_within _ _ _ _ _ _ _ _ _ (memory_grows_twice _ _ _ _ _ _ _ (memory_grows_twice _ _ _ _ _ _ _ (grows_without_memory _ _ _ c.begin_rows.ensures.grows) (grows_without_memory _ _ _ (adds_grow _ _ _ c.widen_all.ensures.adds))) c.emit_agent_part.ensures.grows) (grows_without_memory _ _ _ c.finish_rows.ensures.grows) (omega (arith, same, rows, commands, wide)) (omega arith)
+    memory_grows_within _ _ _ _ _ _ _ _ _ (memory_grows_twice _ _ _ _ _ _ _ (memory_grows_twice _ _ _ _ _ _ _ c.begin_rows.ensures.grows (grows_without_memory _ _ _ (adds_grow _ _ _ c.widen_all.ensures.adds))) c.emit_agent_part.ensures.grows) c.finish_rows.ensures.grows (omega (arith, same, rows, commands, wide)) (omega (arith, same))
 
 pub returns-clause-waits : goal.returns-clause-waits
 returns-clause-waits c = λ n w. c.finish_rows.ensures.waits n (λ o. c.in_ok-begun.ensures.apart n o w) (c.emit_agent_part.ensures.waits n (c.widen_all.ensures.adds.grows.waits n (c.begin_rows.ensures.waits n w)))
@@ -222,8 +216,11 @@ returns-clause-no_more_wait c n w =
     elim (c.in_ok-begun.ensures.newly n (c.widen_all.ensures.adds.grows.no_more_wait n (c.in_ok-part.ensures.no_more_wait n last.0))) [ inl old ↦ old | inr own ↦ absurd (last.1 own) ]
 
 pub returns-clause-still_wait_for_write : goal.returns-clause-still_wait_for_write
-returns-clause-still_wait_for_write c = λ m w. writes_wait_alike c.emit_agent_part.new.builder c.finish_rows.new.builder c.finish_rows.ensures.grows.memories m (c.emit_agent_part.ensures.still_wait_for_write m (writes_wait_alike c.begin_rows.new.builder c.widen_all.new.builder c.widen_all.ensures.adds.grows.memories m (writes_wait_alike c.args.builder.now c.begin_rows.new.builder c.begin_rows.ensures.grows.memories m w)))
+returns-clause-still_wait_for_write c m w =
+    c.in_ok-told.ensures.still_wait_for_write m (λ o. c.in_ok-begun.ensures.memories_apart m o w)
+    (c.emit_agent_part.ensures.still_wait_for_write m (writes_wait_alike c.begin_rows.new.builder c.widen_all.new.builder c.widen_all.ensures.adds.grows.memories m (c.in_ok-begun.ensures.still_wait_for_write m w)))
 
 pub returns-clause-no_more_wait_for_write : goal.returns-clause-no_more_wait_for_write
 returns-clause-no_more_wait_for_write c m w =
-    writes_waited_alike c.args.builder.now c.begin_rows.new.builder c.begin_rows.ensures.grows.memories m (writes_waited_alike c.begin_rows.new.builder c.widen_all.new.builder c.widen_all.ensures.adds.grows.memories m (c.in_ok-part.ensures.no_more_wait_for_write m (writes_waited_alike c.emit_agent_part.new.builder c.finish_rows.new.builder c.finish_rows.ensures.grows.memories m w)))
+    let last = c.in_ok-told.ensures.written m w in
+    elim (c.in_ok-begun.ensures.newly_written m (writes_waited_alike c.begin_rows.new.builder c.widen_all.new.builder c.widen_all.ensures.adds.grows.memories m (c.in_ok-part.ensures.no_more_wait_for_write m last.0))) [ inl old ↦ old | inr own ↦ absurd (last.1 own) ]

@@ -102,14 +102,8 @@ returns-clause-no_more_wait c n w =
     let late = c.in_ok-finished.ensures.no_more_wait n w in
     elim (c.in_ok-begun.ensures.begun.newly n (c.in_ok-joined.ensures.no_more_wait n late.0)) [ inl before ↦ before | inr own ↦ absurd (late.1 (subst (λ (bs : List BegunHost). IsOfAny bs n) (sym c.as_slice-2.ensures) own)) ]
 
-pub returns-in_err-joined-clause-still_wait_for_write : goal.returns-in_err-joined-clause-still_wait_for_write
-returns-in_err-joined-clause-still_wait_for_write c m w = c.join_agents.ensures.still_wait_for_write m (writes_wait_alike c.args.builder.now c.begin_hosts.new.builder c.begin_hosts.ensures.grows.memories m w)
-
-pub returns-in_err-finished-clause-still_wait_for_write : goal.returns-in_err-finished-clause-still_wait_for_write
-returns-in_err-finished-clause-still_wait_for_write c m w = c.finish_hosts.ensures.still_wait_for_write m (c.join_agents.ensures.still_wait_for_write m (writes_wait_alike c.args.builder.now c.begin_hosts.new.builder c.begin_hosts.ensures.grows.memories m w))
-
 pub returns-clause-still_wait_for_write : goal.returns-clause-still_wait_for_write
-returns-clause-still_wait_for_write c m w = c.finish_hosts.ensures.still_wait_for_write m (c.join_agents.ensures.still_wait_for_write m (writes_wait_alike c.args.builder.now c.begin_hosts.new.builder c.begin_hosts.ensures.grows.memories m w))
+returns-clause-still_wait_for_write c m w = c.finish_hosts.ensures.still_wait_for_write m (c.in_ok-joined.ensures.still_wait_for_write m (writes_wait_alike c.args.builder.now c.begin_hosts.new.builder c.begin_hosts.ensures.grows.memories m w))
 
 pub returns-clause-no_more_wait_for_write : goal.returns-clause-no_more_wait_for_write
 returns-clause-no_more_wait_for_write c m w = writes_waited_alike c.args.builder.now c.begin_hosts.new.builder c.begin_hosts.ensures.grows.memories m (c.in_ok-joined.ensures.no_more_wait_for_write m (c.in_ok-finished.ensures.no_more_wait_for_write m w))

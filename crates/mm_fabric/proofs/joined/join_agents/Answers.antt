@@ -3,8 +3,8 @@ use Rattle.std.specs.Result.{OnOk, is_err}
 use Rattle.net_parts.specs.Refusing.{handed_on}
 use Rattle.mm_agent.specs.Memories.{memory_grows_fewer, memory_grows_within}
 use Rattle.mm_fabric.specs.Asks.{asking}
-use Rattle.mm_fabric.specs.Joined.{most_agent_nets, link_nets, AreJoinedSoFar}
-use Rattle.mm_fabric.specs.Wide.{joined_agent_nets}
+use Rattle.mm_fabric.specs.Joined.{most_agent_nets, link_nets, most_memories, AreJoinedSoFar}
+use Rattle.mm_fabric.specs.Wide.{joined_agent_nets, joined_agent_memories}
 use Rattle.mm_fabric.proofs.Counting.{links_more, links_few}
 use Rattle.mm_fabric.proofs.Joining.{none_joined, end_at, one_more_joined}
 use Rattle.mm_fabric.proofs.joined.join_agents.Goals as goal
@@ -31,7 +31,7 @@ returns-in_err-part-clause-grows c =
     let few = (end_at _ _ _ _ c.loop-number.number c.args.ends.now _ c.requires.ends c.loop-number.invariant.grows.extends c.loop-number.invariant.waits c.loop-number-test.true c.index-ends-number.is).few in
     let more = links_more system c.loop-number.number in
     let most = links_few system (c.loop-number.number + 1) in
-    memory_grows_within _ (joined_agent_nets (length (asking system c.loop-number.number))) _ _ 1 _ _ _ _ c.loop-number.invariant.grows c.join_hosts.ensures.grows (omega (arith, lt, few, more, most)) (omega (arith, lt))
+    memory_grows_within _ (joined_agent_nets (length (asking system c.loop-number.number))) _ _ (joined_agent_memories (length (asking system c.loop-number.number))) _ _ _ _ c.loop-number.invariant.grows c.join_hosts.ensures.grows (omega (arith, lt, few, more, most)) (omega (arith, lt, more, most))
 
 pub returns-then-is_err-clause-grows : goal.returns-then-is_err-clause-grows
 returns-then-is_err-clause-grows c =
@@ -40,13 +40,13 @@ returns-then-is_err-clause-grows c =
     let few = (end_at _ _ _ _ c.loop-number.number c.args.ends.now _ c.requires.ends c.loop-number.invariant.grows.extends c.loop-number.invariant.waits c.loop-number-test.true c.index-ends-number.is).few in
     let more = links_more system c.loop-number.number in
     let most = links_few system (c.loop-number.number + 1) in
-    memory_grows_within _ (joined_agent_nets (length (asking system c.loop-number.number))) _ _ 1 _ _ _ _ c.loop-number.invariant.grows c.join_hosts.ensures.grows (omega (arith, lt, few, more, most)) (omega (arith, lt))
+    memory_grows_within _ (joined_agent_nets (length (asking system c.loop-number.number))) _ _ (joined_agent_memories (length (asking system c.loop-number.number))) _ _ _ _ c.loop-number.invariant.grows c.join_hosts.ensures.grows (omega (arith, lt, few, more, most)) (omega (arith, lt, more, most))
 
 pub returns-clause-grows : goal.returns-clause-grows
 returns-clause-grows c =
     let most = links_few c.args.plan.now.system c.loop-number.number in
     let last = c.loop-number.auto.number-end in
-    memory_grows_fewer _ _ _ _ _ _ (omega (arith, most, last)) (omega (arith, last)) c.loop-number.invariant.grows
+    memory_grows_fewer _ _ _ _ _ _ (omega (arith, most, last)) (omega (arith, most, last)) c.loop-number.invariant.grows
 
 pub returns-in_err-part-clause-full : goal.returns-in_err-part-clause-full
 returns-in_err-part-clause-full c e =
@@ -60,11 +60,8 @@ returns-in_err-part-clause-full c e =
     let memories = c.loop-number.invariant.grows.most_memories in
     elim full [
       | inl nets ↦ inl (omega (arith, lt, few, more, links, most, nets))
-      | inr rest ↦ inr (omega (arith, lt, memories, rest))
+      | inr rest ↦ inr (omega (arith, lt, more, links, memories, rest))
     ]
-
-pub returns-in_err-part-clause-still_wait_for_write : goal.returns-in_err-part-clause-still_wait_for_write
-returns-in_err-part-clause-still_wait_for_write c m w = c.join_hosts.ensures.still_wait_for_write m (c.loop-number.invariant.waits_for_write m w)
 
 pushed : {X E : Type 0} (r : Result X E) (P : Type 0) → OnOk r P → is_err r ≡ false → P
 pushed (Ok x) P h e = h
@@ -79,4 +76,4 @@ loop-number-preserved c =
     let nets = made.nets in
     subst (λ parts. AreJoinedSoFar c.args.plan.now c.args.builder.now c.join_hosts.new.builder c.args.begun.now c.args.ends.now parts (c.loop-number.number + 1)) (sym longer)
     (one_more_joined c.args.plan.now c.args.builder.now c.loop-number.builder c.join_hosts.new.builder c.args.begun.now c.args.ends.now c.loop-number.parts c.loop-number.number c.index-ends-number.result c.in_ok-part.part c.loop-number.invariant c.loop-number-test.true c.index-ends-number.is
-    (record { is = made.part; askers = made.askers; seats = rw port made.seats; bounds = made.bounds }) (rw (port, nets) refl) (memory_grows_fewer _ (most_agent_nets + link_nets * length (asking c.args.plan.now.system c.loop-number.number)) _ 1 _ _ (omega (arith, few)) (omega arith) c.join_hosts.ensures.grows) made.waits made.no_more_wait made.still_wait_for_write made.no_more_wait_for_write)
+    (record { is = made.part; askers = made.askers; seats = rw port made.seats; bounds = made.bounds }) (rw (port, nets) refl) (memory_grows_fewer _ (most_agent_nets + link_nets * length (asking c.args.plan.now.system c.loop-number.number)) _ (most_memories 1 (length (asking c.args.plan.now.system c.loop-number.number))) _ _ (omega (arith, few)) (omega arith) c.join_hosts.ensures.grows) made.waits made.no_more_wait made.still_wait_for_write made.no_more_wait_for_write)

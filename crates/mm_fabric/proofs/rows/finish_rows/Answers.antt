@@ -1,6 +1,7 @@
 use Rattle.std.proofs.Common.{rules, ◌≡◌, List, [], ◌∷◌, ◌++◌, length, length-append, sym, subst, ap, ◌∙◌, arith}
 use Rattle.net_parts.specs.Refusing.{handed_on}
-use Rattle.net_parts.specs.Laws.{net_lasts, grows_within, grows_fewer}
+use Rattle.net_parts.specs.Laws.{net_lasts}
+use Rattle.mm_agent.specs.Memories.{memory_grows_fewer, memory_grows_within}
 use Rattle.command_nets.specs.Groups.{answer_lasts}
 use Rattle.mm_route.specs.declared.back.BackNets.{BackNets}
 use Rattle.mm_width.specs.Pairs.{BearsOneTag}
@@ -46,7 +47,7 @@ finish_width-requires-clause-answer c = answer_lasts _ _ _ _ c.loop-row.invarian
 pub returns-in_err-wait-clause-grows : goal.returns-in_err-wait-clause-grows
 returns-in_err-wait-clause-grows c =
     let few = one_fewer _ _ _ _ _ _ _ _ _ _ _ c.loop-row.invariant c.in-Some.ensures.items in
-    grows_within _ _ _ _ _ _ c.loop-row.invariant.grows c.finish_width.ensures.grows (omega (arith, few))
+    memory_grows_within _ _ _ _ _ _ _ _ _ c.loop-row.invariant.grows c.finish_width.ensures.grows (omega (arith, few)) (omega arith)
 
 pub returns-in_err-wait-clause-waits : goal.returns-in_err-wait-clause-waits
 returns-in_err-wait-clause-waits c n none w = wait_on _ _ _ _ _ _ _ _ _ _ _ c.loop-row.invariant c.in-Some.ensures.items c.finish_width.ensures.waits n none w
@@ -70,12 +71,12 @@ loop-row-preserved c =
     subst (λ (ts : List BackNets). ToldSoFar c.args.builder.now c.finish_width.new.builder c.args.port.now c.args.stages c.args.asking.now c.args.rows.items c.args.seats.now c.pop.new.self.items ts) (sym items)
     (one_more_told c.args.builder.now c.loop-row.builder c.finish_width.new.builder c.args.port.now c.args.stages c.args.asking.now c.args.rows.items c.args.seats.now c.loop-row.begun.items c.loop-row.told.items c.pop.new.self.items c.in-Some.row c.len-k.result c.index-asking-k.result c.index-seats-k.result back
     c.loop-row.invariant c.in-Some.ensures.items last (record { wait = made.wait; answer = made.answer; wire = made.wire; machine = made.machine })
-    (subst (λ (rs : List BegunWidth). AreBegunWidths rs c.finish_width.new.builder) c.deref.ensures.value made.others) c.finish_width.ensures.grows c.finish_width.ensures.waits made.no_more_wait)
+    (subst (λ (rs : List BegunWidth). AreBegunWidths rs c.finish_width.new.builder) c.deref.ensures.value made.others) c.finish_width.ensures.grows c.finish_width.ensures.waits made.no_more_wait made.still_wait_for_write made.written)
 
 pub returns-in_err-insert-clause-grows : goal.returns-in_err-insert-clause-grows
 returns-in_err-insert-clause-grows c =
     let few = one_fewer _ _ _ _ _ _ _ _ _ _ _ c.loop-row.invariant c.in-Some.ensures.items in
-    grows_within _ _ _ _ _ _ c.loop-row.invariant.grows c.finish_width.ensures.grows (omega (arith, few))
+    memory_grows_within _ _ _ _ _ _ _ _ _ c.loop-row.invariant.grows c.finish_width.ensures.grows (omega (arith, few)) (omega arith)
 
 pub returns-in_err-insert-clause-waits : goal.returns-in_err-insert-clause-waits
 returns-in_err-insert-clause-waits c n none w = wait_on _ _ _ _ _ _ _ _ _ _ _ c.loop-row.invariant c.in-Some.ensures.items c.finish_width.ensures.waits n none w
@@ -84,10 +85,16 @@ pub returns-clause-told : goal.returns-clause-told
 returns-clause-told c = (all_told _ _ _ _ _ _ _ _ _ c.loop-row.invariant (let same = c.loop-row.begun.ok in let none = c.in_default.ensures.cases.0 in omega (arith, same, none))).told_are
 
 pub returns-clause-grows : goal.returns-clause-grows
-returns-clause-grows c = let count = c.loop-row.invariant.count in grows_fewer _ _ _ _ (omega (arith, count)) c.loop-row.invariant.grows
+returns-clause-grows c = let count = c.loop-row.invariant.count in memory_grows_fewer _ _ _ _ _ _ (omega (arith, count)) (omega arith) c.loop-row.invariant.grows
 
 pub returns-clause-waits : goal.returns-clause-waits
 returns-clause-waits c = c.loop-row.invariant.waits
 
 pub returns-clause-no_more_wait : goal.returns-clause-no_more_wait
 returns-clause-no_more_wait c = (all_told _ _ _ _ _ _ _ _ _ c.loop-row.invariant (let same = c.loop-row.begun.ok in let none = c.in_default.ensures.cases.0 in omega (arith, same, none))).no_more_wait
+
+pub returns-clause-still_wait_for_write : goal.returns-clause-still_wait_for_write
+returns-clause-still_wait_for_write c = c.loop-row.invariant.writes
+
+pub returns-clause-written : goal.returns-clause-written
+returns-clause-written c = (all_told _ _ _ _ _ _ _ _ _ c.loop-row.invariant (let same = c.loop-row.begun.ok in let none = c.in_default.ensures.cases.0 in omega (arith, same, none))).written

@@ -17,4 +17,9 @@ returns-clause-awake c = λ plan is_plan netlist fabric is longer extends run en
 pub returns-clause-fair : goal.returns-clause-fair
 returns-clause-fair c = λ plan is_plan netlist fabric is longer extends run endless end legal.
     let linked = c.fabrics_are_fairly_linked.ensures plan is_plan netlist fabric is longer extends run endless end legal in
-    c.machines_with_links_are_fair.ensures AreZero (memory_system plan) (seen_in plan fabric run) linked.0 linked.1 end linked.2 linked.3 linked.4 legal (λ agent there. c.plans_are_apart.ensures plan is_plan agent) linked.5
+    c.machines_with_links_are_fair.ensures AreZero (memory_system plan) (seen_in plan fabric run) linked.0 linked.1 end linked.2 linked.3 linked.4 legal (λ agent there. c.plans_are_apart.ensures plan is_plan agent) linked.6
+
+pub returns-clause-packed : goal.returns-clause-packed
+returns-clause-packed c = λ plan is_plan netlist fabric is longer extends run endless end legal.
+    let linked = c.fabrics_are_fairly_linked.ensures plan is_plan netlist fabric is longer extends run endless end legal in
+    c.packed_systems_read_words_once.ensures AreZero (memory_system plan) (seen_in plan fabric run) linked.0 linked.1 end linked.2 linked.3 linked.4 linked.5 legal
