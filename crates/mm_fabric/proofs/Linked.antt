@@ -97,11 +97,11 @@ no_grant c = record { open_host = None; round = record { left = 0; ring = [] } }
 
 -- ---- whether ends are joined
 
-joined_if : (b : Bool) → not b ≡ false → b ≡ true
+pub joined_if : (b : Bool) → not b ≡ false → b ≡ true
 joined_if true e = refl
 joined_if false e = cc
 
-apart_if : (b : Bool) → not b ≡ true → b ≡ false
+pub apart_if : (b : Bool) → not b ≡ true → b ≡ false
 apart_if true e = cc
 apart_if false e = refl
 
@@ -221,11 +221,11 @@ module _ (plan : PlanTable) (planned : IsMemoryPlan (memory_system plan)) (disti
 
   -- ---- the links
 
-  lanes_at : (h a : ℕ) (low : h < (memory_system plan).hosts) (there : a < (memory_system plan).agents) (joined : IsTrue (is_joined (memory_system plan) a h)) → IsFalse (drops_some (((stands h low a there).leads joined).dropped)) →
+  pub lanes_at : (h a : ℕ) (low : h < (memory_system plan).hosts) (there : a < (memory_system plan).agents) (joined : IsTrue (is_joined (memory_system plan) a h)) → IsFalse (drops_some (((stands h low a there).leads joined).dropped)) →
       IsTrue (((memory_system plan).agent a).has_enables || not ((memory_system plan).host h).has_enables)
   lanes_at h a low there joined none = lanes plan planned netlist fabric is longer extends run endless h a low there (sym ((stands h low a there).leads joined).is ∙ none)
 
-  idle_at : (h a : ℕ) → h < (memory_system plan).hosts → a < (memory_system plan).agents → IsFalse (is_joined (memory_system plan) a h) → AreIdleWires ports h a
+  pub idle_at : (h a : ℕ) → h < (memory_system plan).hosts → a < (memory_system plan).agents → IsFalse (is_joined (memory_system plan) a h) → AreIdleWires ports h a
   idle_at h a low there apart =
       let hands = hands_on (below_route plan fabric run h a) (above_arbiter fabric run h a) (inner h a) ((stands h low a there).none apart) (idle plan planned netlist fabric is longer extends run endless a there h (routed h low) apart) in
       record { high = hands.high; mid = hands.mid; low = hands.low }
@@ -271,7 +271,7 @@ module _ (plan : PlanTable) (planned : IsMemoryPlan (memory_system plan)) (disti
       wired_below (target_of (memory_system plan) a) (fabric.host h).port (fabric.agent a).port (below_route plan fabric run h a) (above_arbiter fabric run h a) (inner h a) ((stands h low a there).leads has) enables
 
   -- a row of links stands between those that are joined, wires between the others
-  abbrev rows : AreRows (memory_system plan) (seen_in plan fabric run) ports end
+  abbrev pub rows : AreRows (memory_system plan) (seen_in plan fabric run) ports end
   rows = record {
     idle = λ h a. not (is_joined (memory_system plan) a h);
     views = views.hosts;
