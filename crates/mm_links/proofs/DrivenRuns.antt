@@ -31,7 +31,7 @@ select_runs given = record {
   begins = refl;
   next = λ c. refl;
   valid = λ c. refl;
-  word = λ c. refl;
+  word = λ c some. refl;
   code = λ c. refl;
 }
 

@@ -299,9 +299,10 @@ module _ (law : SelectsBeats) (target : Target) (up down : Port) (many room : �
             let w : Word = record { word = down.answers.word c; code = down.answers.code c } in
             let few = few_words c h owed in
             let more = one_more c ∙ ap {B = ℕ} (λ b. length (words_at down c) + (if b then 1 else 0)) e in
+            let held = ap length queued ∙ length-drop (length (words_at down c)) (asked c) in
             let pushed : length (words_at down c ++ w ∷ []) ≡ length (words_at down c) + 1 = length-append (words_at down c) (w ∷ []) in
             let mine : record { word = up.answers.word c; code = up.answers.code c } ≡ cut up.shape.word_bytes (first_of (drop (length (words_at down c)) (asked c))) w =
-            ap₂ (λ x y. word_by x y) (run.word c ∙ ap (λ q. (down.answers.word c / 256 ^ first_of q) % 256 ^ up.shape.word_bytes) queued) (run.code c) in
+            ap₂ (λ x y. word_by x y) (run.word c (omega (arith, few, more, held)) ∙ ap (λ q. (down.answers.word c / 256 ^ first_of q) % 256 ^ up.shape.word_bytes) queued) (run.code c) in
             ap (λ b. words_at up c ++ only_if b (record { word = up.answers.word c; code = up.answers.code c })) (valid_same c ∙ e)
             ∙ ap₂ (λ l x. l ++ x ∷ []) so_far mine
             ∙ sym (cuts_push up.shape.word_bytes (asked c) (words_at down c) w (omega (arith, few, more)))

@@ -49,7 +49,8 @@ pub record RunsAsSelect (room : ℕ) (up down : Port) (offsets : ℕ → List �
   pub begins : offsets 0 ≡ []
   pub next : (c : ℕ) → offsets (suc c) ≡ drop (if is_raised (down.answers.valid c) then 1 else 0) (offsets c) ++ only_if (takes_read up c) (offset_in up.shape down.shape (up.commands.address c))
   pub valid : (c : ℕ) → up.answers.valid c ≡ down.answers.valid c
-  pub word : (c : ℕ) → up.answers.word c ≡ (down.answers.word c / 256 ^ first_of (offsets c)) % 256 ^ up.shape.word_bytes
+  -- where a read is under way
+  pub word : (c : ℕ) → 0 < length (offsets c) → up.answers.word c ≡ (down.answers.word c / 256 ^ first_of (offsets c)) % 256 ^ up.shape.word_bytes
   pub code : (c : ℕ) → up.answers.code c ≡ down.answers.code c
 
 -- narrow words, `many` of which make one word of the agent, which has byte enables. Commands have one beat on both sides

@@ -99,7 +99,7 @@ module _ (s : Select) (form : Form) (from to : CommandNets) (kept : SelectKept) 
     begins = refl;
     next = λ c. refl;
     valid = λ c. ap (λ (n : NetValue). run.net c n.number) b.valid_is;
-    word = λ c. b.word (cycle_of run c) (valued c)
+    word = λ c some. b.word (cycle_of run c) (valued c)
         ∙ ap₂ (λ n w. run.net c answer.word.number / 256 ^ n % 256 ^ w) (sym (first_is s.narrow_bytes (2 ^ kept.place.width) (offsets c) (run.net c kept.queue.places.number) (held c).digits)) (sym p.narrow);
     code = λ c. ap (λ (n : NetValue). run.net c n.number) b.code_is;
   }
