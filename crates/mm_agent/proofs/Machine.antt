@@ -11,7 +11,7 @@ use Rattle.netlist.specs.Runs.{Cycle, Run, cycle_of, IsEndlessRun, IsValuation, 
 use Rattle.net_parts.specs.Laws.{extends_none, bit_fits, net_fits}
 use Rattle.net_parts.specs.Histories.{earlier}
 use Rattle.net_parts.specs.HistoryLaw.{history_bits}
-use Rattle.mm_runs.specs.Views.Responses.{AreZero}
+use Rattle.mm_runs.specs.Views.Responses.{AreCodes}
 use Rattle.mm_runs.specs.Commands.{shows, stood_before}
 use Rattle.mm_machines.specs.Link.{Port}
 use Rattle.mm_parts.specs.Queue.{Entry, QueuesReads, takes_read, head_tag}
@@ -30,7 +30,7 @@ use Rattle.mm_agent.specs.declared.waits.HeldWait.TheVariants.{Given, Soon, Coun
 use Rattle.command_nets.specs.Ports.{HasNet, value_or, all_ones}
 use Rattle.mm_agent.specs.Agents.{counts_words, needs_queue, BearsOneTag, GivesAnswer, agent_signals, agent_view}
 use Rattle.mm_agent.specs.Reads.{held_queue, AreReadsHeld, ReadsGoOn}
-use Rattle.mm_agent.specs.Answers.{AreAnswersGiven, IsAnswerTag}
+use Rattle.mm_agent.specs.Answers.{GivesRowPort, AreAnswersGiven, IsAnswerTag}
 use Rattle.mm_agent.specs.Waits.{wait_by, shows_beat, IsWaitHeld, WaitGoesOn}
 use Rattle.mm_agent.specs.Forms.{IsAgentPart, traffic_of, QueueGoesOn, AnyQueueGoesOn, AreFitFor, port_above, tagged_above}
 use Rattle.mm_agent.proofs.Waiting.{eq_capped, stood_capped, still_none, soon_accepted}
@@ -421,7 +421,7 @@ module _ (several : Bool) (port : AgentPort) (nets : AgentNets) (command : Comma
       one_tag is c ∙ head_bears tag (queue_at U came c) (queue_bears U came tag (λ d. bears several netlist command h.one_tag is (cycle_of run d) (val d)) c) some
 
   gives_queued : (reads : HeldReads) → HoldsAsNeeded reads → GoesOn reads → AreReadsHeld netlist port command.read h.shown reads → ReadsGoOn netlist command.read h.shown h.busy made.answer.valid made.waitrequest reads → AreAnswersGiven netlist port nets made.answer reads → IsAnswerTag netlist several port command.tag reads made.answer_tag → (end : ℕ) →
-      AreFitFor port U end → port.readdatavalid ≡ true → GivesQueued AreZero (agent_view port nets command made run) (tagged_above port command made run) (state_by reads port nets command made tag run) end
+      AreFitFor port U end → port.readdatavalid ≡ true → GivesQueued AreCodes (agent_view port nets command made run) (tagged_above port command made run) (state_by reads port nets command made tag run) end
   gives_queued Never needed q k l g a end fit queued = absurd (let none = k.kind in cc)
   gives_queued (Row row) needed q k l g a end fit queued = absurd (let none = k.kind in cc)
   gives_queued (Counts unanswered full) needed q k l g a end fit queued = record {
@@ -437,8 +437,12 @@ module _ (several : Bool) (port : AgentPort) (nets : AgentNets) (command : Comma
     tag = λ c lt some. tag_of_oldest several queue refl a c some (queue_tag queue k l g (q queue refl) end fit c (omega (arith, lt)) some);
   }
 
+  -- at latency 0 what stands at a port comes a cycle later
+  given_late : (given : Option NetValue) (late : NetValue) → GivesRowPort netlist port given late → port.read_latency ≡ 0 → (c : ℕ) → run.net (suc c) late.number ≡ value_or 0 given (cycle_of run c)
+  given_late given late g soon c = ap (λ n. run.net n late.number) (sym (next_cycle c)) ∙ g.late soon run (c + 2) (endless (c + 2)) c (omega arith)
+
   gives_fixed : (reads : HeldReads) → AreReadsHeld netlist port command.read h.shown reads → ReadsGoOn netlist command.read h.shown h.busy made.answer.valid made.waitrequest reads → AreAnswersGiven netlist port nets made.answer reads → IsAnswerTag netlist several port command.tag reads made.answer_tag → (end : ℕ) →
-      AreFitFor port (port_above port command made run) end → port.readdatavalid ≡ false → GivesFixed AreZero (agent_side port) (agent_view port nets command made run) (tagged_above port command made run) (state_by reads port nets command made tag run) end
+      AreFitFor port (port_above port command made run) end → port.readdatavalid ≡ false → GivesFixed AreCodes (agent_side port) (agent_view port nets command made run) (tagged_above port command made run) (state_by reads port nets command made tag run) end
   gives_fixed (Counts unanswered full) k l g a end fit unqueued = absurd (let some = k.kind in cc)
   gives_fixed (Queued queue) k l g a end fit unqueued = absurd (let some = k.is.kind in cc)
   -- an agent that can't read answers nothing
@@ -446,12 +450,12 @@ module _ (several : Bool) (port : AgentPort) (nets : AgentNets) (command : Comma
     empty = λ i. refl;
     first = λ c lt. sym (where_not (takes_read (port_above port command made run) c) _ _ (and_false _ (R c) (not_served (R c) port.reads _ (fit.kinds c (omega arith)) k.reads)));
     next = λ c i lt. refl;
-    valid = λ c lt. valid_is g c ∙ ap is_raised (absent netlist port.readdatavalid 1 nets.readdatavalid unqueued h.nets_are.readdatavalid (cycle_of run c));
+    valid = λ c lt. ap is_raised (g.valid (cycle_of run c) (val c));
     tag = λ c lt. tt;
-    word = λ c lt late. (g (cycle_of run c) (val c)).word;
-    code = λ c lt late. (g (cycle_of run c) (val c)).code;
-    word_late = λ c lt soon. (g (cycle_of run (suc c)) (val (suc c))).word ∙ no_word (suc c) ∙ sym (no_word c);
-    code_late = λ c lt soon. (g (cycle_of run (suc c)) (val (suc c))).code;
+    word = λ c lt late. g.word (cycle_of run c) (val c) ∙ sym (no_word c);
+    code = λ c lt late. g.code.soon late (cycle_of run c) (val c);
+    word_late = λ c lt soon. g.word (cycle_of run (suc c)) (val (suc c)) ∙ sym (no_word c);
+    code_late = λ c lt soon. given_late nets.response made.answer.code g.code soon c;
   } where
     no_word : (c : ℕ) → value_or 0 nets.readdata (cycle_of run c) ≡ 0
     no_word c = absent netlist port.reads (port.word_bytes * 8) nets.readdata k.reads h.nets_are.readdata (cycle_of run c)
@@ -464,9 +468,9 @@ module _ (several : Bool) (port : AgentPort) (nets : AgentNets) (command : Comma
         ∙ row_filled (port_above port command made run) (λ d. run.net d l.taken.number) taken c last;
     tag = λ c lt. tag_in_row several row refl a c;
     word = λ c lt late. g.word.soon late (cycle_of run c) (val c);
-    code = λ c lt late. g.code (cycle_of run c) (val c);
-    word_late = λ c lt soon. ap (λ n. run.net n made.answer.word.number) (sym (next_cycle c)) ∙ g.word.late soon run (c + 2) (endless (c + 2)) c (omega arith);
-    code_late = λ c lt soon. g.code (cycle_of run (suc c)) (val (suc c));
+    code = λ c lt late. g.code.soon late (cycle_of run c) (val c);
+    word_late = λ c lt soon. given_late nets.readdata made.answer.word g.word soon c;
+    code_late = λ c lt soon. given_late nets.response made.answer.code g.code soon c;
   } where
     taken : (d : ℕ) → is_raised (run.net d l.taken.number) ≡ takes_read (port_above port command made run) d
     taken d =
@@ -474,7 +478,7 @@ module _ (several : Bool) (port : AgentPort) (nets : AgentNets) (command : Comma
         ∙ ap (λ (n : NetValue). is_raised (run.net d n.number) && not (N d)) k.shows
         ∙ sym (ap (λ (n : NetValue). ((R d || W d) && not (is_raised (run.net d n.number))) && R d) l.tells ∙ plain_taken (R d) (W d) (N d))
 
-  pub machine : (end : ℕ) → AreFitFor port (port_above port command made run) end → IsAgentMachine AreZero (agent_side port) (agent_view port nets command made run) (tagged_above port command made run) (state_of port nets command made tag run) end
+  pub machine : (end : ℕ) → AreFitFor port (port_above port command made run) end → IsAgentMachine AreCodes (agent_side port) (agent_view port nets command made run) (tagged_above port command made run) (state_of port nets command made tag run) end
   machine end fit = record {
     commands = shows_to_agent end fit;
     queued = gives_queued made.reads h.queued any h.held h.on h.answers h.answer_tag end fit;

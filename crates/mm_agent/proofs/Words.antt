@@ -1,4 +1,4 @@
--- The words of an agent that has readdatavalid where it reads, and the tag of its answers where it is one.
+-- The words of an agent that has readdatavalid, and the tag of its answers where it is one.
 use Rattle.std.proofs.Common.{◌≡◌, Bool, true, false}
 use Rattle.iface_roles.specs.declared.records.AgentPort.{AgentPort}
 use Rattle.netlist.specs.Nets.{NetValue}
@@ -13,11 +13,11 @@ use Rattle.mm_agent.specs.Answers.{AreAnswersGiven, IsAnswerTag}
 use Rattle.mm_agent.specs.Reads.{AreReadsHeld}
 
 pub words_given : (netlist : Netlist) (port : AgentPort) (nets : AgentNets) (answer : AnswerNets) (read shown : NetValue) (held : HeldReads) → AreReadsHeld netlist port read shown held → AreAnswersGiven netlist port nets answer held →
-    (port.reads ≡ true → port.readdatavalid ≡ true) → Always netlist (GivesAnswer nets answer)
-words_given netlist port nets answer read shown Never k g served = g
-words_given netlist port nets answer read shown (Counts unanswered full) k g served = g
-words_given netlist port nets answer read shown (Row row) k g served = absurd (let some = served k.reads in let none = k.kind in cc)
-words_given netlist port nets answer read shown (Queued queue) k g served = g
+    port.readdatavalid ≡ true → Always netlist (GivesAnswer nets answer)
+words_given netlist port nets answer read shown Never k g some = absurd (let none = k.kind in cc)
+words_given netlist port nets answer read shown (Counts unanswered full) k g some = g
+words_given netlist port nets answer read shown (Row row) k g some = absurd (let none = k.kind in cc)
+words_given netlist port nets answer read shown (Queued queue) k g some = g
 
 pub one_answer_tag : (netlist : Netlist) (several : Bool) (port : AgentPort) (tag : NetValue) (held : HeldReads) (made : NetValue) → IsAnswerTag netlist several port tag held made → several ≡ false → made ≡ tag
 one_answer_tag netlist true port tag held made h e = cc

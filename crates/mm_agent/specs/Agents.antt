@@ -64,11 +64,11 @@ shape_above port = record { word_bytes = port.word_bytes; unit_bytes = 1; burst_
 abbrev pub PlacesAddress : AgentPort → ℕ → ℕ → Type 0
 PlacesAddress port address placed = placed * unit_of port.byte_units port.word_bytes ≡ byte_address (shape_above port) address % span_of port
 
--- words go on in their cycle, without a code
+-- words go on in their cycle, with their codes
 pub record GivesAnswer (nets : AgentNets) (answer : AnswerNets) (cycle : Cycle) : Type 0 where
   pub valid : cycle.net answer.valid.number ≡ value_or 0 nets.readdatavalid cycle
   pub word : cycle.net answer.word.number ≡ value_or 0 nets.readdata cycle
-  pub code : cycle.net answer.code.number ≡ 0
+  pub code : cycle.net answer.code.number ≡ value_or 0 nets.response cycle
 
 abbrev pub read_of : AgentPort → NetValue → Option NetValue
 read_of port shown = if port.reads then Some shown else None

@@ -17,19 +17,25 @@ use Rattle.mm_agent.specs.declared.reads.HeldReads.{HeldReads}
 use Rattle.mm_agent.specs.declared.reads.HeldReads.TheVariants.{Never, Counts, Row, Queued}
 use Rattle.mm_agent.specs.Agents.{GivesAnswer}
 
--- at fixed latency the word goes on in its cycle, and at latency 0 in the next one
-pub record GivesRowWord (netlist : Netlist) (port : AgentPort) (readdata : Option NetValue) (word : NetValue) : Type 0 where
-  pub soon : 1 ≤ port.read_latency → Always netlist (λ cycle. cycle.net word.number ≡ value_or 0 readdata cycle)
-  pub late : port.read_latency ≡ 0 → (run : Run) (cycles : ℕ) → IsRun netlist run cycles → (c : ℕ) → c + 1 < cycles → run.net (c + 1) word.number ≡ value_or 0 readdata (cycle_of run c)
+-- beside a row what the agent gives at a port goes on in its cycle, and at latency 0 in the next one
+pub record GivesRowPort (netlist : Netlist) (port : AgentPort) (given : Option NetValue) (made : NetValue) : Type 0 where
+  pub soon : 1 ≤ port.read_latency → Always netlist (λ cycle. cycle.net made.number ≡ value_or 0 given cycle)
+  pub late : port.read_latency ≡ 0 → (run : Run) (cycles : ℕ) → IsRun netlist run cycles → (c : ℕ) → c + 1 < cycles → run.net (c + 1) made.number ≡ value_or 0 given (cycle_of run c)
 
 -- a word is answered where the row's last bit is high
 pub record GivesRow (netlist : Netlist) (port : AgentPort) (nets : AgentNets) (answer : AnswerNets) (row : NetValue) : Type 0 where
   pub valid : Always netlist (λ cycle. cycle.net answer.valid.number ≡ bit_at (cycle.net row.number) (row_places (agent_side port) - 1))
-  pub word : GivesRowWord netlist port nets.readdata answer.word
-  pub code : Always netlist (λ cycle. cycle.net answer.code.number ≡ 0)
+  pub word : GivesRowPort netlist port nets.readdata answer.word
+  pub code : GivesRowPort netlist port nets.response answer.code
+
+-- an agent that can't read gives no word; its codes go on as beside a row
+pub record GivesNoWord (netlist : Netlist) (port : AgentPort) (nets : AgentNets) (answer : AnswerNets) : Type 0 where
+  pub valid : Always netlist (λ cycle. cycle.net answer.valid.number ≡ 0)
+  pub word : Always netlist (λ cycle. cycle.net answer.word.number ≡ 0)
+  pub code : GivesRowPort netlist port nets.response answer.code
 
 abbrev pub AreAnswersGiven : Netlist → AgentPort → AgentNets → AnswerNets → HeldReads → Type 0
-AreAnswersGiven netlist port nets answer Never = Always netlist (GivesAnswer nets answer)
+AreAnswersGiven netlist port nets answer Never = GivesNoWord netlist port nets answer
 AreAnswersGiven netlist port nets answer (Counts unanswered full) = Always netlist (GivesAnswer nets answer)
 AreAnswersGiven netlist port nets answer (Row row) = GivesRow netlist port nets answer row
 AreAnswersGiven netlist port nets answer (Queued queue) = Always netlist (GivesAnswer nets answer)
@@ -56,13 +62,20 @@ IsAnswerTag netlist true port tag (Queued queue) made = made ≡ queue.tag
 
 -- ---- what stands lasts. No contract reads these proofs; the laws of the agent cite them
 
+pub row_port_lasts : (old new : Netlist) (port : AgentPort) (given : Option NetValue) (made : NetValue) → GivesRowPort old port given made → Extends old new → GivesRowPort new port given made
+row_port_lasts old new port given made h e = record { soon = λ some cycle v. h.soon some cycle (e.valuations cycle v); late = λ none run cycles r. h.late none run cycles (e.runs run cycles r) }
+
 pub answers_last : (old new : Netlist) (port : AgentPort) (nets : AgentNets) (answer : AnswerNets) (held : HeldReads) → AreAnswersGiven old port nets answer held → Extends old new → AreAnswersGiven new port nets answer held
-answers_last old new port nets answer Never h e = λ cycle v. h cycle (e.valuations cycle v)
+answers_last old new port nets answer Never h e = record {
+  valid = λ cycle v. h.valid cycle (e.valuations cycle v);
+  word = λ cycle v. h.word cycle (e.valuations cycle v);
+  code = row_port_lasts old new port nets.response answer.code h.code e;
+}
 answers_last old new port nets answer (Counts unanswered full) h e = λ cycle v. h cycle (e.valuations cycle v)
 answers_last old new port nets answer (Row row) h e = record {
   valid = λ cycle v. h.valid cycle (e.valuations cycle v);
-  word = record { soon = λ some cycle v. h.word.soon some cycle (e.valuations cycle v); late = λ none run cycles r. h.word.late none run cycles (e.runs run cycles r) };
-  code = λ cycle v. h.code cycle (e.valuations cycle v);
+  word = row_port_lasts old new port nets.readdata answer.word h.word e;
+  code = row_port_lasts old new port nets.response answer.code h.code e;
 }
 answers_last old new port nets answer (Queued queue) h e = λ cycle v. h cycle (e.valuations cycle v)
 

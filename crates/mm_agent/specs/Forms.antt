@@ -8,7 +8,7 @@ use Rattle.netlist.specs.Runs.{Cycle, Run, IsEndlessRun, IsValuation, Always}
 use Rattle.netlist.specs.Longer.{Extends}
 use Rattle.net_parts.specs.Nets.{IsBit}
 use Rattle.net_parts.specs.Laws.{net_lasts}
-use Rattle.mm_runs.specs.Views.Responses.{AreZero}
+use Rattle.mm_runs.specs.Views.Responses.{AreCodes}
 use Rattle.mm_machines.specs.Link.{Port}
 use Rattle.mm_machines.specs.Lines.{TaggedPort, ServesKinds}
 use Rattle.mm_parts.specs.Queue.{takes_read}
@@ -77,8 +77,8 @@ pub record IsAgentPart (netlist : Netlist) (several : Bool) (port : AgentPort) (
   pub wait_held : IsWaitHeld netlist port nets.waitrequest command.write busy made.wait
   pub wait_on : WaitGoesOn netlist port shown command.write busy made.wait
   pub address : Always netlist (λ cycle. PlacesAddress port (cycle.net command.address.number) (value_or 0 made.address cycle))
-  -- with readdatavalid, or where it can't read, words go on in their cycle
-  pub answer : (port.reads ≡ true → port.readdatavalid ≡ true) → Always netlist (GivesAnswer nets made.answer)
+  -- with readdatavalid words go on in their cycle
+  pub answer : port.readdatavalid ≡ true → Always netlist (GivesAnswer nets made.answer)
   pub answers : AreAnswersGiven netlist port nets made.answer made.reads
   pub held : AreReadsHeld netlist port command.read shown made.reads
   pub on : ReadsGoOn netlist command.read shown busy made.answer.valid made.waitrequest made.reads
@@ -129,7 +129,7 @@ pub record AreFitFor (port : AgentPort) (up : Port) (end : ℕ) : Type 0 where
 -- the run has a state with which it is one of the machine of an agent
 pub record IsAgentRun (port : AgentPort) (nets : AgentNets) (command : CommandNets) (made : AgentMade) (run : Run) (end : ℕ) : Type 0 where
   pub state : AgentState
-  pub machine : IsAgentMachine AreZero (agent_side port) (agent_view port nets command made run) (tagged_above port command made run) state end
+  pub machine : IsAgentMachine AreCodes (agent_side port) (agent_view port nets command made run) (tagged_above port command made run) state end
 
 -- so is each endless run of each longer netlist in which the commands are fit
 abbrev pub RunsAsAgent : Netlist → AgentPort → AgentNets → CommandNets → AgentMade → Type 0

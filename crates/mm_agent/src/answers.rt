@@ -1,6 +1,6 @@
 //! The words that an agent gives.
 
-ghost use Rattle.std.specs.Prelude.{◌≡◌, true, false, ◌+◌, ◌*◌, ◌^◌, ◌<◌, ◌≤◌, length, IfOk, OnOk, IfSome};
+ghost use Rattle.std.specs.Prelude.{◌≡◌, false, ◌+◌, ◌*◌, ◌^◌, ◌<◌, ◌≤◌, length, IfOk, OnOk, IfSome};
 ghost use Rattle.iface_roles.specs.Proper.{IsBoundedAgent};
 ghost use Rattle.netlist.specs.Netlists.{IsNet};
 ghost use Rattle.netlist.specs.Runs.{Always};
@@ -10,9 +10,8 @@ ghost use Rattle.mm_parts.specs.Agent.{row_places};
 ghost use Rattle.memory_sides.specs.Sides.{agent_side};
 ghost use Rattle.command_nets.specs.Groups.{IsDelayed};
 ghost use Rattle.command_nets.specs.Nets.{AreAnswerNets};
-ghost use Rattle.command_nets.specs.Ports.{HasNet};
 ghost use Rattle.mm_agent.specs.Agents.{AreAgentNets, GivesAnswer};
-ghost use Rattle.mm_agent.specs.Answers.{tag_nets, GivesRowWord, GivesRow, AreAnswersGiven, IsEarlier, IsAnswerTag};
+ghost use Rattle.mm_agent.specs.Answers.{tag_nets, GivesRowPort, GivesNoWord, GivesRow, AreAnswersGiven, IsEarlier, IsAnswerTag};
 ghost use Rattle.mm_agent.specs.Reads.{held_queue, IsRowThere};
 
 use crate::fields::given_or_low;
@@ -20,10 +19,10 @@ use crate::nets::AgentNets;
 use crate::reads::{HeldReads, places_of};
 use command_nets::{AnswerNets, take_next, word_bits};
 use iface_roles::AgentPort;
-use net_parts::{bit_before, constant, low_register};
+use net_parts::{bit_before, constant, level, low_register};
 use netlist::{Builder, Net, NetFault};
 
-/// Hands on each word in its cycle. The response is always 0.
+/// Hands on each word in its cycle, with its code.
 #[tactic(auto, using(net_parts::specs::Laws::growing))]
 fn give_words(
     builder: &mut Builder,
@@ -39,7 +38,7 @@ fn give_words(
 {
     let valid = given_or_low(builder, nets.readdatavalid, 1)?;
     let word = given_or_low(builder, nets.readdata, word_bits(port.word_bytes))?;
-    let code = constant(builder, 2, 0)?;
+    let code = given_or_low(builder, nets.response, 2)?;
     Ok(AnswerNets { valid, word, code })
 }
 
@@ -105,24 +104,54 @@ pub(crate) fn answer_tag(
     }
 }
 
-/// The word of a row, at latency 0 a cycle after it came.
+/// What stands at a port beside a row, at latency 0 a cycle after it came. It is always low where there is no port.
 #[tactic(auto, using(net_parts::specs::Laws::growing))]
-fn row_word(builder: &mut Builder, port: &AgentPort, readdata: Option<Net>) -> Result<Net, NetFault>
-    requires port { IsBoundedAgent port.now }
-    requires readdata { HasNet builder.old port.now.reads (port.now.word_bytes * 8) readdata }
-    ensures net { IfOk result (λ word. IsNetOfWidth builder.new word (port.now.word_bytes * 8)) }
-    ensures value { IfOk result (GivesRowWord builder.new port.now readdata) }
-    ensures grows { GrowsBy 2 builder.old builder.new }
+fn row_port(
+    builder: &mut Builder,
+    port: &AgentPort,
+    given: Option<Net>,
+    bits: u8,
+) -> Result<Net, NetFault>
+    requires given { IfSome given (λ net. IsNetOfWidth builder.old net bits) }
+    requires some { 1 ≤ bits }
+    requires few { bits ≤ 128 }
+    ensures net { IfOk result (λ made. IsNetOfWidth builder.new made bits) }
+    ensures value { IfOk result (GivesRowPort builder.new port.now given) }
+    ensures grows { GrowsBy 1 builder.old builder.new }
     ensures still_wait { StillWait builder.old builder.new }
     ensures no_more_wait { OnOk result (StillWait builder.new builder.old) }
-    ensures full { result ≡ Err NetFault.TooManyNets → 2 ^ 20 < length builder.old.lines + 2 }
+    ensures full { result ≡ Err NetFault.TooManyNets → 2 ^ 20 < length builder.old.lines + 1 }
 {
-    let word = given_or_low(builder, readdata, word_bits(port.word_bytes))?;
-    if port.read_latency == 0 {
-        delay(builder, word)
-    } else {
-        Ok(word)
+    match given {
+        Some(net) => if port.read_latency == 0 {
+            delay(builder, net)
+        } else {
+            Ok(net)
+        },
+        None => constant(builder, bits, 0),
     }
+}
+
+/// Gives no word, next to an agent that can't read.
+#[tactic(auto, using(net_parts::specs::Laws::growing))]
+fn give_no_word(
+    builder: &mut Builder,
+    port: &AgentPort,
+    nets: &AgentNets,
+) -> Result<AnswerNets, NetFault>
+    requires port { IsBoundedAgent port.now }
+    requires nets { AreAgentNets builder.old port.now nets.now }
+    ensures nets { IfOk result (λ made. AreAnswerNets builder.new made (port.now.word_bytes * 8)) }
+    ensures value { IfOk result (GivesNoWord builder.new port.now nets.now) }
+    ensures grows { GrowsBy 3 builder.old builder.new }
+    ensures still_wait { StillWait builder.old builder.new }
+    ensures no_more_wait { OnOk result (StillWait builder.new builder.old) }
+    ensures full { result ≡ Err NetFault.TooManyNets → 2 ^ 20 < length builder.old.lines + 3 }
+{
+    let valid = level(builder, false)?;
+    let word = constant(builder, word_bits(port.word_bytes), 0)?;
+    let code = row_port(builder, port, nets.response, 2)?;
+    Ok(AnswerNets { valid, word, code })
 }
 
 /// Answers each read whose bit is at the end of the row.
@@ -138,14 +167,14 @@ fn give_row(
     requires row { IsNetOfWidth builder.old row (row_places (agent_side port.now)) }
     ensures nets { IfOk result (λ made. AreAnswerNets builder.new made (port.now.word_bytes * 8)) }
     ensures value { IfOk result (λ made. GivesRow builder.new port.now nets.now made row) }
-    ensures grows { GrowsBy 4 builder.old builder.new }
+    ensures grows { GrowsBy 3 builder.old builder.new }
     ensures still_wait { StillWait builder.old builder.new }
     ensures no_more_wait { OnOk result (StillWait builder.new builder.old) }
-    ensures full { result ≡ Err NetFault.TooManyNets → 2 ^ 20 < length builder.old.lines + 4 }
+    ensures full { result ≡ Err NetFault.TooManyNets → 2 ^ 20 < length builder.old.lines + 3 }
 {
     let valid = bit_before(builder, row, places_of(port))?;
-    let code = constant(builder, 2, 0)?;
-    let word = row_word(builder, port, nets.readdata)?;
+    let code = row_port(builder, port, nets.response, 2)?;
+    let word = row_port(builder, port, nets.readdata, word_bits(port.word_bytes))?;
     Ok(AnswerNets { valid, word, code })
 }
 
@@ -161,15 +190,14 @@ pub(crate) fn give_answer(
     requires row { IsRowThere builder.old port.now held.now }
     ensures nets { IfOk result (λ made. AreAnswerNets builder.new made (port.now.word_bytes * 8)) }
     ensures value { IfOk result (λ made. AreAnswersGiven builder.new port.now nets.now made held.now) }
-    ensures grows { GrowsBy 4 builder.old builder.new }
+    ensures grows { GrowsBy 3 builder.old builder.new }
     ensures still_wait { StillWait builder.old builder.new }
     ensures no_more_wait { OnOk result (StillWait builder.new builder.old) }
-    ensures full { result ≡ Err NetFault.TooManyNets → 2 ^ 20 < length builder.old.lines + 4 }
+    ensures full { result ≡ Err NetFault.TooManyNets → 2 ^ 20 < length builder.old.lines + 3 }
 {
     match held {
-        HeldReads::Never | HeldReads::Counts { .. } | HeldReads::Queued { .. } => {
-            give_words(builder, port, nets)
-        }
+        HeldReads::Never => give_no_word(builder, port, nets),
+        HeldReads::Counts { .. } | HeldReads::Queued { .. } => give_words(builder, port, nets),
         HeldReads::Row { row } => give_row(builder, port, nets, *row),
     }
 }

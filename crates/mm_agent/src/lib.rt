@@ -1,4 +1,4 @@
-//! The equations of the part next to a memory-mapped agent: its address, its wait, its bound on unanswered reads, and the tag of each answer.
+//! The equations of the part next to a memory-mapped agent: its address, its wait, its bound on unanswered reads, and the code and the tag of each answer.
 #![tactic(auto)]
 
 mod agent;

@@ -13,7 +13,7 @@ pub struct AgentNets {
     pub readdata: Option<Net>,
     /// One bit.
     pub readdatavalid: Option<Net>,
-    /// Two bits; no part reads it yet.
+    /// Two bits: the code of the word that comes in the cycle.
     pub response: Option<Net>,
 }
 

@@ -1,16 +1,18 @@
-use Rattle.std.proofs.Common.{◌∙◌, ◌-◌, ap, arith}
+use Rattle.std.proofs.Common.{◌∙◌, ◌-◌, subst, ap, arith}
 use Rattle.std.specs.Int.{bit_at}
-use Rattle.net_parts.specs.Laws.{extends_twice, net_lasts, adds_twice, adds_grow, grows_fewer, grows_twice}
+use Rattle.net_parts.specs.Nets.{IsNetOfWidth}
+use Rattle.net_parts.specs.Laws.{extends_twice, net_lasts, adds_grow, grows_fewer, grows_twice}
 use Rattle.net_parts.specs.Refusing.{handed_on}
+use Rattle.mm_agent.specs.Answers.{row_port_lasts}
 use Rattle.mm_agent.proofs.answers.give_row.Goals as goal
 
 pub returns-clause-value : goal.returns-clause-value
 returns-clause-value c = record {
   valid = λ cycle v.
-      (let v1 = c.constant.ensures.adds.grows.extends.valuations cycle (c.row_word.ensures.grows.extends.valuations cycle v) in
+      (let v1 = c.row_port.ensures.grows.extends.valuations cycle (c.row_port-2.ensures.grows.extends.valuations cycle v) in
       c.in_ok-valid.ensures.value cycle v1 ∙ ap (λ n. bit_at (cycle.net c.args.row.number) (n - 1)) c.places_of.ensures.places);
   word = c.in_ok-word.ensures.value;
-  code = λ cycle v. c.in_ok-code.ensures.value cycle (c.row_word.ensures.grows.extends.valuations cycle v);
+  code = row_port_lasts _ _ _ _ _ c.in_ok-code.ensures.value c.row_port-2.ensures.grows.extends;
 }
 
 pub returns-in_err-valid-clause-grows : goal.returns-in_err-valid-clause-grows
@@ -23,35 +25,38 @@ pub returns-in_err-valid-clause-full : goal.returns-in_err-valid-clause-full
 returns-in_err-valid-clause-full c e = let full = c.bit_before.ensures.full (handed_on _ _ _ _ c.in_err-valid.was c.from_residual.ensures.1 e) in omega (arith, full)
 
 pub returns-in_err-code-clause-grows : goal.returns-in_err-code-clause-grows
-returns-in_err-code-clause-grows c = grows_fewer _ _ _ _ (omega arith) (adds_grow _ _ _ (adds_twice _ _ _ _ _ c.bit_before.ensures.adds c.constant.ensures.adds))
+returns-in_err-code-clause-grows c = grows_fewer _ _ _ _ (omega arith) (grows_twice _ _ _ _ _ (adds_grow _ _ _ c.bit_before.ensures.adds) c.row_port.ensures.grows)
 
 pub returns-in_err-code-clause-still_wait : goal.returns-in_err-code-clause-still_wait
-returns-in_err-code-clause-still_wait c n w = c.constant.ensures.adds.grows.waits n (c.bit_before.ensures.adds.grows.waits n w)
+returns-in_err-code-clause-still_wait c n w = c.row_port.ensures.still_wait n (c.bit_before.ensures.adds.grows.waits n w)
 
 pub returns-in_err-code-clause-full : goal.returns-in_err-code-clause-full
 returns-in_err-code-clause-full c e =
     let most0 = c.bit_before.ensures.adds.most in
-    let full = c.constant.ensures.full (handed_on _ _ _ _ c.in_err-code.was c.from_residual-in_err-code.ensures.1 e) in
+    let full = c.row_port.ensures.full (handed_on _ _ _ _ c.in_err-code.was c.from_residual-in_err-code.ensures.1 e) in
     omega (arith, most0, full)
 
 pub returns-in_err-word-clause-grows : goal.returns-in_err-word-clause-grows
-returns-in_err-word-clause-grows c = grows_fewer _ _ _ _ (omega arith) (grows_twice _ _ _ _ _ (adds_grow _ _ _ (adds_twice _ _ _ _ _ c.bit_before.ensures.adds c.constant.ensures.adds)) c.row_word.ensures.grows)
+returns-in_err-word-clause-grows c = grows_twice _ _ _ _ _ (grows_twice _ _ _ _ _ (adds_grow _ _ _ c.bit_before.ensures.adds) c.row_port.ensures.grows) c.row_port-2.ensures.grows
 
 pub returns-in_err-word-clause-still_wait : goal.returns-in_err-word-clause-still_wait
-returns-in_err-word-clause-still_wait c n w = c.row_word.ensures.still_wait n (c.constant.ensures.adds.grows.waits n (c.bit_before.ensures.adds.grows.waits n w))
+returns-in_err-word-clause-still_wait c n w = c.row_port-2.ensures.still_wait n (c.row_port.ensures.still_wait n (c.bit_before.ensures.adds.grows.waits n w))
 
 pub returns-in_err-word-clause-full : goal.returns-in_err-word-clause-full
 returns-in_err-word-clause-full c e =
     let most0 = c.bit_before.ensures.adds.most in
-    let most1 = c.constant.ensures.adds.most in
-    let full = c.row_word.ensures.full (handed_on _ _ _ _ c.in_err-word.was c.from_residual-in_err-word.ensures.1 e) in
+    let most1 = c.row_port.ensures.grows.most in
+    let full = c.row_port-2.ensures.full (handed_on _ _ _ _ c.in_err-word.was c.from_residual-in_err-word.ensures.1 e) in
     omega (arith, most0, most1, full)
 
 pub returns-clause-grows : goal.returns-clause-grows
-returns-clause-grows c = grows_fewer _ _ _ _ (omega arith) (grows_twice _ _ _ _ _ (adds_grow _ _ _ (adds_twice _ _ _ _ _ c.bit_before.ensures.adds c.constant.ensures.adds)) c.row_word.ensures.grows)
+returns-clause-grows c = grows_twice _ _ _ _ _ (grows_twice _ _ _ _ _ (adds_grow _ _ _ c.bit_before.ensures.adds) c.row_port.ensures.grows) c.row_port-2.ensures.grows
 
 pub returns-clause-still_wait : goal.returns-clause-still_wait
-returns-clause-still_wait c n w = c.row_word.ensures.still_wait n (c.constant.ensures.adds.grows.waits n (c.bit_before.ensures.adds.grows.waits n w))
+returns-clause-still_wait c n w = c.row_port-2.ensures.still_wait n (c.row_port.ensures.still_wait n (c.bit_before.ensures.adds.grows.waits n w))
+
+pub returns-clause-no_more_wait : goal.returns-clause-no_more_wait
+returns-clause-no_more_wait c n w = c.bit_before.ensures.adds.grows.no_more_wait n (c.in_ok-code.ensures.no_more_wait n (c.in_ok-word.ensures.no_more_wait n w))
 
 pub returns-clause-full : goal.returns-clause-full
 returns-clause-full c e = cc
@@ -59,13 +64,10 @@ returns-clause-full c e = cc
 pub returns-clause-nets : goal.returns-clause-nets
 returns-clause-nets c =
     record {
-      valid = net_lasts _ _ _ _ (extends_twice _ _ _ c.constant.ensures.adds.grows.extends c.row_word.ensures.grows.extends) c.in_ok-valid.ensures.net;
-      word = c.in_ok-word.ensures.net;
-      code = net_lasts _ _ _ _ c.row_word.ensures.grows.extends c.in_ok-code.ensures.net;
+      valid = net_lasts _ _ _ _ (extends_twice _ _ _ c.row_port.ensures.grows.extends c.row_port-2.ensures.grows.extends) c.in_ok-valid.ensures.net;
+      word = subst (IsNetOfWidth c.row_port-2.new.builder c.in_ok-word.word) c.word_bits.ensures.bits c.in_ok-word.ensures.net;
+      code = net_lasts _ _ _ _ c.row_port-2.ensures.grows.extends c.in_ok-code.ensures.net;
     }
 
 pub bit_before-requires-clause-history : goal.bit_before-requires-clause-history
 bit_before-requires-clause-history c = c.requires.row.is_net
-
-pub row_word-requires-clause-port : goal.row_word-requires-clause-port
-row_word-requires-clause-port c = c.requires.port

@@ -5,7 +5,7 @@ use Rattle.mm_agent.proofs.answers.give_words.Goals as goal
 
 pub returns-clause-value : goal.returns-clause-value
 returns-clause-value c cycle v =
-    let v1 = c.constant.ensures.adds.grows.extends.valuations cycle v in
+    let v1 = c.given_or_low-3.ensures.adds.grows.extends.valuations cycle v in
     let v0 = c.given_or_low-2.ensures.adds.grows.extends.valuations cycle v1 in
     record {
       valid = c.in_ok-valid.ensures.value cycle v0;
@@ -29,17 +29,17 @@ returns-in_err-word-clause-full c e =
     omega (arith, most0, full)
 
 pub returns-in_err-code-clause-adds : goal.returns-in_err-code-clause-adds
-returns-in_err-code-clause-adds c = adds_fewer _ _ _ _ (omega arith) (adds_twice _ _ _ _ _ (adds_twice _ _ _ _ _ c.given_or_low.ensures.adds c.given_or_low-2.ensures.adds) c.constant.ensures.adds)
+returns-in_err-code-clause-adds c = adds_fewer _ _ _ _ (omega arith) (adds_twice _ _ _ _ _ (adds_twice _ _ _ _ _ c.given_or_low.ensures.adds c.given_or_low-2.ensures.adds) c.given_or_low-3.ensures.adds)
 
 pub returns-in_err-code-clause-full : goal.returns-in_err-code-clause-full
 returns-in_err-code-clause-full c e =
     let most0 = c.given_or_low.ensures.adds.most in
     let most1 = c.given_or_low-2.ensures.adds.most in
-    let full = c.constant.ensures.full (handed_on _ _ _ _ c.in_err-code.was c.from_residual-in_err-code.ensures.1 e) in
+    let full = c.given_or_low-3.ensures.full (handed_on _ _ _ _ c.in_err-code.was c.from_residual-in_err-code.ensures.1 e) in
     omega (arith, most0, most1, full)
 
 pub returns-clause-adds : goal.returns-clause-adds
-returns-clause-adds c = adds_fewer _ _ _ _ (omega arith) (adds_twice _ _ _ _ _ (adds_twice _ _ _ _ _ c.given_or_low.ensures.adds c.given_or_low-2.ensures.adds) c.constant.ensures.adds)
+returns-clause-adds c = adds_fewer _ _ _ _ (omega arith) (adds_twice _ _ _ _ _ (adds_twice _ _ _ _ _ c.given_or_low.ensures.adds c.given_or_low-2.ensures.adds) c.given_or_low-3.ensures.adds)
 
 pub returns-clause-full : goal.returns-clause-full
 returns-clause-full c e = cc
