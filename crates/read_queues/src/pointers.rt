@@ -9,54 +9,9 @@ ghost use Rattle.read_queues.specs.Steps.{MovesBy, CountsOn, IsNextCount};
 ghost use Rattle.read_queues.specs.Held.{owns_pointers, ArePointers};
 
 use command_nets::{register, take_next};
+use item_queues::count_bits;
 use net_parts::fit_bits;
 use netlist::{Builder, Net, NetFault};
-
-/// How many bits a count up to this bound needs.
-pub(crate) fn bits_to(bound: u8) -> u8
-    requires { bound ≤ 64 }
-    ensures some { 1 ≤ result }
-    ensures few { result ≤ 7 }
-    ensures fits { bound < 2 ^ result }
-{
-    if bound < 2 {
-        1
-    } else if bound < 4 {
-        2
-    } else if bound < 8 {
-        3
-    } else if bound < 16 {
-        4
-    } else if bound < 32 {
-        5
-    } else if bound < 64 {
-        6
-    } else {
-        7
-    }
-}
-
-/// How many bits the address in a memory of so many words needs: one at least.
-pub(crate) fn address_bits(words: u8) -> u8
-    requires { words ≤ 64 }
-    ensures some { 1 ≤ result }
-    ensures few { result ≤ 6 }
-    ensures fits { words ≤ 2 ^ result }
-{
-    if words <= 2 {
-        1
-    } else if words <= 4 {
-        2
-    } else if words <= 8 {
-        3
-    } else if words <= 16 {
-        4
-    } else if words <= 32 {
-        5
-    } else {
-        6
-    }
-}
 
 /// The registers of a queue in a memory.
 #[derive(Clone, Copy)]
@@ -86,7 +41,7 @@ pub(crate) fn hold_pointers(
     ensures newly { IfOk result (λ made. WaitsBeside (owns_pointers made) builder.old builder.new) }
     ensures full { result ≡ Err NetFault.TooManyNets → 2 ^ 20 < length builder.old.lines + 3 }
 {
-    let unanswered = register(builder, bits_to(bound))?;
+    let unanswered = register(builder, count_bits(bound))?;
     let first = register(builder, address_bits)?;
     let next = register(builder, address_bits)?;
     Ok(Pointers {

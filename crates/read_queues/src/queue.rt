@@ -9,9 +9,10 @@ ghost use Rattle.read_queues.specs.Held.{owns_queue, IsQueueMade, AreWordsOf, Re
 ghost use Rattle.read_queues.specs.Queues.{RunsAsQueue};
 
 use crate::memory::{make_memory, take_writes};
-use crate::pointers::{Pointers, address_bits, hold_pointers, move_count, move_pointer};
+use crate::pointers::{Pointers, hold_pointers, move_count, move_pointer};
 use crate::words::{OldestWords, finish_words, hold_words, word_bits, word_of};
 use command_nets::both;
+use item_queues::address_bits;
 use net_parts::{fit_bits, is_above};
 use netlist::{Builder, Mem, Net, NetFault};
 
@@ -63,6 +64,7 @@ fn hold_queue(
     requires few_places { deep ≤ 128 }
     requires places { memory.address_bits ≡ deep }
     requires depth { bound ≤ 2 ^ deep }
+    requires shallow { (bits : ℕ) → 1 ≤ bits → bound ≤ 2 ^ bits → deep ≤ bits }
     ensures made { IfOk result (λ held. IsQueueMade builder.new held) }
     ensures memory { IfOk result (λ held. held.memory ≡ memory) }
     ensures bound { IfOk result (λ held. held.bound ≡ bound) }
@@ -92,7 +94,8 @@ fn hold_queue(
 }
 
 /// Makes the nets of a queue of at most `bound` reads, of which there is none yet. Tags have so many bits, and so have counts;
-/// without counts each read has one word.
+/// without counts each read has one word. How many reads there are and their places in the memory are told in the fewest bits
+/// that the bound allows.
 pub fn make_queue(
     builder: &mut Builder,
     bound: u8,

@@ -1,4 +1,4 @@
-use Rattle.std.proofs.Common.{arith, ◌^◌, ◌<◌, sym, subst, inl, inr}
+use Rattle.std.proofs.Common.{arith, ◌^◌, ◌<◌, ◌≤◌, sym, subst, inl, inr}
 use Rattle.net_parts.specs.Laws.{grows_fewer, grows_twice, extends_twice, net_lasts}
 use Rattle.net_parts.specs.Refusing.{handed_on}
 use Rattle.netlist.specs.Netlists.{IsWaiting}
@@ -70,7 +70,8 @@ returns-clause-pointers c =
     let more = extends_twice _ _ _ c.register-2.ensures.grows.extends last in
     record {
       unanswered_net = more.nets _ _ c.in_ok-unanswered.ensures.net.is_net;
-      wide = subst (λ k. c.args.bound < 2 ^ k) (sym c.in_ok-unanswered.ensures.net.has_width) c.bits_to.ensures.fits;
+      wide = subst (λ k. c.args.bound < 2 ^ k) (sym c.in_ok-unanswered.ensures.net.has_width) c.count_bits.ensures.fits;
+      least = λ bits some fits. subst (λ k. k ≤ bits) (sym c.in_ok-unanswered.ensures.net.has_width) (c.count_bits.ensures.least bits some fits);
       first_net = net_lasts _ _ _ _ last c.in_ok-first.ensures.net;
       next_net = c.in_ok-next.ensures.net;
       none = λ run cycles r. c.in_ok-unanswered.ensures.starts run cycles (more.runs run cycles r);

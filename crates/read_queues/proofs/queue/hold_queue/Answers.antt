@@ -46,6 +46,7 @@ returns-clause-made c =
     record {
       some = c.requires.some;
       depth = subst (λ k. c.args.bound ≤ 2 ^ k) (sym c.requires.places) c.requires.depth;
+      shallow = λ bits some fits. subst (λ k. k ≤ bits) (sym c.requires.places) (c.requires.shallow bits some fits);
       pointers = subst (λ k. ArePointers final c.args.bound k c.in_ok-pointers.pointers) (sym c.requires.places) (pointers_last _ _ _ _ _ c.in_ok-pointers.ensures.pointers four);
       mem = five.memories _ c.requires.memory;
       tag_net = one.nets _ _ c.in_ok-tag.ensures.net.is_net;
