@@ -160,13 +160,10 @@ levels_is to from n w b r wr a d e c =
     ∙ ap₂ (λ x y. levels_from goal.read goal.write x y to.enables to.count) a d
     ∙ ap₂ (λ x y. levels_from goal.read goal.write goal.address goal.word x y) e c
 
-pub word_is : (word n bits places first made : ℕ) → 1 ≤ bits → first ≡ places / 2 ^ 0 % 2 ^ (bits - 1 - 0 + 1) → made ≡ word / 2 ^ (n * 8 * first) % 2 ^ (n * 8) → made ≡ word / 256 ^ (places % 2 ^ bits * n) % 256 ^ n
-word_is word n bits places first made some e f =
-    let width : bits - 1 - 0 + 1 ≡ bits = omega (arith, some) in
-    let whole : places / 2 ^ 0 ≡ places = omega arith in
-    let first_is : first ≡ places % 2 ^ bits = e ∙ ap₂ (λ x k. x % 2 ^ k) whole width in
-    let product : n * 8 * first ≡ first * n * 8 = mul_comm (n * 8) first ∙ sym (mul_assoc first n 8) in
-    f ∙ ap₂ (λ x y. word / x % y) (ap (λ k. 2 ^ k) product ∙ byte_powers (first * n) ∙ ap (λ k. 256 ^ (k * n)) first_is) (byte_powers n)
+pub in_bytes : (word bytes place : ℕ) → word / 2 ^ (bytes * 8 * place) % 2 ^ (bytes * 8) ≡ word / 256 ^ (place * bytes) % 256 ^ bytes
+in_bytes word bytes place =
+    let product : bytes * 8 * place ≡ place * bytes * 8 = mul_comm (bytes * 8) place ∙ sym (mul_assoc place bytes 8) in
+    ap₂ (λ x y. word / x % y) (ap (λ k. 2 ^ k) product ∙ byte_powers (place * bytes)) (byte_powers bytes)
 
 pub sizes_times : (n w bits : ℕ) → w ≡ n * 2 ^ bits → n * 8 * 2 ^ bits ≡ w * 8
 sizes_times n w bits e = mul_right_comm n 8 (2 ^ bits) ∙ ap (λ k. k * 8) (sym e)
@@ -189,6 +186,3 @@ widths_from a w e k t = record { address = a; word = w; enables = e; count = k; 
 
 pub widths_are : (a w e k t b v f l u : ℕ) → a ≡ b → w ≡ v → e ≡ f → k ≡ l → t ≡ u → widths_from a w e k t ≡ widths_from b v f l u
 widths_are a w e k t b v f l u p q r s y = ap₂ (λ x z. widths_from x z e k t) p q ∙ ap₂ (λ x z. widths_from b v x z t) r s ∙ ap (widths_from b v f l) y
-
-pub within_places : (reads bits width last : ℕ) → width ≡ reads * bits → last ≡ bits - 1 → 1 ≤ bits → 2 ≤ reads → last < width
-within_places reads bits width last size is some more = let least = mul-le-mul_right bits more in omega (arith, size, is, some, least)

@@ -1,38 +1,23 @@
--- The queue of the places of the words that are owed: a count, and the places as digits of one number, the oldest one lowest.
-use Rattle.std.specs.Prelude.{◌≡◌, ℕ, ◌+◌, ◌*◌, ◌/◌, ◌%◌, ◌^◌, ◌<◌, ◌≤◌, ◌⊎◌, true, List, [], ◌∷◌, ◌++◌, length, drop, if◌then◌else◌}
-use Rattle.histories.specs.History.{is_raised, only_if}
+-- The queue of the places of the reads under way, and the word that is taken for the oldest.
+use Rattle.std.specs.Prelude.{◌≡◌, ℕ, ◌*◌, ◌/◌, ◌%◌, ◌^◌, ◌≤◌, List, [], ◌∷◌}
 use Rattle.netlist.specs.Nets.{NetValue}
-use Rattle.netlist.specs.Netlists.{Netlist, IsNet}
-use Rattle.netlist.specs.Runs.{Run, IsRun}
-use Rattle.net_parts.specs.Nets.{IsNetOfWidth}
-use Rattle.mm_select.specs.declared.queue.PlaceQueue.{PlaceQueue}
+use Rattle.netlist.specs.Netlists.{Netlist}
+use Rattle.netlist.specs.Runs.{Always}
+use Rattle.netlist.specs.Longer.{Extends}
+use Rattle.item_queues.specs.declared.queue.ItemQueue.{ItemQueue}
+use Rattle.item_queues.specs.Storages.{shown_oldest}
+use Rattle.item_queues.specs.Queues.{held_in}
 
--- the digits of a number, each so many bytes, are these offsets
-abbrev pub AreDigits : ℕ → ℕ → List ℕ → ℕ → Type 0
-AreDigits bytes base [] number = number ≡ 0
-AreDigits bytes base (offset ∷ later) number = (offset ≡ number % base * bytes) × AreDigits bytes base later (number / base)
+-- `word` is the narrow word of `wide`, of so many bits, that stands at the oldest place, where one is held
+pub record TakesOldest (netlist : Netlist) (queue : ItemQueue 1) (wide word : NetValue) (width : ℕ) : Type 0 where
+  pub place : NetValue
+  pub oldest : Always netlist (λ cycle. 1 ≤ cycle.net queue.count.number → (coming : List ℕ) → shown_oldest (held_in cycle queue) coming ≡ 1 ∷ cycle.net place.number ∷ [])
+  pub word_is : Always netlist (λ cycle. cycle.net word.number ≡ cycle.net wide.number / 2 ^ (width * cycle.net place.number) % 2 ^ width)
 
--- a count and a number of places of so many bits hold these offsets
-pub record HoldsOffsets (bytes bits reads : ℕ) (offsets : List ℕ) (count places : ℕ) : Type 0 where
-  pub many : count ≡ length offsets
-  pub few : length offsets ≤ reads
-  pub digits : AreDigits bytes (2 ^ bits) offsets places
-
--- the registers have room for so many places
-pub record IsPlaceQueue (netlist : Netlist) (queue : PlaceQueue) (reads bits : ℕ) : Type 0 where
-  pub count : IsNet netlist queue.count
-  pub wide : reads < 2 ^ queue.count.width
-  pub places : IsNetOfWidth netlist queue.places (reads * bits)
-  pub apart : queue.count.number < queue.places.number
-
-abbrev pub owns_queue : PlaceQueue → ℕ → Type 0
-owns_queue queue n = (n ≡ queue.count.number) ⊎ (n ≡ queue.places.number)
-
--- in each cycle of each run but the last one the oldest offset goes where `goes` is high, and one comes where `comes` is, if there is room
-abbrev pub QueueMoves : Netlist → PlaceQueue → ℕ → NetValue → NetValue → NetValue → Type 0
-QueueMoves netlist queue reads place comes goes =
-    (run : Run) (cycles : ℕ) → IsRun netlist run cycles → (c : ℕ) → c + 1 < cycles → (bytes : ℕ) (offsets : List ℕ)
-    → HoldsOffsets bytes place.width reads offsets (run.net c queue.count.number) (run.net c queue.places.number)
-    → (is_raised (run.net c comes.number) ≡ true → length (drop (if is_raised (run.net c goes.number) then 1 else 0) offsets) < reads)
-    → HoldsOffsets bytes place.width reads (drop (if is_raised (run.net c goes.number) then 1 else 0) offsets ++ only_if (is_raised (run.net c comes.number)) (run.net c place.number * bytes))
-    (run.net (c + 1) queue.count.number) (run.net (c + 1) queue.places.number)
+-- what stands lasts. No contract reads this proof
+pub taking_lasts : (old new : Netlist) (queue : ItemQueue 1) (wide word : NetValue) (width : ℕ) → TakesOldest old queue wide word width → Extends old new → TakesOldest new queue wide word width
+taking_lasts old new queue wide word width h e = record {
+  place = h.place;
+  oldest = λ cycle v. h.oldest cycle (e.valuations cycle v);
+  word_is = λ cycle v. h.word_is cycle (e.valuations cycle v);
+}

@@ -1,12 +1,12 @@
 -- A lane selector: what its two calls leave in a netlist.
-use Rattle.std.specs.Prelude.{◌≡◌, ℕ, ◌+◌, ◌*◌, ◌/◌, ◌%◌, ◌^◌, ◌<◌, ◌≤◌, Bool, true, not, ◌&&◌, ◌||◌, nat_lt, List, length, drop, ◌++◌, if◌then◌else◌}
+use Rattle.std.specs.Prelude.{◌≡◌, ℕ, ◌*◌, ◌/◌, ◌^◌, ◌<◌, ◌≤◌, Bool, true, not, ◌&&◌, ◌||◌, nat_lt, List, [], ◌∷◌, if◌then◌else◌}
 use Rattle.iface_roles.specs.Proper.{IsWordSize}
-use Rattle.histories.specs.History.{is_raised, only_if}
+use Rattle.histories.specs.History.{is_raised}
 use Rattle.netlist.specs.Nets.{NetValue}
-use Rattle.netlist.specs.Netlists.{Netlist, IsNet, IsWaiting}
-use Rattle.netlist.specs.Runs.{Cycle, Run, cycle_of, IsRun, Always}
+use Rattle.netlist.specs.Netlists.{Netlist, IsNet, IsWaiting, WaitsForWrite}
+use Rattle.netlist.specs.Runs.{Cycle, Always}
 use Rattle.netlist.specs.Longer.{Extends}
-use Rattle.net_parts.specs.Nets.{IsBit, StartsLow}
+use Rattle.net_parts.specs.Nets.{IsBit}
 use Rattle.net_parts.specs.Laws.{net_lasts}
 use Rattle.mm_runs.specs.Views.{Shape}
 use Rattle.mm_machines.specs.Link.{Target, Port}
@@ -18,7 +18,9 @@ use Rattle.command_nets.specs.Groups.{command_lasts}
 use Rattle.link_core.specs.Form.{Form}
 use Rattle.mm_select.specs.declared.select.Select.{Select}
 use Rattle.mm_select.specs.declared.select.SelectKept.{SelectKept}
-use Rattle.mm_select.specs.Queue.{HoldsOffsets, IsPlaceQueue, owns_queue}
+use Rattle.item_queues.specs.Queues.{owns, owns_memories, IsQueueMade, StartsEmpty, StepsQueue}
+use Rattle.item_queues.specs.Laws.{queue_lasts, starts_last, steps_last}
+use Rattle.mm_select.specs.Queue.{TakesOldest, taking_lasts}
 
 -- between words of its sizes, the wide ones the agent's own
 pub record IsSelectForm (s : Select) (form : Form) : Type 0 where
@@ -84,8 +86,9 @@ pub record SelectKeeps (s : Select) (kept : SelectKept) (netlist : Netlist) : Ty
   pub is : IsSelect s
   pub ratio : s.wide_bytes ≡ s.narrow_bytes * 2 ^ kept.place.width
   pub few : kept.place.width ≤ 4
-  pub queue : IsPlaceQueue netlist kept.queue s.reads kept.place.width
-  pub waits : (n : ℕ) → owns_queue kept.queue n → IsWaiting netlist n
+  pub queue : IsQueueMade netlist (kept.place ∷ []) kept.queue
+  pub waits : (n : ℕ) → owns kept.queue n → IsWaiting netlist n
+  pub waits_for_write : (m : ℕ) → owns_memories kept.queue m → WaitsForWrite netlist m
   pub read : IsBit netlist kept.read
   pub write : IsBit netlist kept.write
   pub shut : IsBit netlist kept.shut
@@ -105,30 +108,34 @@ pub record SelectCommand (s : Select) (from to : CommandNets) (kept : SelectKept
   pub shut : Always netlist (λ cycle. is_raised (cycle.net kept.shut.number) ≡ (not (is_raised (cycle.net from.write.number)) && not (nat_lt (cycle.net kept.queue.count.number) s.reads)))
   pub levels : Always netlist (λ cycle. (raw_in cycle to).levels ≡ silenced (is_raised (cycle.net kept.shut.number)) (selected (bytes_shape s.narrow_bytes) (bytes_shape s.wide_bytes) (raw_in cycle from).levels))
   pub place : Always netlist (λ cycle. cycle.net kept.place.number * s.narrow_bytes ≡ offset_in (bytes_shape s.narrow_bytes) (bytes_shape s.wide_bytes) (cycle.net from.address.number))
-  pub none : StartsLow netlist kept.queue.count
-  pub empty : StartsLow netlist kept.queue.places
+  pub bound : kept.queue.bound ≡ s.reads
+  pub none : StartsEmpty netlist kept.queue
 
 -- after the second call: the word at the place of the oldest read goes up, and the queue moves
 pub record SelectAnswer (s : Select) (kept : SelectKept) (wait : NetValue) (answer : AnswerNets) (up : NetValue) (back : AnswerNets) (netlist : Netlist) : Type 0 where
   pub waits : Always netlist (λ cycle. is_raised (cycle.net up.number) ≡ (is_raised (cycle.net kept.shut.number) || is_raised (cycle.net wait.number)))
   pub valid_is : back.valid ≡ answer.valid
   pub code_is : back.code ≡ answer.code
-  pub word : Always netlist (λ cycle. cycle.net back.word.number ≡ cycle.net answer.word.number / 256 ^ (cycle.net kept.queue.places.number % 2 ^ kept.place.width * s.narrow_bytes) % 256 ^ s.narrow_bytes)
-  pub moves : (run : Run) (cycles : ℕ) → IsRun netlist run cycles → (c : ℕ) → c + 1 < cycles → (offsets : List ℕ)
-      → HoldsOffsets s.narrow_bytes kept.place.width s.reads offsets (run.net c kept.queue.count.number) (run.net c kept.queue.places.number)
-      → (is_asked (cycle_of run c) kept.read kept.write wait ≡ true → length (drop (if is_raised (run.net c answer.valid.number) then 1 else 0) offsets) < s.reads)
-      → HoldsOffsets s.narrow_bytes kept.place.width s.reads (drop (if is_raised (run.net c answer.valid.number) then 1 else 0) offsets ++ only_if (is_asked (cycle_of run c) kept.read kept.write wait) (run.net c kept.place.number * s.narrow_bytes))
-      (run.net (c + 1) kept.queue.count.number) (run.net (c + 1) kept.queue.places.number)
+  pub asks : NetValue
+  pub goes : NetValue
+  pub asks_bit : IsBit netlist asks
+  pub goes_bit : IsBit netlist goes
+  pub asks_is : Always netlist (λ cycle. is_raised (cycle.net asks.number) ≡ is_asked cycle kept.read kept.write wait)
+  pub goes_is : Always netlist (λ cycle. is_raised (cycle.net goes.number) ≡ (is_raised (cycle.net answer.valid.number) && nat_lt 0 (cycle.net kept.queue.count.number)))
+  pub takes : TakesOldest netlist kept.queue answer.word back.word (s.narrow_bytes * 8)
+  pub moves : StepsQueue netlist kept.queue (kept.place ∷ []) asks goes
 
 -- ---- what stands lasts. No contract reads these proofs; the law of the selector cites them
 
-pub select_keeps_lasts : (s : Select) (kept : SelectKept) (old new : Netlist) → SelectKeeps s kept old → Extends old new → ((n : ℕ) → owns_queue kept.queue n → IsWaiting old n → IsWaiting new n) → SelectKeeps s kept new
-select_keeps_lasts s kept old new h e w = record {
+pub select_keeps_lasts : (s : Select) (kept : SelectKept) (old new : Netlist) → SelectKeeps s kept old → Extends old new → ((n : ℕ) → owns kept.queue n → IsWaiting old n → IsWaiting new n)
+    → ((m : ℕ) → owns_memories kept.queue m → WaitsForWrite old m → WaitsForWrite new m) → SelectKeeps s kept new
+select_keeps_lasts s kept old new h e w v = record {
   is = h.is;
   ratio = h.ratio;
   few = h.few;
-  queue = record { count = e.nets _ _ h.queue.count; wide = h.queue.wide; places = net_lasts old new kept.queue.places _ e h.queue.places; apart = h.queue.apart };
+  queue = queue_lasts old new (kept.place ∷ []) kept.queue h.queue e;
   waits = λ n o. w n o (h.waits n o);
+  waits_for_write = λ m o. v m o (h.waits_for_write m o);
   read = net_lasts old new kept.read 1 e h.read;
   write = net_lasts old new kept.write 1 e h.write;
   shut = net_lasts old new kept.shut 1 e h.shut;
@@ -149,8 +156,8 @@ select_command_lasts s from to kept old new h e = record {
   shut = λ cycle v. h.shut cycle (e.valuations cycle v);
   levels = λ cycle v. h.levels cycle (e.valuations cycle v);
   place = λ cycle v. h.place cycle (e.valuations cycle v);
-  none = λ run cycles r. h.none run cycles (e.runs run cycles r);
-  empty = λ run cycles r. h.empty run cycles (e.runs run cycles r);
+  bound = h.bound;
+  none = starts_last old new kept.queue h.none e;
 }
 
 pub select_answer_lasts : (s : Select) (kept : SelectKept) (wait : NetValue) (answer : AnswerNets) (up : NetValue) (back : AnswerNets) (old new : Netlist) → SelectAnswer s kept wait answer up back old → Extends old new → SelectAnswer s kept wait answer up back new
@@ -158,6 +165,12 @@ select_answer_lasts s kept wait answer up back old new h e = record {
   waits = λ cycle v. h.waits cycle (e.valuations cycle v);
   valid_is = h.valid_is;
   code_is = h.code_is;
-  word = λ cycle v. h.word cycle (e.valuations cycle v);
-  moves = λ run cycles r. h.moves run cycles (e.runs run cycles r);
+  asks = h.asks;
+  goes = h.goes;
+  asks_bit = net_lasts old new h.asks 1 e h.asks_bit;
+  goes_bit = net_lasts old new h.goes 1 e h.goes_bit;
+  asks_is = λ cycle v. h.asks_is cycle (e.valuations cycle v);
+  goes_is = λ cycle v. h.goes_is cycle (e.valuations cycle v);
+  takes = taking_lasts old new kept.queue answer.word back.word _ h.takes e;
+  moves = steps_last old new kept.queue (kept.place ∷ []) h.asks h.goes h.moves e;
 }

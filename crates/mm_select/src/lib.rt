@@ -6,5 +6,4 @@ mod queue;
 mod select;
 
 pub use places::{raise_to, repeat, take_place};
-pub use queue::PlaceQueue;
 pub use select::{Select, SelectKept, align, asks_now};

@@ -10,12 +10,13 @@ ghost use Rattle.net_parts.specs.Nets.{IsBit, IsNetOfWidth};
 ghost use Rattle.net_parts.specs.Growth.{AddsNets};
 ghost use Rattle.command_nets.specs.Nets.{AreCommandNets, widths_of, raw_in};
 ghost use Rattle.mm_links.specs.Selects.{repeated};
-ghost use Rattle.mm_select.specs.Queue.{owns_queue};
+ghost use Rattle.item_queues.specs.Queues.{owns, owns_memories};
 ghost use Rattle.mm_select.specs.SelectNets.{IsSelectForm, SelectRuns, TakesWidths, given_widths, SelectKeeps, SelectCommand, SelectAnswer, IsSentCommand, is_asked, select_keeps_lasts, select_command_lasts, select_answer_lasts};
 
-use crate::places::{raise_to, repeat, take_place};
-use crate::queue::{PlaceQueue, hold_queue, move_queue};
+use crate::places::{raise_to, repeat};
+use crate::queue::{goes_now, take_oldest};
 use command_nets::{AnswerNets, CommandNets, either, lane_bits, unless};
+use item_queues::{ItemQueue, finish_queue, make_queue};
 use link_core::Link;
 use mm_links::widths::select_is_a_link;
 use net_parts::{constant, is_above};
@@ -33,7 +34,7 @@ pub struct Select {
 #[derive(Clone, Copy)]
 pub struct SelectKept {
     /// The places of the reads under way.
-    pub queue: PlaceQueue,
+    pub queue: ItemQueue<1>,
     /// The read that is shown downstream.
     pub read: Net,
     pub write: Net,
@@ -151,15 +152,15 @@ impl Link for Select {
 
     ghost gives_words = { λ s bits. s.narrow_bytes * 8 };
 
-    ghost command_nets = { λ s. 41 };
+    ghost command_nets = { λ s. 43 };
 
-    ghost answer_nets = { λ s. 69 };
+    ghost answer_nets = { λ s. 48 };
 
-    ghost memories = { λ s. 0 };
+    ghost memories = { λ s. 1 };
 
-    ghost owns = { λ kept n. owns_queue kept.queue n };
+    ghost owns = { λ kept n. owns kept.queue n };
 
-    ghost owns_memories = { λ kept m. ⊥ };
+    ghost owns_memories = { λ kept m. owns_memories kept.queue m };
 
     ghost is_kept = { λ s kept netlist. SelectKeeps s kept netlist };
 
@@ -167,6 +168,7 @@ impl Link for Select {
 
     ghost answer_in = { λ s kept wait answer up back netlist. SelectAnswer s kept wait answer up back netlist };
 
+    #[tactic(auto, using(net_parts::specs::Laws::growing))]
     fn emit_command(
         &self,
         builder: &mut Builder,
@@ -174,9 +176,9 @@ impl Link for Select {
     ) -> Result<(CommandNets, SelectKept), NetFault> {
         let lanes = lane_bits(self.wide_bytes);
         let first = lane_bits(self.narrow_bytes);
-        let queue = hold_queue(builder, self.reads, lanes - first)?;
-        let shut = shut_bit(builder, queue.count, from.write, self.reads)?;
         let place = builder.slice(from.address, lanes - 1, first)?;
+        let queue = make_queue(builder, &[place], self.reads)?;
+        let shut = shut_bit(builder, queue.count, from.write, self.reads)?;
         let to = sent_command(builder, &from, shut, place, lanes)?;
         let kept = SelectKept {
             queue,
@@ -188,6 +190,7 @@ impl Link for Select {
         Ok((to, kept))
     }
 
+    #[tactic(auto, using(net_parts::specs::Laws::growing))]
     fn emit_answer(
         &self,
         builder: &mut Builder,
@@ -202,12 +205,11 @@ impl Link for Select {
             shut,
             place,
         } = kept;
-        let bits = builder.width(place);
         let up = either(builder, shut, wait)?;
-        let first = builder.slice(queue.places, bits - 1, 0)?;
-        let word = take_place(builder, answer.word, self.narrow_bytes * 8, first, bits)?;
+        let word = take_oldest(builder, &queue, place, answer.word, self.narrow_bytes * 8)?;
         let asks = asks_now(builder, read, write, wait)?;
-        move_queue(builder, &queue, self.reads, place, asks, answer.valid)?;
+        let goes = goes_now(builder, queue.count, answer.valid)?;
+        finish_queue(builder, &queue, &[place], asks, goes)?;
         let back = AnswerNets {
             valid: answer.valid,
             word,
@@ -220,7 +222,7 @@ impl Link for Select {
         select_is_a_link();
     }
 
-    ghost kept_lasts = { λ s kept old new h e w v. select_keeps_lasts s kept old new h e w };
+    ghost kept_lasts = { λ s kept old new h e w v. select_keeps_lasts s kept old new h e w v };
 
     ghost command_lasts = { λ s from to kept old new h e. select_command_lasts s from to kept old new h e };
 

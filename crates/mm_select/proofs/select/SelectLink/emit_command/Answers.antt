@@ -1,51 +1,15 @@
-use Rattle.std.proofs.Common.{◌≡◌, ◌-◌, ◌*◌, ◌^◌, ◌∙◌, refl, sym, ap, arith}
+use Rattle.std.proofs.Common.{◌*◌, ◌^◌, ◌<◌, ◌≤◌, ◌∙◌, List, length, refl, sym, ap, subst, inl, inr, arith}
+use Rattle.std.proofs.Math.Nat.{mul_comm}
 use Rattle.histories.specs.History.{is_raised}
-use Rattle.net_parts.specs.Laws.{net_lasts, extends_twice, adds_twice, adds_grow, grows_once, grows_twice, grows_fewer}
+use Rattle.netlist.specs.declared.line.Memory.{Memory}
+use Rattle.net_parts.specs.Laws.{net_lasts, extends_twice}
+use Rattle.net_parts.specs.Memories.{waits_where_same}
+use Rattle.item_queues.specs.Laws.{queue_lasts, starts_last}
 use Rattle.command_nets.specs.Nets.{raw_in}
 use Rattle.command_nets.specs.Groups.{command_lasts}
 use Rattle.mm_links.specs.Selects.{repeated}
-use Rattle.std.proofs.Math.Nat.{mul_comm}
 use Rattle.mm_select.specs.Laws.{lanes_order, lanes_reach, ratio_is, place_is, address_is, many_is, levels_is, sizes_times, word_size_few, widths_are}
 use Rattle.mm_select.proofs.select.SelectLink.emit_command.Goals as goal
-
-pub returns-clause-grows : goal.returns-clause-grows
-returns-clause-grows c = grows_fewer _ _ _ _ (omega arith) (grows_twice _ _ _ _ _ c.hold_queue.ensures.grows (adds_grow _ _ _ (adds_twice _ _ _ _ _ (adds_twice _ _ _ _ _ c.shut_bit.ensures.adds (grows_once _ _ c.slice.ensures.extends c.slice.ensures.grows)) c.sent_command.ensures.adds)))
-
-pub returns-in_err-queue-clause-grows : goal.returns-in_err-queue-clause-grows
-returns-in_err-queue-clause-grows c = grows_fewer _ _ _ _ (omega arith) c.hold_queue.ensures.grows
-
-pub returns-in_err-shut-clause-grows : goal.returns-in_err-shut-clause-grows
-returns-in_err-shut-clause-grows c = grows_fewer _ _ _ _ (omega arith) (grows_twice _ _ _ _ _ c.hold_queue.ensures.grows (adds_grow _ _ _ c.shut_bit.ensures.adds))
-
-pub returns-in_err-place-clause-grows : goal.returns-in_err-place-clause-grows
-returns-in_err-place-clause-grows c = grows_fewer _ _ _ _ (omega arith) (grows_twice _ _ _ _ _ c.hold_queue.ensures.grows (adds_grow _ _ _ (adds_twice _ _ _ _ _ c.shut_bit.ensures.adds (grows_once _ _ c.slice.ensures.extends c.slice.ensures.grows))))
-
-pub returns-in_err-to-clause-grows : goal.returns-in_err-to-clause-grows
-returns-in_err-to-clause-grows c = grows_fewer _ _ _ _ (omega arith) (grows_twice _ _ _ _ _ c.hold_queue.ensures.grows (adds_grow _ _ _ (adds_twice _ _ _ _ _ (adds_twice _ _ _ _ _ c.shut_bit.ensures.adds (grows_once _ _ c.slice.ensures.extends c.slice.ensures.grows)) c.sent_command.ensures.adds)))
-
-pub returns-clause-waits : goal.returns-clause-waits
-returns-clause-waits c n w = (adds_twice _ _ _ _ _ (adds_twice _ _ _ _ _ c.shut_bit.ensures.adds (grows_once _ _ c.slice.ensures.extends c.slice.ensures.grows)) c.sent_command.ensures.adds).grows.waits n (c.hold_queue.ensures.still_wait n w)
-
-pub returns-in_err-queue-clause-waits : goal.returns-in_err-queue-clause-waits
-returns-in_err-queue-clause-waits c n w = c.hold_queue.ensures.still_wait n w
-
-pub returns-in_err-shut-clause-waits : goal.returns-in_err-shut-clause-waits
-returns-in_err-shut-clause-waits c n w = c.shut_bit.ensures.adds.grows.waits n (c.hold_queue.ensures.still_wait n w)
-
-pub returns-in_err-place-clause-waits : goal.returns-in_err-place-clause-waits
-returns-in_err-place-clause-waits c n w = c.slice.ensures.grows.waits n (c.shut_bit.ensures.adds.grows.waits n (c.hold_queue.ensures.still_wait n w))
-
-pub returns-in_err-to-clause-waits : goal.returns-in_err-to-clause-waits
-returns-in_err-to-clause-waits c n w = (adds_twice _ _ _ _ _ (adds_twice _ _ _ _ _ c.shut_bit.ensures.adds (grows_once _ _ c.slice.ensures.extends c.slice.ensures.grows)) c.sent_command.ensures.adds).grows.waits n (c.hold_queue.ensures.still_wait n w)
-
-pub returns-clause-own_wait : goal.returns-clause-own_wait
-returns-clause-own_wait c n o = (adds_twice _ _ _ _ _ (adds_twice _ _ _ _ _ c.shut_bit.ensures.adds (grows_once _ _ c.slice.ensures.extends c.slice.ensures.grows)) c.sent_command.ensures.adds).grows.waits n (c.in_ok-queue.ensures.own_wait n o)
-
-pub returns-clause-newly : goal.returns-clause-newly
-returns-clause-newly c n w = c.in_ok-queue.ensures.newly n ((adds_twice _ _ _ _ _ (adds_twice _ _ _ _ _ c.shut_bit.ensures.adds (grows_once _ _ c.slice.ensures.extends c.slice.ensures.grows)) c.sent_command.ensures.adds).grows.no_more_wait n w)
-
-pub returns-clause-owned : goal.returns-clause-owned
-returns-clause-owned c n o = let at = c.in_ok-queue.ensures.owned n o in let more = (adds_twice _ _ _ _ _ (adds_twice _ _ _ _ _ c.shut_bit.ensures.adds (grows_once _ _ c.slice.ensures.extends c.slice.ensures.grows)) c.sent_command.ensures.adds).grows.extends.count in (at.0, (let below = at.1 in omega (arith, below, more)))
 
 pub returns-clause-command : goal.returns-clause-command
 returns-clause-command c = c.in_ok-to.ensures.command
@@ -64,21 +28,20 @@ returns-clause-kept c =
     let less = lanes_order _ _ _ _ c.lane_bits-first.ensures.power c.lane_bits-lanes.ensures.power takes.is.smaller in
     let width = c.in_ok-place.ensures.net.1 in
     let few = c.lane_bits-lanes.ensures.few in
-    let two = extends_twice _ _ _ c.slice.ensures.extends c.sent_command.ensures.adds.grows.extends in
-    let all = extends_twice _ _ _ c.shut_bit.ensures.adds.grows.extends two in
-    let queue = c.in_ok-queue.ensures.queue in
-    let same : c.lane_bits-lanes.result - c.lane_bits-first.result ≡ c.in_ok-place.place.width = omega (arith, width, less) in
-    let places = net_lasts _ _ _ _ all queue.places in
+    let last = c.sent_command.ensures.adds.grows.extends in
+    let two = extends_twice _ _ _ c.shut_bit.ensures.adds.grows.extends last in
+    let three = extends_twice _ _ _ c.make_queue.ensures.grows.extends two in
     record {
       is = takes.is;
       ratio = ratio_is _ _ _ _ c.in_ok-place.place.width c.lane_bits-first.ensures.power c.lane_bits-lanes.ensures.power less width;
       few = omega (arith, width, few, less);
-      queue = record { count = all.nets _ _ queue.count; wide = queue.wide; places = record { is_net = places.is_net; has_width = places.has_width ∙ ap (λ k. c.args.self.now.reads * k) same }; apart = queue.apart };
-      waits = λ n o. (adds_twice _ _ _ _ _ (adds_twice _ _ _ _ _ c.shut_bit.ensures.adds (grows_once _ _ c.slice.ensures.extends c.slice.ensures.grows)) c.sent_command.ensures.adds).grows.waits n (c.in_ok-queue.ensures.own_wait n o);
+      queue = queue_lasts _ _ _ _ c.in_ok-queue.ensures.made two;
+      waits = λ n o. c.sent_command.ensures.adds.grows.waits n (c.shut_bit.ensures.adds.grows.waits n (c.in_ok-queue.ensures.own_wait n o));
+      waits_for_write = λ m o. waits_where_same _ _ (c.sent_command.ensures.adds.grows.memories ∙ c.shut_bit.ensures.adds.grows.memories) m (c.in_ok-queue.ensures.own_wait_for_write m o);
       read = c.in_ok-to.ensures.command.read;
-      write = (command_lasts _ _ _ (extends_twice _ _ _ c.hold_queue.ensures.grows.extends all) c.requires.from).write;
-      shut = net_lasts _ _ _ _ two c.in_ok-shut.ensures.net;
-      place = c.sent_command.ensures.adds.grows.extends.nets _ _ c.in_ok-place.ensures.net.0;
+      write = (command_lasts _ _ _ (extends_twice _ _ _ c.slice.ensures.extends three) c.requires.from).write;
+      shut = net_lasts _ _ _ _ last c.in_ok-shut.ensures.net;
+      place = three.nets _ _ c.in_ok-place.ensures.net.0;
     }
 
 pub returns-clause-made : goal.returns-clause-made
@@ -91,42 +54,74 @@ returns-clause-made c =
     let less = lanes_order _ _ _ _ e f takes.is.smaller in
     let width = c.in_ok-place.ensures.net.1 in
     let last = c.sent_command.ensures.adds.grows.extends in
-    let two = extends_twice _ _ _ c.slice.ensures.extends last in
-    let all = extends_twice _ _ _ c.shut_bit.ensures.adds.grows.extends two in
-    let whole = extends_twice _ _ _ c.hold_queue.ensures.grows.extends all in
+    let two = extends_twice _ _ _ c.shut_bit.ensures.adds.grows.extends last in
+    let three = extends_twice _ _ _ c.make_queue.ensures.grows.extends two in
+    let whole = extends_twice _ _ _ c.slice.ensures.extends three in
     let sent = c.in_ok-to.ensures.sent in
     record {
       is = takes.is;
       ratio = ratio_is _ _ _ _ c.in_ok-place.place.width e f less width;
       from_nets = command_lasts _ _ _ whole c.requires.from;
       enables_width = takes.enables;
-      place_net = last.nets _ _ c.in_ok-place.ensures.net.0;
+      place_net = three.nets _ _ c.in_ok-place.ensures.net.0;
       read_is = refl;
       write_is = refl;
       more_is = sent.more;
       tag_is = sent.tag;
-      shut = λ cycle v. c.in_ok-shut.ensures.value cycle (two.valuations cycle v);
+      shut = λ cycle v. c.in_ok-shut.ensures.value cycle (last.valuations cycle v);
       levels = λ cycle v. (
           let a = cycle.net c.args.from.address.number in
-          let place = place_is n w c.lane_bits-first.result c.lane_bits-lanes.result c.in_ok-place.place.width a e f less width (cycle.net c.in_ok-place.place.number) (c.in_ok-place.ensures.value cycle (last.valuations cycle v)).1 in
+          let place = place_is n w c.lane_bits-first.result c.lane_bits-lanes.result c.in_ok-place.place.width a e f less width (cycle.net c.in_ok-place.place.number) (c.in_ok-place.ensures.value cycle (three.valuations cycle v)).1 in
           levels_is (raw_in cycle c.in_ok-to.to).levels (raw_in cycle c.args.from).levels n w (is_raised (cycle.net c.in_ok-shut.shut.number)) (sent.read cycle v) (ap (λ k. cycle.net k.number) sent.write)
           (sent.address cycle v ∙ address_is n w c.lane_bits-first.result c.lane_bits-lanes.result c.in_ok-place.place.width a e f less width)
           (sent.word n takes.word cycle v ∙ ap (λ k. repeated n k (cycle.net c.args.from.word.number)) (sym (many_is n w c.lane_bits-first.result c.lane_bits-lanes.result c.in_ok-place.place.width a e f less width)))
           (sent.enables cycle v ∙ ap (λ k. cycle.net c.args.from.enables.number * 2 ^ k) (ap (λ k. k * cycle.net c.in_ok-place.place.number) takes.enables ∙ mul_comm n (cycle.net c.in_ok-place.place.number) ∙ place))
           (sent.count cycle v));
-      place = λ cycle v. place_is n w c.lane_bits-first.result c.lane_bits-lanes.result c.in_ok-place.place.width (cycle.net c.args.from.address.number) e f less width (cycle.net c.in_ok-place.place.number) (c.in_ok-place.ensures.value cycle (last.valuations cycle v)).1;
-      none = λ run cycles r. c.in_ok-queue.ensures.none run cycles (all.runs run cycles r);
-      empty = λ run cycles r. c.in_ok-queue.ensures.empty run cycles (all.runs run cycles r);
+      place = λ cycle v. place_is n w c.lane_bits-first.result c.lane_bits-lanes.result c.in_ok-place.place.width (cycle.net c.args.from.address.number) e f less width (cycle.net c.in_ok-place.place.number) (c.in_ok-place.ensures.value cycle (three.valuations cycle v)).1;
+      bound = c.in_ok-queue.ensures.bound;
+      none = starts_last _ _ _ c.in_ok-queue.ensures.starts two;
     }
 
-pub overflow_sub-lanes : goal.overflow_sub-lanes
-overflow_sub-lanes c = let less = lanes_order _ _ _ _ c.lane_bits-first.ensures.power c.lane_bits-lanes.ensures.power c.requires.widths.is.smaller in omega (arith, less)
+-- ---- what grows and what waits
 
-pub hold_queue-requires-clause-some : goal.hold_queue-requires-clause-some
-hold_queue-requires-clause-some c = let less = lanes_order _ _ _ _ c.lane_bits-first.ensures.power c.lane_bits-lanes.ensures.power c.requires.widths.is.smaller in omega (arith, less)
+pub returns-clause-owned : goal.returns-clause-owned
+returns-clause-owned c n o =
+    let own = c.in_ok-queue.ensures.owned n o in
+    let before = c.slice.ensures.extends.count in
+    let later = c.shut_bit.ensures.adds.grows.extends.count in
+    let last = c.sent_command.ensures.adds.grows.extends.count in
+    (omega (arith, own.0, before), omega (arith, own.1, later, last))
+
+pub returns-clause-waits : goal.returns-clause-waits
+returns-clause-waits c n w = c.sent_command.ensures.adds.grows.waits n (c.shut_bit.ensures.adds.grows.waits n (c.make_queue.ensures.still_wait n (c.slice.ensures.grows.waits n w)))
+
+pub returns-clause-own_wait : goal.returns-clause-own_wait
+returns-clause-own_wait c n o = c.sent_command.ensures.adds.grows.waits n (c.shut_bit.ensures.adds.grows.waits n (c.in_ok-queue.ensures.own_wait n o))
+
+pub returns-clause-newly : goal.returns-clause-newly
+returns-clause-newly c n w =
+    elim (c.in_ok-queue.ensures.newly n (c.shut_bit.ensures.adds.grows.no_more_wait n (c.sent_command.ensures.adds.grows.no_more_wait n w))) [
+      | inl before ↦ inl (c.slice.ensures.grows.no_more_wait n before)
+      | inr own ↦ inr own
+    ]
+
+pub returns-clause-written : goal.returns-clause-written
+returns-clause-written c =
+    let before = c.slice.ensures.grows.memories in
+    let later = c.sent_command.ensures.adds.grows.memories ∙ c.shut_bit.ensures.adds.grows.memories in
+    record {
+      between = λ m o. (let own = c.in_ok-queue.ensures.owned_memories m o in
+          (subst (λ (l : List Memory). length l ≤ m) before own.0, subst (λ (l : List Memory). m < length l) (sym later) own.1));
+      own = λ m o. waits_where_same _ _ later m (c.in_ok-queue.ensures.own_wait_for_write m o);
+      still = λ m w. waits_where_same _ _ later m (c.make_queue.ensures.still_wait_for_write m (waits_where_same _ _ before m w));
+      newly = λ m w. elim (c.in_ok-queue.ensures.newly_written m (waits_where_same _ _ (sym later) m w)) [
+        | inl old ↦ inl (waits_where_same _ _ (sym before) m old)
+        | inr own ↦ inr own
+      ];
+    }
 
 pub slice-requires-clause-a_is : goal.slice-requires-clause-a_is
-slice-requires-clause-a_is c = (extends_twice _ _ _ c.hold_queue.ensures.grows.extends c.shut_bit.ensures.adds.grows.extends).nets _ _ c.requires.from.address
+slice-requires-clause-a_is c = c.requires.from.address
 
 pub slice-requires-clause-order : goal.slice-requires-clause-order
 slice-requires-clause-order c = let less = lanes_order _ _ _ _ c.lane_bits-first.ensures.power c.lane_bits-lanes.ensures.power c.requires.widths.is.smaller in omega (arith, less)
@@ -138,7 +133,7 @@ slice-requires-clause-inside c =
     omega (arith, less, reach)
 
 pub sent_command-requires-clause-from : goal.sent_command-requires-clause-from
-sent_command-requires-clause-from c = command_lasts _ _ _ (extends_twice _ _ _ (extends_twice _ _ _ c.hold_queue.ensures.grows.extends c.shut_bit.ensures.adds.grows.extends) c.slice.ensures.extends) c.requires.from
+sent_command-requires-clause-from c = command_lasts _ _ _ (extends_twice _ _ _ (extends_twice _ _ _ c.slice.ensures.extends c.make_queue.ensures.grows.extends) c.shut_bit.ensures.adds.grows.extends) c.requires.from
 
 pub sent_command-requires-clause-reach : goal.sent_command-requires-clause-reach
 sent_command-requires-clause-reach c = lanes_reach _ _ c.args.from.address.width c.lane_bits-lanes.ensures.power c.requires.widths.reach
