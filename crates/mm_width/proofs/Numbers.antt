@@ -31,14 +31,14 @@ for_links cutter select gather split dropper width =
 
 -- the most nets of the first call, and of the second
 abbrev pub nets_of : Width → ℕ
-nets_of width = for_links (λ s. 50 + 7 * more_nets s.place_bits) 41 103 337 31 width
+nets_of width = for_links (λ s. 50 + 7 * more_nets s.place_bits) 43 103 337 31 width
 
 abbrev pub answers_of : Width → ℕ
-answers_of width = for_links (λ s. 20) 69 93 239 49 width
+answers_of width = for_links (λ s. 20) 48 93 239 49 width
 
 -- and its memories
 abbrev pub memories_of : Width → ℕ
-memories_of width = for_links (λ s. 0) 0 4 0 0 width
+memories_of width = for_links (λ s. 0) 1 4 0 0 width
 
 abbrev Few : (most : ℕ) (cutter : Cutter → ℕ) (select gather split dropper : ℕ) → HostPort → AgentPort → ℕ → Bool → Bool → Bool → Bool → Bool → Type 0
 Few most cutter select gather split dropper host agent stages cuts drops selected gathered wider =
@@ -79,13 +79,13 @@ pub few_nets : (host : HostPort) (agent : AgentPort) (stages : ℕ) → nets_of 
 few_nets host agent stages =
     let more = more_few (place_bits host agent) in
     let none : packs host agent ≡ false → more_nets (place_bits host agent) ≡ 0 = λ plain. ap more_nets (no_places host agent plain) in
-    few_links 418 (λ s. 50 + 7 * more_nets s.place_bits) 41 103 337 31 host agent stages (λ plain. omega (arith, more)) (omega (arith, more)) (λ plain. (let e = none plain in omega (arith, e)))
+    few_links 418 (λ s. 50 + 7 * more_nets s.place_bits) 43 103 337 31 host agent stages (λ plain. omega (arith, more)) (omega (arith, more)) (λ plain. (let e = none plain in omega (arith, e)))
 
 pub few_answers : (host : HostPort) (agent : AgentPort) (stages : ℕ) → answers_of (width_of host agent stages) ≤ 310
-few_answers host agent stages = few_links 310 (λ s. 20) 69 93 239 49 host agent stages (λ plain. omega arith) (omega arith) (λ plain. omega arith)
+few_answers host agent stages = few_links 310 (λ s. 20) 48 93 239 49 host agent stages (λ plain. omega arith) (omega arith) (λ plain. omega arith)
 
 pub few_memories : (host : HostPort) (agent : AgentPort) (stages : ℕ) → memories_of (width_of host agent stages) ≤ 4
-few_memories host agent stages = few_links 4 (λ s. 0) 0 4 0 0 host agent stages (λ plain. omega arith) (omega arith) (λ plain. omega arith)
+few_memories host agent stages = few_links 4 (λ s. 0) 1 4 0 0 host agent stages (λ plain. omega arith) (omega arith) (λ plain. omega arith)
 
 -- ---- widths, link by link
 

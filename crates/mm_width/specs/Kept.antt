@@ -23,7 +23,7 @@ use Rattle.mm_split.specs.declared.split.SplitKept.{SplitKept}
 use Rattle.mm_drop.specs.declared.dropper.Dropper.{Dropper}
 use Rattle.mm_drop.specs.declared.dropper.DropperKept.{DropperKept}
 use Rattle.mm_burst.specs.CutterNets.{owns_cutter, CutterKeeps, CutterCommand, CutterAnswer, cutter_keeps_lasts, cutter_command_lasts, cutter_answer_lasts}
-use Rattle.mm_select.specs.Queue.{owns_queue}
+use Rattle.item_queues.specs.Queues as queues
 use Rattle.mm_select.specs.SelectNets.{SelectKeeps, SelectCommand, SelectAnswer, select_keeps_lasts, select_command_lasts, select_answer_lasts}
 use Rattle.mm_gather.specs.Reads.{owns_reads, owns_read_memories}
 use Rattle.mm_gather.specs.GatherNets.{GatherKeeps, GatherCommand, GatherAnswer, gather_keeps_lasts, gather_command_lasts, gather_answer_lasts}
@@ -46,7 +46,10 @@ abbrev pub cutter_owns : CutterKept → ℕ → Type 0
 cutter_owns kept n = owns_cutter kept n
 
 abbrev pub select_owns : SelectKept → ℕ → Type 0
-select_owns kept n = owns_queue kept.queue n
+select_owns kept n = queues.owns kept.queue n
+
+abbrev pub select_stores : SelectKept → ℕ → Type 0
+select_stores kept m = queues.owns_memories kept.queue m
 
 abbrev pub gather_owns : GatherKept → ℕ → Type 0
 gather_owns kept n = owns_reads kept.held n
@@ -113,12 +116,12 @@ wider_own kept n = IsSomeAnd kept.0 (λ held. select_owns held n) ⊎ IsSomeAnd 
 
 -- and of the memories
 abbrev pub wider_store : Option SelectKept × Option GatherKept → ℕ → Type 0
-wider_store kept m = stores_none kept.0 m ⊎ IsSomeAnd kept.1 (λ held. gather_stores held m)
+wider_store kept m = IsSomeAnd kept.0 (λ held. select_stores held m) ⊎ IsSomeAnd kept.1 (λ held. gather_stores held m)
 
 -- between the calls
 abbrev pub WiderKeep : Chain (Maybe Select) (Maybe Gather) → Option SelectKept × Option GatherKept → Netlist → Type 0
 WiderKeep wider kept netlist =
-    AreBothKept (kept_of select_keeps wider.first.link kept.0) (kept_of gather_keeps wider.second.link kept.1) (λ n. IsSomeAnd kept.0 (λ held. select_owns held n)) (λ n. IsSomeAnd kept.1 (λ held. gather_owns held n)) (stores_none kept.0) (λ m. IsSomeAnd kept.1 (λ held. gather_stores held m)) netlist
+    AreBothKept (kept_of select_keeps wider.first.link kept.0) (kept_of gather_keeps wider.second.link kept.1) (λ n. IsSomeAnd kept.0 (λ held. select_owns held n)) (λ n. IsSomeAnd kept.1 (λ held. gather_owns held n)) (λ m. IsSomeAnd kept.0 (λ held. select_stores held m)) (λ m. IsSomeAnd kept.1 (λ held. gather_stores held m)) netlist
 
 -- after the first call
 abbrev pub WiderCommand : Chain (Maybe Select) (Maybe Gather) → CommandNets → CommandNets → Option SelectKept × Option GatherKept → Netlist → Type 0
@@ -193,7 +196,7 @@ fitting_keeps_lasts : (fitting : Fitting) (kept : FittingKept) (old new : Netlis
 fitting_keeps_lasts fitting kept old new h e w v = record {
   first = record {
     first = record {
-      first = maybe.kept_lasts select_keeps select_owns (λ held m. ⊥) (λ link held old new h e w v. select_keeps_lasts link held old new h e w) fitting.first.first.first.link kept.0.0.0 old new h.first.first.first e (λ n o. w n (inl (inl (inl o)))) (λ m o. absurd (none_stored kept.0.0.0 m o));
+      first = maybe.kept_lasts select_keeps select_owns select_stores select_keeps_lasts fitting.first.first.first.link kept.0.0.0 old new h.first.first.first e (λ n o. w n (inl (inl (inl o)))) (λ m o. v m (inl (inl (inl o))));
       second = maybe.kept_lasts gather_keeps gather_owns gather_stores gather_keeps_lasts fitting.first.first.second.link kept.0.0.1 old new h.first.first.second e (λ n o. w n (inl (inl (inr o)))) (λ m o. v m (inl (inl (inr o))));
       apart = h.first.first.apart;
       memories_apart = h.first.first.memories_apart;
