@@ -9,7 +9,7 @@ use Rattle.netlist.specs.Netlists.{Netlist}
 use Rattle.netlist.specs.Runs.{Cycle, Run, cycle_of, IsEndlessRun, IsValuation}
 use Rattle.net_parts.specs.Laws.{bit_fits, width_fits}
 use Rattle.net_parts.specs.Bits.{of_chosen}
-use Rattle.mm_runs.specs.Views.Responses.{AreZero}
+use Rattle.mm_runs.specs.Views.Responses.{AreCodes}
 use Rattle.mm_parts.specs.Queue.{Entry, QueuesReads, answered, entry_at}
 use Rattle.mm_parts.specs.Host.{HostState, IsHostMachine}
 use Rattle.memory_sides.specs.Sides.{host_side}
@@ -290,7 +290,7 @@ module _ (port : HostPort) (held : HeldHost) (wait : NetValue) (answer : AnswerN
   abbrev pub state : HostState
   state = record { queue = queue_of held.reads g.reads; left = left_of held.writes run; asked = asked_of held.reads run }
 
-  pub machine : (end : ℕ) → IsBoundedBelow held wait answer run end → IsHostMachine AreZero (host_side port) (host_view port held.nets made run) (port_in (shape_below port) run held.command wait answer) state end
+  pub machine : (end : ℕ) → IsBoundedBelow held wait answer run end → IsHostMachine AreCodes (host_side port) (host_view port held.nets made run) (port_in (shape_below port) run held.command wait answer) state end
   machine end few = record {
     words = refl;
     units = refl;
@@ -321,5 +321,5 @@ module _ (port : HostPort) (held : HeldHost) (wait : NetValue) (answer : AnswerN
     queues = λ some. queue_on held.reads h.reads g.reads some end;
     valid = λ c lt some. valid_is made.readdatavalid g.valid some c;
     answer = λ c lt some. ap (λ (n : NetValue). run.net c n.number) g.word;
-    response = λ c lt. g.no_response (cycle_of run c) (val c);
+    response = λ c lt. g.response (cycle_of run c) (val c);
   }

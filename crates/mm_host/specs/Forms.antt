@@ -1,5 +1,6 @@
 -- The part next to a host: what its two calls leave in a netlist, and that it runs as the machine of a host.
-use Rattle.std.specs.Prelude.{◌≡◌, ℕ, ◌*◌, ◌<◌, true, false, if◌then◌else◌, Option, Some, None, ◌⊎◌, IsTrue}
+use Rattle.std.specs.Prelude.{◌≡◌, ℕ, ◌*◌, ◌<◌, true, false, if◌then◌else◌, Option, Some, None, ◌⊎◌, ◌&&◌, IsTrue}
+use Rattle.histories.specs.History.{is_raised}
 use Rattle.iface_roles.specs.declared.records.HostPort.{HostPort}
 use Rattle.netlist.specs.Nets.{NetValue}
 use Rattle.netlist.specs.Netlists.{Netlist}
@@ -8,7 +9,7 @@ use Rattle.netlist.specs.Longer.{Extends}
 use Rattle.net_parts.specs.Nets.{IsBit, IsNetOfWidth}
 use Rattle.net_parts.specs.Laws.{net_lasts}
 use Rattle.mm_runs.specs.Views.{Shape}
-use Rattle.mm_runs.specs.Views.Responses.{AreZero}
+use Rattle.mm_runs.specs.Views.Responses.{AreCodes}
 use Rattle.mm_parts.specs.Host.{HostState, IsHostMachine}
 use Rattle.memory_sides.specs.Sides.{host_side, burst_width}
 use Rattle.command_nets.specs.declared.nets.CommandNets.{CommandNets}
@@ -82,12 +83,16 @@ pub record AreAnswersTo (netlist : Netlist) (port : HostPort) (made : HostAnswer
 abbrev pub valid_of : HostPort → NetValue → Option NetValue
 valid_of port valid = if port.readdatavalid then Some valid else None
 
+-- the code of a word that comes, where the host has the port; 0 without a word
+abbrev pub response_in : HostPort → AnswerNets → Cycle → ℕ
+response_in port answer cycle = if port.response && is_raised (cycle.net answer.valid.number) then cycle.net answer.code.number else 0
+
 pub record HostGoesOn (netlist : Netlist) (held : HeldHost) (port : HostPort) (wait : NetValue) (answer : AnswerNets) (made : HostAnswer) : Type 0 where
   pub reads : ReadsGoOn netlist held.read held.command.count held.command.read wait answer.valid made.waitrequest held.reads
   pub writes : WritesGoOn netlist held.command.write wait held.writes
   pub word : made.readdata ≡ answer.word
   pub valid : made.readdatavalid ≡ valid_of port answer.valid
-  pub no_response : Always netlist (λ cycle. value_or 0 made.response cycle ≡ 0)
+  pub response : Always netlist (λ cycle. value_or 0 made.response cycle ≡ response_in port answer cycle)
 
 -- the shape of the side below: addresses count bytes, and each lane has its enable
 abbrev pub shape_below : HostPort → Shape
@@ -96,7 +101,7 @@ shape_below port = record { word_bytes = port.word_bytes; unit_bytes = 1; burst_
 -- the run has a state with which it is one of the machine of a host
 pub record IsHostRun (port : HostPort) (held : HeldHost) (wait : NetValue) (answer : AnswerNets) (made : HostAnswer) (run : Run) (end : ℕ) : Type 0 where
   pub state : HostState
-  pub machine : IsHostMachine AreZero (host_side port) (host_view port held.nets made run) (port_in (shape_below port) run held.command wait answer) state end
+  pub machine : IsHostMachine AreCodes (host_side port) (host_view port held.nets made run) (port_in (shape_below port) run held.command wait answer) state end
 
 -- so is each endless run of each longer netlist
 abbrev pub RunsAsHost : Netlist → HostPort → HeldHost → NetValue → AnswerNets → HostAnswer → Type 0
@@ -160,5 +165,5 @@ goes_on_lasts old new held port wait answer made g e = record {
   writes = writes_go_on old new held.command.write wait held.writes g.writes e;
   word = g.word;
   valid = g.valid;
-  no_response = λ cycle v. g.no_response cycle (e.valuations cycle v);
+  response = λ cycle v. g.response cycle (e.valuations cycle v);
 }

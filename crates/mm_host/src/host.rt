@@ -4,13 +4,13 @@ ghost use Rattle.std.specs.Prelude.{◌≡◌, ℕ, ◌+◌, ◌*◌, ◌^◌, �
 ghost use Rattle.iface_roles.specs.Proper.{IsBoundedHost};
 ghost use Rattle.netlist.specs.Netlists.{IsWaiting};
 ghost use Rattle.netlist.specs.Runs.{Always};
-ghost use Rattle.net_parts.specs.Nets.{IsBit};
+ghost use Rattle.net_parts.specs.Nets.{IsBit, IsNetOfWidth};
 ghost use Rattle.net_parts.specs.Growth.{GrowsBy, GrowsInMemory, AddsNets, StillWait, WaitsBeside, WaitsWithout, AreMadeBetween, StillWaitForWrite};
 ghost use Rattle.command_nets.specs.Nets.{AreCommandNets, AreAnswerNets};
 ghost use Rattle.command_nets.specs.Ports.{HasNet, value_or};
 ghost use Rattle.mm_host.specs.Hosts.{reads_words, AreHostNets};
 ghost use Rattle.mm_host.specs.Reads.{is_unbounded};
-ghost use Rattle.mm_host.specs.Forms.{owns, command_of, valid_of, IsHeld, IgnoresAnswer, AreAnswersTo, HostGoesOn, RunsAsHostWhile};
+ghost use Rattle.mm_host.specs.Forms.{owns, command_of, valid_of, response_in, IsHeld, IgnoresAnswer, AreAnswersTo, HostGoesOn, RunsAsHostWhile};
 
 use crate::fields::{Fields, make_fields};
 use crate::nets::{HostAnswer, HostNets};
@@ -18,7 +18,7 @@ use crate::reads::{HeldReads, ShownRead, finish_reads, hold_reads};
 use crate::writes::{HeldWrites, JoinedBeats, finish_writes, hold_writes};
 use command_nets::{AnswerNets, CommandNets};
 use iface_roles::HostPort;
-use net_parts::constant;
+use net_parts::{choose, constant};
 use netlist::{Builder, Net, NetFault};
 
 /// What is kept of a host between the two calls.
@@ -62,17 +62,24 @@ fn valid_of(port: &HostPort, valid: Net) -> Option<Net>
     }
 }
 
-/// The response of a host that has the port: always 0.
+/// The response of a host that has the port: the code of a word that comes, 0 in a cycle without one.
 #[tactic(auto, using(net_parts::specs::Laws::growing))]
-fn no_response(builder: &mut Builder, port: &HostPort) -> Result<Option<Net>, NetFault>
+fn give_response(
+    builder: &mut Builder,
+    port: &HostPort,
+    answer: &AnswerNets,
+) -> Result<Option<Net>, NetFault>
+    requires valid { IsBit builder.old answer.now.valid }
+    requires code { IsNetOfWidth builder.old answer.now.code 2 }
     ensures net { IfOk result (λ net. HasNet builder.new port.now.response 2 net) }
-    ensures value { IfOk result (λ net. Always builder.new (λ cycle. value_or 0 net cycle ≡ 0)) }
-    ensures adds { AddsNets 1 builder.old builder.new }
-    ensures full { result ≡ Err NetFault.TooManyNets → 2 ^ 20 < length builder.old.lines + 1 }
+    ensures value { IfOk result (λ net. Always builder.new (λ cycle. value_or 0 net cycle ≡ response_in port.now answer.now cycle)) }
+    ensures adds { AddsNets 2 builder.old builder.new }
+    ensures full { result ≡ Err NetFault.TooManyNets → 2 ^ 20 < length builder.old.lines + 2 }
 {
     if port.response {
         let zeros = constant(builder, 2, 0)?;
-        Ok(Some(zeros))
+        let given = choose(builder, answer.valid, answer.code, zeros)?;
+        Ok(Some(given))
     } else {
         Ok(None)
     }
@@ -170,7 +177,7 @@ pub fn finish_host(
         wait,
         answer.valid,
     )?;
-    let response = no_response(builder, port)?;
+    let response = give_response(builder, port, answer)?;
     Ok(HostAnswer {
         waitrequest,
         readdata: answer.word,

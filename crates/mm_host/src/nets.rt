@@ -26,6 +26,6 @@ pub struct HostAnswer {
     pub readdata: Net,
     /// One bit.
     pub readdatavalid: Option<Net>,
-    /// Two bits, always 0.
+    /// Two bits: the code of the word that is given, 0 in a cycle without one.
     pub response: Option<Net>,
 }

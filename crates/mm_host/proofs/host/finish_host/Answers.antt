@@ -17,38 +17,38 @@ finish_reads-requires-clause-held c = reads_last _ _ _ _ _ _ c.requires.held.rea
 
 pub returns-in_err-response-clause-waits : goal.returns-in_err-response-clause-waits
 returns-in_err-response-clause-waits c n apart w =
-    c.no_response.ensures.adds.grows.waits n (c.finish_reads.ensures.waits n (λ o. apart (inl o)) (c.finish_writes.ensures.waits n (λ o. apart (inr o)) w))
+    c.give_response.ensures.adds.grows.waits n (c.finish_reads.ensures.waits n (λ o. apart (inl o)) (c.finish_writes.ensures.waits n (λ o. apart (inr o)) w))
 
 pub returns-clause-waits : goal.returns-clause-waits
 returns-clause-waits c n apart w =
-    c.no_response.ensures.adds.grows.waits n (c.finish_reads.ensures.waits n (λ o. apart (inl o)) (c.finish_writes.ensures.waits n (λ o. apart (inr o)) w))
+    c.give_response.ensures.adds.grows.waits n (c.finish_reads.ensures.waits n (λ o. apart (inl o)) (c.finish_writes.ensures.waits n (λ o. apart (inr o)) w))
 
 pub returns-clause-nets : goal.returns-clause-nets
 returns-clause-nets c =
-    let more = c.no_response.ensures.adds.grows.extends in
+    let more = c.give_response.ensures.adds.grows.extends in
     let all = extends_twice _ _ _ c.finish_writes.ensures.grows.extends (extends_twice _ _ _ c.finish_reads.ensures.grows.extends more) in
     record {
       waitrequest = net_lasts _ _ _ _ more c.in_ok-waitrequest.ensures.told;
       readdata = net_lasts _ _ _ _ all c.requires.answer.word;
-      readdatavalid = subst (λ (o : Option NetValue). HasNet c.no_response.new.builder c.args.port.now.readdatavalid 1 o) (sym c.valid_of.ensures) (given _ c.args.port.now.readdatavalid c.args.answer.now.valid (net_lasts _ _ _ _ all c.requires.answer.valid));
+      readdatavalid = subst (λ (o : Option NetValue). HasNet c.give_response.new.builder c.args.port.now.readdatavalid 1 o) (sym c.valid_of.ensures) (given _ c.args.port.now.readdatavalid c.args.answer.now.valid (net_lasts _ _ _ _ all c.requires.answer.valid));
       response = c.in_ok-response.ensures.net;
     }
 
 pub returns-clause-on : goal.returns-clause-on
 returns-clause-on c =
-    let more = c.no_response.ensures.adds.grows.extends in
+    let more = c.give_response.ensures.adds.grows.extends in
     let all = extends_twice _ _ _ c.finish_reads.ensures.grows.extends more in
     record {
       reads = reads_go_on _ _ c.args.held.now.read c.args.held.now.command.count c.args.held.now.command.read c.args.wait c.args.answer.now.valid c.in_ok-waitrequest.waitrequest c.args.held.now.reads c.in_ok-waitrequest.ensures.on more;
       writes = writes_go_on _ _ c.args.held.now.command.write c.args.wait c.args.held.now.writes c.in_ok-finish_writes.ensures.on all;
       word = refl;
       valid = c.valid_of.ensures;
-      no_response = c.in_ok-response.ensures.value;
+      response = c.in_ok-response.ensures.value;
     }
 
 pub returns-clause-machine : goal.returns-clause-machine
 returns-clause-machine c longer e run endless end few =
-    let more = c.no_response.ensures.adds.grows.extends in
+    let more = c.give_response.ensures.adds.grows.extends in
     let all = extends_twice _ _ _ c.finish_writes.ensures.grows.extends (extends_twice _ _ _ c.finish_reads.ensures.grows.extends (extends_twice _ _ _ more e)) in
     record {
       state = _;
@@ -85,6 +85,12 @@ finish_reads-requires-clause-valid c = net_lasts _ _ _ _ c.finish_writes.ensures
 pub finish_reads-requires-clause-waits : goal.finish_reads-requires-clause-waits
 finish_reads-requires-clause-waits c n o = c.finish_writes.ensures.waits n (c.requires.held.apart n o) (c.requires.own_wait n (inl o))
 
+pub give_response-requires-clause-valid : goal.give_response-requires-clause-valid
+give_response-requires-clause-valid c = net_lasts _ _ _ _ (extends_twice _ _ _ c.finish_writes.ensures.grows.extends c.finish_reads.ensures.grows.extends) c.requires.answer.valid
+
+pub give_response-requires-clause-code : goal.give_response-requires-clause-code
+give_response-requires-clause-code c = net_lasts _ _ _ _ (extends_twice _ _ _ c.finish_writes.ensures.grows.extends c.finish_reads.ensures.grows.extends) c.requires.answer.code
+
 pub returns-in_err-finish_writes-clause-grows : goal.returns-in_err-finish_writes-clause-grows
 returns-in_err-finish_writes-clause-grows c = memory_grows_fewer _ _ _ _ _ _ (omega arith) (omega arith) (grows_without_memory _ _ _ c.finish_writes.ensures.grows)
 
@@ -110,24 +116,24 @@ returns-in_err-waitrequest-clause-full c e =
     ]
 
 pub returns-in_err-response-clause-grows : goal.returns-in_err-response-clause-grows
-returns-in_err-response-clause-grows c = then_grows _ _ _ _ _ _ _ _ (memory_grows_twice _ _ _ _ _ _ _ (grows_without_memory _ _ _ c.finish_writes.ensures.grows) c.finish_reads.ensures.grows) (adds_grow _ _ _ c.no_response.ensures.adds) (omega arith) (omega arith)
+returns-in_err-response-clause-grows c = then_grows _ _ _ _ _ _ _ _ (memory_grows_twice _ _ _ _ _ _ _ (grows_without_memory _ _ _ c.finish_writes.ensures.grows) c.finish_reads.ensures.grows) (adds_grow _ _ _ c.give_response.ensures.adds) (omega arith) (omega arith)
 
 pub returns-in_err-response-clause-full : goal.returns-in_err-response-clause-full
 returns-in_err-response-clause-full c e =
     let most0 = c.finish_writes.ensures.grows.most in
     let most1 = c.finish_reads.ensures.grows.most in
-    let full = c.no_response.ensures.full (handed_on _ _ _ _ c.in_err-response.was c.from_residual-in_err-response.ensures.1 e) in
+    let full = c.give_response.ensures.full (handed_on _ _ _ _ c.in_err-response.was c.from_residual-in_err-response.ensures.1 e) in
     inl (omega (arith, most0, most1, full))
 
 pub returns-clause-grows : goal.returns-clause-grows
-returns-clause-grows c = then_grows _ _ _ _ _ _ _ _ (memory_grows_twice _ _ _ _ _ _ _ (grows_without_memory _ _ _ c.finish_writes.ensures.grows) c.finish_reads.ensures.grows) (adds_grow _ _ _ c.no_response.ensures.adds) (omega arith) (omega arith)
+returns-clause-grows c = then_grows _ _ _ _ _ _ _ _ (memory_grows_twice _ _ _ _ _ _ _ (grows_without_memory _ _ _ c.finish_writes.ensures.grows) c.finish_reads.ensures.grows) (adds_grow _ _ _ c.give_response.ensures.adds) (omega arith) (omega arith)
 
 pub returns-clause-full : goal.returns-clause-full
 returns-clause-full c e = cc
 
 pub returns-clause-no_more_wait : goal.returns-clause-no_more_wait
 returns-clause-no_more_wait c n w =
-    let late = c.in_ok-waitrequest.ensures.no_more_wait n (c.no_response.ensures.adds.grows.no_more_wait n w) in
+    let late = c.in_ok-waitrequest.ensures.no_more_wait n (c.give_response.ensures.adds.grows.no_more_wait n w) in
     let rest = c.in_ok-finish_writes.ensures.no_more_wait n late.0 in
     (rest.0, λ o. elim o [ inl p ↦ late.1 p | inr q ↦ rest.1 q ])
 
@@ -139,13 +145,13 @@ returns-in_err-waitrequest-clause-still_wait_for_write c m w = c.finish_reads.en
 
 pub returns-in_err-response-clause-still_wait_for_write : goal.returns-in_err-response-clause-still_wait_for_write
 returns-in_err-response-clause-still_wait_for_write c m w =
-    writes_wait_alike _ _ c.no_response.ensures.adds.grows.memories m (c.finish_reads.ensures.still_wait_for_write m (writes_wait_alike _ _ c.finish_writes.ensures.grows.memories m w))
+    writes_wait_alike _ _ c.give_response.ensures.adds.grows.memories m (c.finish_reads.ensures.still_wait_for_write m (writes_wait_alike _ _ c.finish_writes.ensures.grows.memories m w))
 
 pub returns-clause-still_wait_for_write : goal.returns-clause-still_wait_for_write
 returns-clause-still_wait_for_write c m w =
-    writes_wait_alike _ _ c.no_response.ensures.adds.grows.memories m (c.finish_reads.ensures.still_wait_for_write m (writes_wait_alike _ _ c.finish_writes.ensures.grows.memories m w))
+    writes_wait_alike _ _ c.give_response.ensures.adds.grows.memories m (c.finish_reads.ensures.still_wait_for_write m (writes_wait_alike _ _ c.finish_writes.ensures.grows.memories m w))
 
 pub returns-clause-no_more_wait_for_write : goal.returns-clause-no_more_wait_for_write
 returns-clause-no_more_wait_for_write c m w =
-    let late = writes_wait_alike _ _ (sym c.no_response.ensures.adds.grows.memories) m w in
+    let late = writes_wait_alike _ _ (sym c.give_response.ensures.adds.grows.memories) m w in
     writes_wait_alike _ _ (sym c.finish_writes.ensures.grows.memories) m (c.in_ok-waitrequest.ensures.no_more_wait_for_write m late)
