@@ -119,5 +119,5 @@ owed_uncut room owed asked words next h few enough =
 
 -- ---- the wait and the word above
 
-pub three_are : (x y z a : ℕ) → x ≡ a → y ≡ 0 → z ≡ 0 → (x ∷ y ∷ z ∷ []) ≡ (a ∷ 0 ∷ 0 ∷ [])
+pub three_are : (x y z a : ℕ) → x ≡ a → y ≡ 0 → z ≡ 3 → (x ∷ y ∷ z ∷ []) ≡ (a ∷ 0 ∷ 3 ∷ [])
 three_are x y z a e f g = cc

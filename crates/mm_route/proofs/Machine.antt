@@ -288,10 +288,10 @@ module _ (system : System) (host room room_bits : ℕ) (shape : Shape) (others :
   abbrev pub answered_by : Port → ℕ → List ℕ
   answered_by port c = port.answers.valid c ∷ port.answers.word c ∷ port.answers.code c ∷ []
 
-  answers_are : (c : ℕ) → (run.net c answer.valid.number ∷ run.net c answer.word.number ∷ run.net c answer.code.number ∷ []) ≡ by_option (state.owing c) (one_if (nat_lt 0 (state.owed c)) ∷ 0 ∷ 0 ∷ []) (λ a. answered_by (down a) c)
+  answers_are : (c : ℕ) → (run.net c answer.valid.number ∷ run.net c answer.word.number ∷ run.net c answer.code.number ∷ []) ≡ by_option (state.owing c) (one_if (nat_lt 0 (state.owed c)) ∷ 0 ∷ 3 ∷ []) (λ a. answered_by (down a) c)
   answers_are c =
       b.answers (cycle_of run c) (valued c)
-      ∙ picked_is 0 (run.net c held.registers.owing.number) entries commands backs (state.owing c) shape others run held.shown.command host (one_if (nat_lt 0 (state.owed c)) ∷ 0 ∷ 0 ∷ [])
+      ∙ picked_is 0 (run.net c held.registers.owing.number) entries commands backs (state.owing c) shape others run held.shown.command host (one_if (nat_lt 0 (state.owed c)) ∷ 0 ∷ 3 ∷ [])
       (λ (back : BackNets). values_of (cycle_of run c) (answer_group back.answer)) (λ port. answered_by port c) (λ one back. refl) f.count same (owing_from c) (holds c).1.1.1
 
   pub runs_as_route : (end : ℕ) → room ≤ 2 ^ room_bits → RunsAsRoute system host room up down end

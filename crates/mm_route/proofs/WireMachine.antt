@@ -272,6 +272,6 @@ module _ (system : System) (host room : ℕ) (shape : Shape) (others : ℕ → A
       owes = λ c lt. refl;
       valid = λ c lt. valid_is c;
       answer = λ c lt comes. ap (at c) is.word ∙ sym (told_by c true (owed_where_valid c comes) 0 (λ (p : Port). p.answers.word c));
-      code = λ c lt comes. ap (at c) is.code ∙ sym (told_by c true (owed_where_valid c comes) 0 (λ (p : Port). p.answers.code c));
+      code = λ c lt comes. ap (at c) is.code ∙ sym (told_by c true (owed_where_valid c comes) 3 (λ (p : Port). p.answers.code c));
     };
   }

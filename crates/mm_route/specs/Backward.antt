@@ -43,9 +43,9 @@ answers_in cycle backs = map (λ (back : BackNets). values_of cycle (answer_grou
 abbrev pub WaitsAbove : Cycle → ShownNets → List BackNets → NetValue → Type 0
 WaitsAbove cycle shown backs wait = is_raised (cycle.net wait.number) ≡ (not (is_raised (cycle.net shown.gate.number)) || is_raised (picked 0 (cycle.net shown.place.number) (waits_in cycle backs) 0))
 
--- the answer above is that of the place that owes; the default agent gives a word of 0 while words are owed
+-- the answer above is that of the place that owes; the default agent gives a word of 0 with code 3 while words are owed
 abbrev pub AnswersAbove : Cycle → HeldRouter → List BackNets → AnswerNets → Type 0
-AnswersAbove cycle held backs answer = values_of cycle (answer_group answer) ≡ picked 0 (cycle.net held.registers.owing.number) (answers_in cycle backs) (one_if (nat_lt 0 (cycle.net held.registers.owed.number)) ∷ 0 ∷ 0 ∷ [])
+AnswersAbove cycle held backs answer = values_of cycle (answer_group answer) ≡ picked 0 (cycle.net held.registers.owing.number) (answers_in cycle backs) (one_if (nat_lt 0 (cycle.net held.registers.owed.number)) ∷ 0 ∷ 3 ∷ [])
 
 -- the words owed after a cycle: those asked more, and one less for a word that comes, if that fits below `room`
 abbrev pub IsNextOwed : ℕ → ℕ → ℕ → ℕ → ℕ → Type 0

@@ -29,3 +29,13 @@ pub(crate) fn default_word(builder: &mut Builder, word_bits: u8) -> Result<Net, 
 {
     constant(builder, word_bits, 0)
 }
+
+/// Their code is 3: no agent has the address.
+pub(crate) fn default_code(builder: &mut Builder) -> Result<Net, NetFault>
+    ensures net { IfOk result (λ code. IsNetOfWidth builder.new code 2) }
+    ensures value { IfOk result (λ code. Always builder.new (λ cycle. cycle.net code.number ≡ 3)) }
+    ensures adds { AddsNets 1 builder.old builder.new }
+    ensures full { result ≡ Err NetFault.TooManyNets → 2 ^ 20 < length builder.old.lines + 1 }
+{
+    constant(builder, 2, 3)
+}

@@ -17,7 +17,7 @@ ghost use Rattle.memory_sides.specs.declared.route.Route.{Route};
 ghost use Rattle.command_nets.specs.declared.nets.CommandNets.{CommandNets};
 
 use crate::back::{BackNets, pick_answer, pick_wait};
-use crate::default_agent::{default_wait, default_word};
+use crate::default_agent::{default_code, default_wait, default_word};
 use crate::gate::{open_gate, place_now};
 use crate::next::step_registers;
 use crate::registers::{RegisterNets, make_registers};
@@ -158,7 +158,7 @@ fn owed_answer(
     pick_answer(builder, owing, count, 0, backs, none, word_bits)
 }
 
-/// The words above: those of the place that owes. The default agent gives a word of 0 in each cycle in which it owes one.
+/// The words above: those of the place that owes. The default agent gives a word of 0 with code 3 in each cycle in which it owes one.
 #[tactic(auto, using(net_parts::specs::Laws::growing))]
 fn answer_above(
     builder: &mut Builder,
@@ -179,7 +179,7 @@ fn answer_above(
     ensures full { result ≡ Err NetFault.TooManyNets → 2 ^ 20 < length builder.old.lines + (2 + 4 * length backs.now) }
 {
     let word = default_word(builder, word_bits)?;
-    let code = constant(builder, 2, 0)?;
+    let code = default_code(builder)?;
     let none = AnswerNets {
         valid: held.owes,
         word,

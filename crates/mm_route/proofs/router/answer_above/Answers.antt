@@ -8,11 +8,11 @@ use Rattle.mm_route.proofs.Levels.{three_are}
 use Rattle.mm_route.proofs.router.answer_above.Goals as goal
 
 pub owed_answer-requires-clause-backs : goal.owed_answer-requires-clause-backs
-owed_answer-requires-clause-backs c = backs_last _ _ _ _ (extends_twice _ _ _ c.default_word.ensures.adds.grows.extends c.constant.ensures.adds.grows.extends) c.requires.backs
+owed_answer-requires-clause-backs c = backs_last _ _ _ _ (extends_twice _ _ _ c.default_word.ensures.adds.grows.extends c.default_code.ensures.adds.grows.extends) c.requires.backs
 
 pub owed_answer-requires-clause-held : goal.owed_answer-requires-clause-held
 owed_answer-requires-clause-held c =
-    router_keeps_last _ _ _ _ _ c.requires.held (extends_twice _ _ _ c.default_word.ensures.adds.grows.extends c.constant.ensures.adds.grows.extends) (λ n o w. c.constant.ensures.adds.grows.waits n (c.default_word.ensures.adds.grows.waits n w))
+    router_keeps_last _ _ _ _ _ c.requires.held (extends_twice _ _ _ c.default_word.ensures.adds.grows.extends c.default_code.ensures.adds.grows.extends) (λ n o w. c.default_code.ensures.adds.grows.waits n (c.default_word.ensures.adds.grows.waits n w))
 
 pub returns-clause-value : goal.returns-clause-value
 returns-clause-value c =
@@ -32,19 +32,19 @@ pub returns-in_err-word-clause-full : goal.returns-in_err-word-clause-full
 returns-in_err-word-clause-full c e = let full = c.default_word.ensures.full (handed_on _ _ _ _ c.in_err-word.was c.from_residual.ensures.1 e) in omega (arith, full)
 
 pub returns-in_err-code-clause-adds : goal.returns-in_err-code-clause-adds
-returns-in_err-code-clause-adds c = adds_fewer _ _ _ _ (omega arith) (adds_twice _ _ _ _ _ c.default_word.ensures.adds c.constant.ensures.adds)
+returns-in_err-code-clause-adds c = adds_fewer _ _ _ _ (omega arith) (adds_twice _ _ _ _ _ c.default_word.ensures.adds c.default_code.ensures.adds)
 
 pub returns-in_err-code-clause-full : goal.returns-in_err-code-clause-full
-returns-in_err-code-clause-full c e = let most = c.default_word.ensures.adds.most in let full = c.constant.ensures.full (handed_on _ _ _ _ c.in_err-code.was c.from_residual-in_err-code.ensures.1 e) in omega (arith, most, full)
+returns-in_err-code-clause-full c e = let most = c.default_word.ensures.adds.most in let full = c.default_code.ensures.full (handed_on _ _ _ _ c.in_err-code.was c.from_residual-in_err-code.ensures.1 e) in omega (arith, most, full)
 
 pub returns-clause-adds : goal.returns-clause-adds
-returns-clause-adds c = adds_fewer _ _ _ _ (omega arith) (adds_twice _ _ _ _ _ (adds_twice _ _ _ _ _ c.default_word.ensures.adds c.constant.ensures.adds) c.owed_answer.ensures.adds)
+returns-clause-adds c = adds_fewer _ _ _ _ (omega arith) (adds_twice _ _ _ _ _ (adds_twice _ _ _ _ _ c.default_word.ensures.adds c.default_code.ensures.adds) c.owed_answer.ensures.adds)
 
 pub returns-clause-full : goal.returns-clause-full
-returns-clause-full c e = let most = c.default_word.ensures.adds.most in let most2 = c.constant.ensures.adds.most in let full = c.owed_answer.ensures.full e in omega (arith, most, most2, full)
+returns-clause-full c e = let most = c.default_word.ensures.adds.most in let most2 = c.default_code.ensures.adds.most in let full = c.owed_answer.ensures.full e in omega (arith, most, most2, full)
 
 pub owed_answer-requires-clause-none : goal.owed_answer-requires-clause-none
-owed_answer-requires-clause-none c = record { valid = net_lasts _ _ _ 1 (extends_twice _ _ _ c.default_word.ensures.adds.grows.extends c.constant.ensures.adds.grows.extends) c.requires.held.owes; word = net_lasts _ _ _ _ c.constant.ensures.adds.grows.extends c.in_ok-word.ensures.net; code = c.in_ok-code.ensures.net }
+owed_answer-requires-clause-none c = record { valid = net_lasts _ _ _ 1 (extends_twice _ _ _ c.default_word.ensures.adds.grows.extends c.default_code.ensures.adds.grows.extends) c.requires.held.owes; word = net_lasts _ _ _ _ c.default_code.ensures.adds.grows.extends c.in_ok-word.ensures.net; code = c.in_ok-code.ensures.net }
 
 pub returns-clause-nets : goal.returns-clause-nets
 returns-clause-nets c = c.owed_answer.ensures.nets
