@@ -11,7 +11,7 @@ use Rattle.netlist.specs.Runs.{Run, IsEndlessRun}
 use Rattle.netlist.specs.Longer.{Extends}
 use Rattle.link_rules.specs.Plans.{PlanTable}
 use Rattle.mm_runs.specs.Views.{System, HostSide, HostView, AgentSide, AgentView, Responses, Run as MemoryRun}
-use Rattle.mm_runs.specs.Views.Responses.{AreZero}
+use Rattle.mm_runs.specs.Views.Responses.{AreCodes}
 use Rattle.mm_runs.specs.Commands.{longest_burst}
 use Rattle.mm_runs.specs.Order.{is_joined}
 use Rattle.mm_runs.specs.Plan.{IsMemoryPlan, AreViews}
@@ -153,7 +153,7 @@ module _ (plan : PlanTable) (planned : IsMemoryPlan (memory_system plan)) (disti
   some_room : (h : ℕ) → 0 < room h
   some_room h = pow_pos (room_bits (fabric.host h).port)
 
-  host_machine : (h : ℕ) (low : h < (memory_system plan).hosts) → (state : HostState) × IsHostMachine AreZero ((memory_system plan).host h) (seen.at_host h) (below_host (fabric.host h) run) state end
+  host_machine : (h : ℕ) (low : h < (memory_system plan).hosts) → (state : HostState) × IsHostMachine AreCodes ((memory_system plan).host h) (seen.at_host h) (below_host (fabric.host h) run) state end
   host_machine h low =
       let part = fabric.host h in
       let down = below_host part run in
@@ -162,8 +162,8 @@ module _ (plan : PlanTable) (planned : IsMemoryPlan (memory_system plan)) (disti
       let machine = seen_as_machine netlist h (routes_of plan.system h) part (is.host h low) run down host.state end host.machine
       (λ none. no_word (memory_system plan) h (room h) down (below_route plan fabric run h) route.state end route.is_machine (some_room h)
       (never_reads netlist h (routes_of plan.system h) part (is.host h low) run down host.state end host.machine none)) in
-      let at_side = subst (λ (side : HostSide). IsHostMachine AreZero side (seen_at_host part run) down host.state end) (sym (host_is plan netlist fabric is h low)) machine in
-      (host.state, subst (λ (view : HostView). IsHostMachine AreZero ((memory_system plan).host h) view down host.state end) (sym (seen_host plan fabric run h low)) at_side)
+      let at_side = subst (λ (side : HostSide). IsHostMachine AreCodes side (seen_at_host part run) down host.state end) (sym (host_is plan netlist fabric is h low)) machine in
+      (host.state, subst (λ (view : HostView). IsHostMachine AreCodes ((memory_system plan).host h) view down host.state end) (sym (seen_host plan fabric run h low)) at_side)
 
   -- ---- an arbiter
 
@@ -172,7 +172,7 @@ module _ (plan : PlanTable) (planned : IsMemoryPlan (memory_system plan)) (disti
   route_fits h a low there =
       let host = host_machine h low in
       let route = route_run h low in
-      shown AreZero (memory_system plan) (seen_in plan fabric run) h (room h) (below_host (fabric.host h) run) (below_route plan fabric run h) host.0 route.state end (legal.hosts h low) host.1 route.is_machine a there
+      shown AreCodes (memory_system plan) (seen_in plan fabric run) h (room h) (below_host (fabric.host h) run) (below_route plan fabric run h) host.0 route.state end (legal.hosts h low) host.1 route.is_machine a there
 
   abbrev pub is_host_seated : ℕ → ℕ → Bool
   is_host_seated a h = is_seated h (seats_from (askers_of (fabric.agent a).seats))
@@ -203,12 +203,12 @@ module _ (plan : PlanTable) (planned : IsMemoryPlan (memory_system plan)) (disti
 
   -- ---- all parts together
 
-  pub hosts_run : (state : ℕ → HostState) × ((h : ℕ) → h < (memory_system plan).hosts → IsHostMachine AreZero (system.host h) (seen.at_host h) (ports.after_host h) (state h) end)
-  hosts_run = choose {X = HostState} (λ h state. IsHostMachine AreZero (system.host h) (seen.at_host h) (ports.after_host h) state end) (memory_system plan).hosts no_host_state host_machine
+  pub hosts_run : (state : ℕ → HostState) × ((h : ℕ) → h < (memory_system plan).hosts → IsHostMachine AreCodes (system.host h) (seen.at_host h) (ports.after_host h) (state h) end)
+  hosts_run = choose {X = HostState} (λ h state. IsHostMachine AreCodes (system.host h) (seen.at_host h) (ports.after_host h) state end) (memory_system plan).hosts no_host_state host_machine
 
-  pub routes_run : (state : ℕ → RouteState) × ((h : ℕ) → h < (memory_system plan).hosts → IsRouteMachine AreZero (memory_system plan) h (room h) (ports.after_host h) (λ a. ports.after_route h a) (state h) end)
+  pub routes_run : (state : ℕ → RouteState) × ((h : ℕ) → h < (memory_system plan).hosts → IsRouteMachine AreCodes (memory_system plan) h (room h) (ports.after_host h) (λ a. ports.after_route h a) (state h) end)
   routes_run =
-      choose {X = RouteState} (λ h state. IsRouteMachine AreZero (memory_system plan) h (room h) (ports.after_host h) (λ a. ports.after_route h a) state end) (memory_system plan).hosts no_route_state
+      choose {X = RouteState} (λ h state. IsRouteMachine AreCodes (memory_system plan) h (room h) (ports.after_host h) (λ a. ports.after_route h a) state end) (memory_system plan).hosts no_route_state
       (λ h low. (let route = route_run h low in (route.state, route.is_machine)))
 
   pub grants_run : (grant : ℕ → ℕ → Grant) × ((a : ℕ) → a < (memory_system plan).agents →
@@ -230,7 +230,7 @@ module _ (plan : PlanTable) (planned : IsMemoryPlan (memory_system plan)) (disti
       let hands = hands_on (below_route plan fabric run h a) (above_arbiter fabric run h a) (inner h a) ((stands h low a there).none apart) (idle plan planned netlist fabric is longer extends run endless a there h (routed h low) apart) in
       record { high = hands.high; mid = hands.mid; low = hands.low }
 
-  pub front : IsRowFront AreZero (memory_system plan) (seen_in plan fabric run) ports states end
+  pub front : IsRowFront AreCodes (memory_system plan) (seen_in plan fabric run) ports states end
   front = record {
     host = hosts_run.1;
     room = λ h low. room_fits (fabric.host h).port.burst_bits;
@@ -249,17 +249,17 @@ module _ (plan : PlanTable) (planned : IsMemoryPlan (memory_system plan)) (disti
 
   -- ---- the agents
 
-  pub served : ServeWhatFits AreZero (memory_system plan) (seen_in plan fabric run) ports.lower end
+  pub served : ServeWhatFits AreCodes (memory_system plan) (seen_in plan fabric run) ports.lower end
   served = λ a c there within fit.
       (let part = fabric.agent a in
       let lowest = (piped a there).lowest in
       let suited = suits plan a part.port (is.agent_port a there) (above_agent part run).port refl c (subst (λ (up : TaggedPort). IsFit (memory_system plan) a up.port c) lowest fit) in
       let found = (is.agent a there).runs longer extends run endless c suited in
-      let at_side = subst (λ (side : AgentSide). IsAgentMachine AreZero side (seen_at_agent part run) (above_agent part run) found.state c) (sym (agent_is plan netlist fabric is a there)) found.machine in
+      let at_side = subst (λ (side : AgentSide). IsAgentMachine AreCodes side (seen_at_agent part run) (above_agent part run) found.state c) (sym (agent_is plan netlist fabric is a there)) found.machine in
       record {
         state = found.state;
-        machine = subst (λ (up : TaggedPort). IsAgentMachine AreZero ((memory_system plan).agent a) (seen.at_agent a) up found.state c) (sym lowest)
-            (subst (λ (view : AgentView). IsAgentMachine AreZero ((memory_system plan).agent a) view (above_agent part run) found.state c) (sym (seen_agent plan fabric run a there)) at_side);
+        machine = subst (λ (up : TaggedPort). IsAgentMachine AreCodes ((memory_system plan).agent a) (seen.at_agent a) up found.state c) (sym lowest)
+            (subst (λ (view : AgentView). IsAgentMachine AreCodes ((memory_system plan).agent a) view (above_agent part run) found.state c) (sym (seen_agent plan fabric run a there)) at_side);
       })
 
   -- ---- all of it
@@ -289,9 +289,9 @@ module _ (plan : PlanTable) (planned : IsMemoryPlan (memory_system plan)) (disti
   rows_pack h a low there links = ((stands h low a there).leads (joined_if (is_joined (memory_system plan) a h) links)).packs
 
   pub linked : RowsCarryWhatFits →
-      (ports : RowPorts) × (states : States) × ArePlanned (memory_system plan) (boundaries_of ports) states × AreMachines AreZero (memory_system plan) (seen_in plan fabric run) (boundaries_of ports) states end
+      (ports : RowPorts) × (states : States) × ArePlanned (memory_system plan) (boundaries_of ports) states × AreMachines AreCodes (memory_system plan) (seen_in plan fabric run) (boundaries_of ports) states end
       × (rows : AreRows (memory_system plan) (seen_in plan fabric run) ports end) × RowsPack rows
       × ((agent host : ℕ) → agent < (memory_system plan).agents → IsTrue (is_joined (memory_system plan) agent host) → IsFairRow (memory_system plan) ports agent host)
   linked law =
-      let made = law AreZero (memory_system plan) (seen_in plan fabric run) ports states end planned views front served legal in
+      let made = law AreCodes (memory_system plan) (seen_in plan fabric run) ports states end planned views front served legal in
       (ports, with_agents states made.0, made.1, made.2, rows, rows_pack, fair_row)

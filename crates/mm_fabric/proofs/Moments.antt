@@ -9,7 +9,7 @@ use Rattle.net_parts.specs.Laws.{register_lasts}
 use Rattle.iface_roles.specs.declared.records.AgentPort.{AgentPort}
 use Rattle.link_rules.specs.Plans.{PlanTable}
 use Rattle.mm_runs.specs.Views.{Levels, HostView, AgentView, levels_at}
-use Rattle.mm_runs.specs.Views.Responses.{AreZero}
+use Rattle.mm_runs.specs.Views.Responses.{AreCodes}
 use Rattle.mm_runs.specs.Moment.{Moment, AgentSees, IgnoresReaddata}
 use Rattle.mm_runs.specs.Order.{is_joined}
 use Rattle.mm_runs.specs.Plan.{IsMemoryPlan}
@@ -159,7 +159,7 @@ module _ (plan : PlanTable) (planned : IsMemoryPlan (memory_system plan)) (disti
   shown_levels : (h : ℕ) (cycle : Cycle) → h < (memory_system plan).hosts → levels_at ((seen_in plan fabric (standing_still cycle)).at_host h).signals 0 ≡ host_levels fabric h cycle
   shown_levels h cycle low = ap (λ (v : HostView). levels_at v.signals 0) (seen_host plan fabric (standing_still cycle) h low)
 
-  pub words_are_ignored : IgnoresReaddata AreZero (memory_system plan) (FabricShows plan longer fabric)
+  pub words_are_ignored : IgnoresReaddata AreCodes (memory_system plan) (FabricShows plan longer fabric)
   words_are_ignored = λ state one other shows_one shows_other inputs a there.
       (let x = shows_one.0 in
       let y = shows_other.0 in

@@ -5,7 +5,7 @@ use Rattle.histories.specs.History.{is_raised, one_if}
 use Rattle.netlist.specs.Netlists.{Netlist}
 use Rattle.netlist.specs.Runs.{Run, cycle_of}
 use Rattle.mm_runs.specs.Views.{System}
-use Rattle.mm_runs.specs.Views.Responses.{AreZero}
+use Rattle.mm_runs.specs.Views.Responses.{AreCodes}
 use Rattle.mm_machines.specs.Link.{Port, takes}
 use Rattle.mm_parts.specs.Host.{HostState, IsHostMachine, is_shut}
 use Rattle.mm_parts.specs.Queue.{takes_read, by_option}
@@ -20,7 +20,7 @@ use Rattle.mm_fabric.specs.Fabrics.{seen_at_host}
 use Rattle.mm_fabric.proofs.Levels.{level_absent}
 
 -- a route that takes no read gives no word
-module _ (system : System) (host room : ℕ) (up : Port) (down : ℕ → Port) (state : RouteState) (end : ℕ) (machine : IsRouteMachine AreZero system host room up down state end)
+module _ (system : System) (host room : ℕ) (up : Port) (down : ℕ → Port) (state : RouteState) (end : ℕ) (machine : IsRouteMachine AreCodes system host room up down state end)
     (some : 0 < room) (never : (c : ℕ) → c < end → takes_read up c ≡ false) where
   nobody : (c : ℕ) → c < end → state.owing c ≡ None
   nobody zero low = machine.nobody
@@ -54,7 +54,7 @@ low_either true n none = refl
 low_either false n none = none
 
 module _ (netlist : Netlist) (number : ℕ) (routes : List Route) (part : HostPart) (is : IsHostPart netlist number routes part) (run : Run)
-    (down : Port) (state : HostState) (end : ℕ) (machine : IsHostMachine AreZero (host_side part.port) (host_view part.port part.held.nets part.told run) down state end) where
+    (down : Port) (state : HostState) (end : ℕ) (machine : IsHostMachine AreCodes (host_side part.port) (host_view part.port part.held.nets part.told run) down state end) where
   -- a host without `read` has none taken below
   pub never_reads : part.port.reads ≡ false → (c : ℕ) → c < end → takes_read down c ≡ false
   never_reads none c low =
@@ -63,7 +63,7 @@ module _ (netlist : Netlist) (number : ℕ) (routes : List Route) (part : HostPa
       ap (λ n. takes down c && is_raised n) read ∙ and_low (takes down c)
 
   -- so its `readdata`, which isn't there, may be seen as low
-  pub seen_as_machine : (part.port.reads ≡ false → (c : ℕ) → c < end → is_raised (down.answers.valid c) ≡ false) → IsHostMachine AreZero (host_side part.port) (seen_at_host part run) down state end
+  pub seen_as_machine : (part.port.reads ≡ false → (c : ℕ) → c < end → is_raised (down.answers.valid c) ≡ false) → IsHostMachine AreCodes (host_side part.port) (seen_at_host part run) down state end
   seen_as_machine quiet = record {
     words = machine.words;
     units = machine.units;

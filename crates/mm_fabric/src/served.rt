@@ -5,7 +5,7 @@ ghost use Rattle.link_rules.specs.Plans.{PlanTable, IsPlan};
 ghost use Rattle.netlist.specs.Netlists.{Netlist};
 ghost use Rattle.netlist.specs.Runs.{Run, IsEndlessRun};
 ghost use Rattle.netlist.specs.Longer.{Extends};
-ghost use Rattle.mm_runs.specs.Views.Responses.{AreZero};
+ghost use Rattle.mm_runs.specs.Views.Responses.{AreCodes};
 ghost use Rattle.mm_runs.specs.Order.{is_joined};
 ghost use Rattle.mm_runs.specs.Plan.{AreViews};
 ghost use Rattle.mm_runs.specs.Whole.{IsLegalRun, IsSafe};
@@ -44,7 +44,7 @@ pub(crate) fn fabrics_are_fairly_linked()
         → IsLegalRun (memory_system plan) (seen_in plan fabric run) end
         → (ports : RowPorts) × (states : States)
         × ArePlanned (memory_system plan) (boundaries_of ports) states
-        × AreMachines AreZero (memory_system plan) (seen_in plan fabric run) (boundaries_of ports) states end
+        × AreMachines AreCodes (memory_system plan) (seen_in plan fabric run) (boundaries_of ports) states end
         × (rows : AreRows (memory_system plan) (seen_in plan fabric run) ports end) × RowsPack rows
         × ((agent host : ℕ) → agent < (memory_system plan).agents → IsTrue (is_joined (memory_system plan) agent host) → IsFairRow (memory_system plan) ports agent host) }
 {
@@ -67,7 +67,7 @@ pub fn fabrics_are_linked()
         → IsLegalRun (memory_system plan) (seen_in plan fabric run) end
         → (ports : RowPorts) × (states : States)
         × ArePlanned (memory_system plan) (boundaries_of ports) states
-        × AreMachines AreZero (memory_system plan) (seen_in plan fabric run) (boundaries_of ports) states end
+        × AreMachines AreCodes (memory_system plan) (seen_in plan fabric run) (boundaries_of ports) states end
         × AreRows (memory_system plan) (seen_in plan fabric run) ports end }
 {
     fabrics_are_fairly_linked();
@@ -77,7 +77,7 @@ pub fn fabrics_are_linked()
 pub fn fabrics_are_served()
     ensures safe { (plan : PlanTable) → IsPlan plan → (netlist : Netlist) (fabric : Fabric) → IsFabric plan netlist fabric
         → (longer : Netlist) → Extends netlist longer → (run : Run) → IsEndlessRun longer run → (end : ℕ)
-        → IsLegalRun (memory_system plan) (seen_in plan fabric run) end → IsSafe AreZero (memory_system plan) (seen_in plan fabric run) end }
+        → IsLegalRun (memory_system plan) (seen_in plan fabric run) end → IsSafe AreCodes (memory_system plan) (seen_in plan fabric run) end }
     ensures awake { (plan : PlanTable) → IsPlan plan → (netlist : Netlist) (fabric : Fabric) → IsFabric plan netlist fabric
         → (longer : Netlist) → Extends netlist longer → (run : Run) → IsEndlessRun longer run → (end : ℕ)
         → IsLegalRun (memory_system plan) (seen_in plan fabric run) (end + 2) → NeverIdles (memory_system plan) (seen_in plan fabric run) end }
@@ -96,10 +96,10 @@ pub fn fabrics_are_served()
     packed_systems_read_words_once();
 }
 
-/// No command that a fabric shows depends on a word that comes in its cycle.
+/// No command that a fabric shows depends on a word that comes in its cycle, nor on its code.
 pub fn fabrics_ignore_words()
     ensures { (plan : PlanTable) → IsPlan plan → (netlist : Netlist) (fabric : Fabric) → IsFabric plan netlist fabric
-        → (longer : Netlist) → Extends netlist longer → IgnoresReaddata AreZero (memory_system plan) (FabricShows plan longer fabric) }
+        → (longer : Netlist) → Extends netlist longer → IgnoresReaddata AreCodes (memory_system plan) (FabricShows plan longer fabric) }
 {
     plans_are_memory_plans();
     plans_are_apart();

@@ -1,5 +1,5 @@
 use Rattle.std.proofs.Common.{◌+◌}
-use Rattle.mm_runs.specs.Views.Responses.{AreZero}
+use Rattle.mm_runs.specs.Views.Responses.{AreCodes}
 use Rattle.memory_plans.specs.Systems.{memory_system}
 use Rattle.mm_fabric.specs.Fabrics.{seen_in}
 use Rattle.mm_fabric.proofs.served.fabrics_are_served.Goals as goal
@@ -7,19 +7,19 @@ use Rattle.mm_fabric.proofs.served.fabrics_are_served.Goals as goal
 pub returns-clause-safe : goal.returns-clause-safe
 returns-clause-safe c = λ plan is_plan netlist fabric is longer extends run endless end legal.
     let linked = c.fabrics_are_fairly_linked.ensures plan is_plan netlist fabric is longer extends run endless end legal in
-    c.machines_with_links_are_awake.ensures.safe AreZero (memory_system plan) (seen_in plan fabric run) linked.0 linked.1 end linked.2 linked.3 linked.4 legal
+    c.machines_with_links_are_awake.ensures.safe AreCodes (memory_system plan) (seen_in plan fabric run) linked.0 linked.1 end linked.2 linked.3 linked.4 legal
 
 pub returns-clause-awake : goal.returns-clause-awake
 returns-clause-awake c = λ plan is_plan netlist fabric is longer extends run endless end legal.
     let linked = c.fabrics_are_fairly_linked.ensures plan is_plan netlist fabric is longer extends run endless (end + 2) legal in
-    c.machines_with_links_are_awake.ensures.awake AreZero (memory_system plan) (seen_in plan fabric run) linked.0 linked.1 end linked.2 linked.3 linked.4 legal
+    c.machines_with_links_are_awake.ensures.awake AreCodes (memory_system plan) (seen_in plan fabric run) linked.0 linked.1 end linked.2 linked.3 linked.4 legal
 
 pub returns-clause-fair : goal.returns-clause-fair
 returns-clause-fair c = λ plan is_plan netlist fabric is longer extends run endless end legal.
     let linked = c.fabrics_are_fairly_linked.ensures plan is_plan netlist fabric is longer extends run endless end legal in
-    c.machines_with_links_are_fair.ensures AreZero (memory_system plan) (seen_in plan fabric run) linked.0 linked.1 end linked.2 linked.3 linked.4 legal (λ agent there. c.plans_are_apart.ensures plan is_plan agent) linked.6
+    c.machines_with_links_are_fair.ensures AreCodes (memory_system plan) (seen_in plan fabric run) linked.0 linked.1 end linked.2 linked.3 linked.4 legal (λ agent there. c.plans_are_apart.ensures plan is_plan agent) linked.6
 
 pub returns-clause-packed : goal.returns-clause-packed
 returns-clause-packed c = λ plan is_plan netlist fabric is longer extends run endless end legal.
     let linked = c.fabrics_are_fairly_linked.ensures plan is_plan netlist fabric is longer extends run endless end legal in
-    c.packed_systems_read_words_once.ensures AreZero (memory_system plan) (seen_in plan fabric run) linked.0 linked.1 end linked.2 linked.3 linked.4 linked.5 legal
+    c.packed_systems_read_words_once.ensures AreCodes (memory_system plan) (seen_in plan fabric run) linked.0 linked.1 end linked.2 linked.3 linked.4 linked.5 legal
