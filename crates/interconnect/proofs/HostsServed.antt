@@ -20,7 +20,7 @@ use Rattle.netlist.specs.Netlists.{Netlist, IsWellMade}
 use Rattle.netlist.specs.Runs.{Run, cycle_of, IsRun, IsEndlessRun, GoesOn}
 use Rattle.netlist.specs.Longer.{Extends}
 use Rattle.mm_runs.specs.Views.{HostView, AgentView, System, Responses, Run as MemoryRun, levels_at}
-use Rattle.mm_runs.specs.Views.Responses.{AreZero}
+use Rattle.mm_runs.specs.Views.Responses.{AreCodes}
 use Rattle.mm_runs.specs.Beginnings.{RunsAgreeBefore}
 use Rattle.mm_runs.specs.Plan.{IsMemoryPlan}
 use Rattle.mm_runs.specs.Order.{ActsAsMemory, ReadsFromMemory, ReturnsInCommandOrder}
@@ -258,7 +258,7 @@ module _ (plan : PlanTable) (netlist : Netlist) (m : IsMemoryIn plan netlist) (s
 pub record FabricLaws (plan : PlanTable) : Type 0 where
   pub kept : IsMemoryPlan (memory_system plan)
   pub safe : (netlist : Netlist) (fabric : Fabric) → IsFabric plan netlist fabric → (longer : Netlist) → Extends netlist longer → (run : Run) → IsEndlessRun longer run → (end : ℕ)
-      → IsLegalRun (memory_system plan) (seen_in plan fabric run) end → IsSafe AreZero (memory_system plan) (seen_in plan fabric run) end
+      → IsLegalRun (memory_system plan) (seen_in plan fabric run) end → IsSafe AreCodes (memory_system plan) (seen_in plan fabric run) end
   pub awake : (netlist : Netlist) (fabric : Fabric) → IsFabric plan netlist fabric → (longer : Netlist) → Extends netlist longer → (run : Run) → IsEndlessRun longer run → (end : ℕ)
       → IsLegalRun (memory_system plan) (seen_in plan fabric run) (end + 2) → NeverIdles (memory_system plan) (seen_in plan fabric run) end
   pub fair : (netlist : Netlist) (fabric : Fabric) → IsFabric plan netlist fabric → (longer : Netlist) → Extends netlist longer → (run : Run) → IsEndlessRun longer run → (end : ℕ)
@@ -266,7 +266,7 @@ pub record FabricLaws (plan : PlanTable) : Type 0 where
   pub packed : (netlist : Netlist) (fabric : Fabric) → IsFabric plan netlist fabric → (longer : Netlist) → Extends netlist longer → (run : Run) → IsEndlessRun longer run → (end : ℕ)
       → IsLegalRun (memory_system plan) (seen_in plan fabric run) end → (host agent : ℕ) → host < (memory_system plan).hosts → agent < (memory_system plan).agents
       → ReadsEachTouchedWordOnce (memory_system plan) (seen_in plan fabric run) host agent end
-  pub ignores : (netlist : Netlist) (fabric : Fabric) → IsFabric plan netlist fabric → (longer : Netlist) → Extends netlist longer → IgnoresReaddata AreZero (memory_system plan) (FabricShows plan longer fabric)
+  pub ignores : (netlist : Netlist) (fabric : Fabric) → IsFabric plan netlist fabric → (longer : Netlist) → Extends netlist longer → IgnoresReaddata AreCodes (memory_system plan) (FabricShows plan longer fabric)
 
 -- and what those of runs say
 pub record RunLaws : Type 0 where
@@ -330,11 +330,11 @@ module _ (plan : PlanTable) (netlist : Netlist) (m : IsMemoryIn plan netlist) (f
       };
     }
 
-    safe_there : (run : Run) (cycles : ℕ) → IsRun netlist run cycles → IsLegalRun whole (module_run plan netlist run) cycles → IsSafe AreZero whole (module_run plan netlist run) cycles
+    safe_there : (run : Run) (cycles : ℕ) → IsRun netlist run cycles → IsLegalRun whole (module_run plan netlist run) cycles → IsSafe AreCodes whole (module_run plan netlist run) cycles
     safe_there run cycles r legal =
         let on = goes_on run cycles r in
         let a = agree run cycles r in
-        runs.safe AreZero whole (seen_in plan made on.endless) (module_run plan netlist run) cycles (runs.turned _ _ cycles a)
+        runs.safe AreCodes whole (seen_in plan made on.endless) (module_run plan netlist run) cycles (runs.turned _ _ cycles a)
         (fabrics.safe netlist made is_made netlist (extends-refl netlist) on.endless on.is_run cycles (runs.legal whole _ _ cycles a legal))
 
     awake_there : (run : Run) (cycles : ℕ) → IsRun netlist run (cycles + 2) → IsLegalRun whole (module_run plan netlist run) (cycles + 2) → NeverIdles whole (module_run plan netlist run) cycles
@@ -359,13 +359,13 @@ module _ (plan : PlanTable) (netlist : Netlist) (m : IsMemoryIn plan netlist) (f
         runs.packed whole (seen_in plan made on.endless) (module_run plan netlist run) host agent cycles (runs.turned _ _ cycles a)
         (fabrics.packed netlist made is_made netlist (extends-refl netlist) on.endless on.is_run cycles (runs.legal whole _ _ cycles a legal) host agent here there)
 
-    ignores_there : IgnoresReaddata AreZero whole (CanShow plan netlist)
+    ignores_there : IgnoresReaddata AreCodes whole (CanShow plan netlist)
     ignores_there state one other can_one can_other alike a below =
         let x = can_one.0 in
         let y = can_other.0 in
         let at_x = seen plan netlist m some (standing_still x) 0 in
         let at_y = seen plan netlist m some (standing_still y) 0 in
-        let inputs = subst (λ (n : Moment). HaveAlikeInputs AreZero whole (moment_in (module_run plan netlist (standing_still x)) 0) n) can_other.3 (subst (λ (n : Moment). HaveAlikeInputs AreZero whole n other) can_one.3 alike) in
+        let inputs = subst (λ (n : Moment). HaveAlikeInputs AreCodes whole (moment_in (module_run plan netlist (standing_still x)) 0) n) can_other.3 (subst (λ (n : Moment). HaveAlikeInputs AreCodes whole n other) can_one.3 alike) in
         let same = fabrics.ignores netlist made is_made netlist (extends-refl netlist) state
         (moment_in (seen_in plan made (standing_still x)) 0) (moment_in (seen_in plan made (standing_still y)) 0)
         (x, can_one.1, can_one.2, refl) (y, can_other.1, can_other.2, refl)
@@ -374,7 +374,6 @@ module _ (plan : PlanTable) (netlist : Netlist) (m : IsMemoryIn plan netlist) (f
           agents = λ b inside. (let gives = inputs.agents b inside in (
             sym (at_x.agents b).waitrequest ∙ gives.0 ∙ (at_y.agents b).waitrequest,
             sym (at_x.agents b).readdatavalid ∙ gives.1 ∙ (at_y.agents b).readdatavalid,
-            sym (at_x.agents b).response ∙ gives.2 ∙ (at_y.agents b).response,
           ));
         }) a below in
         ap (λ (n : Moment). n.to_agent a) can_one.3

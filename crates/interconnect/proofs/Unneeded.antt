@@ -17,7 +17,7 @@ use Rattle.stream_runs.specs.Source.{IsLegalSource}
 use Rattle.stream_runs.specs.Awake.{IsServedAwake}
 use Rattle.stream_runs.specs.Ends.{Declared, Signals, side_of, view_of, signal_or, stream_of, run_of}
 use Rattle.mm_runs.specs.Views.{Signals as CommandSignals, HostView, AgentView, Run as MemoryRun}
-use Rattle.mm_runs.specs.Views.Responses.{AreZero}
+use Rattle.mm_runs.specs.Views.Responses.{AreCodes}
 use Rattle.mm_runs.specs.Order.{ActsAsMemory, ReadsFromMemory}
 use Rattle.mm_runs.specs.Whole.{IsLegalRun, IsSafe}
 use Rattle.mm_runs.specs.Awake.{NeverIdles, IsFair}
@@ -129,7 +129,7 @@ memory_as plan whole pruned p h = record {
   kept = h.kept;
   safe = λ run cycles is legal. (let w = p.runs run cycles is in
       let same = same_memory plan whole pruned w.whole_run run w.signals in
-      subst (λ (m : MemoryRun). IsSafe AreZero (memory_system plan) m cycles) same (h.safe w.whole_run cycles w.is_run (subst (λ (m : MemoryRun). IsLegalRun (memory_system plan) m cycles) (sym same) legal)));
+      subst (λ (m : MemoryRun). IsSafe AreCodes (memory_system plan) m cycles) same (h.safe w.whole_run cycles w.is_run (subst (λ (m : MemoryRun). IsLegalRun (memory_system plan) m cycles) (sym same) legal)));
   awake = λ run cycles is legal. (let w = p.runs run (cycles + 2) is in
       let same = same_memory plan whole pruned w.whole_run run w.signals in
       subst (λ (m : MemoryRun). NeverIdles (memory_system plan) m cycles) same (h.awake w.whole_run cycles w.is_run (subst (λ (m : MemoryRun). IsLegalRun (memory_system plan) m (cycles + 2)) (sym same) legal)));

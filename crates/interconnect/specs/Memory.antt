@@ -9,7 +9,7 @@ use Rattle.netlist.specs.Runs.{Cycle, Run, IsValuation, SameState, IsRun}
 use Rattle.netlist.specs.Signals.{signal}
 use Rattle.stream_runs.specs.Ends.{signal_or}
 use Rattle.mm_runs.specs.Views.{Signals as CommandSignals, HostView, AgentView, Run as MemoryRun}
-use Rattle.mm_runs.specs.Views.Responses.{AreZero}
+use Rattle.mm_runs.specs.Views.Responses.{AreCodes}
 use Rattle.mm_runs.specs.Plan.{IsMemoryPlan}
 use Rattle.mm_runs.specs.Order.{ActsAsMemory, ReadsFromMemory}
 use Rattle.mm_runs.specs.Whole.{IsLegalRun, IsSafe}
@@ -81,11 +81,11 @@ CanShow plan netlist state moment =
 -- In every run of the module whose hosts and agents are legal, the module keeps its own side of the rules at them all, the granted order, the
 -- return of words in command order, and the lag; a wanted agent is served within its window, and hosts that ask have their shares; every byte that
 -- a host is given from an agent that acts as memory is what the writes before its read have left; each word of an agent that a read touches, of a host
--- whose word is no larger, is read once; and no command depends on the word that comes in its cycle
+-- whose word is no larger, is read once; and no command depends on the word that comes in its cycle, nor on its code
 pub record ServesMemory (plan : PlanTable) (netlist : Netlist) : Type 0 where
   pub kept : IsMemoryPlan (memory_system plan)
   pub safe : (run : Run) (cycles : ℕ) → IsRun netlist run cycles → IsLegalRun (memory_system plan) (module_run plan netlist run) cycles
-      → IsSafe AreZero (memory_system plan) (module_run plan netlist run) cycles
+      → IsSafe AreCodes (memory_system plan) (module_run plan netlist run) cycles
   pub awake : (run : Run) (cycles : ℕ) → IsRun netlist run (cycles + 2) → IsLegalRun (memory_system plan) (module_run plan netlist run) (cycles + 2)
       → NeverIdles (memory_system plan) (module_run plan netlist run) cycles
   pub fair : (run : Run) (cycles : ℕ) → IsRun netlist run cycles → IsLegalRun (memory_system plan) (module_run plan netlist run) cycles
@@ -96,4 +96,4 @@ pub record ServesMemory (plan : PlanTable) (netlist : Netlist) : Type 0 where
   pub packed : (run : Run) (cycles host agent : ℕ) → host < (memory_system plan).hosts → agent < (memory_system plan).agents
       → IsRun netlist run cycles → IsLegalRun (memory_system plan) (module_run plan netlist run) cycles
       → ReadsEachTouchedWordOnce (memory_system plan) (module_run plan netlist run) host agent cycles
-  pub ignores_readdata : IgnoresReaddata AreZero (memory_system plan) (CanShow plan netlist)
+  pub ignores_readdata : IgnoresReaddata AreCodes (memory_system plan) (CanShow plan netlist)
