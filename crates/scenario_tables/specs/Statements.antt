@@ -8,7 +8,7 @@ use Rattle.scenario_tables.specs.declared.statements.HostStatement.{HostStatemen
 use Rattle.scenario_tables.specs.declared.statements.HostStatement.TheVariants.{Idle, Write, Read}
 use Rattle.scenario_tables.specs.declared.statements.Pattern.{Pattern}
 use Rattle.scenario_tables.specs.declared.statements.AgentStatement.{AgentStatement}
-use Rattle.scenario_tables.specs.declared.statements.AgentStatement.TheVariants.{Stall, Latency, Fill}
+use Rattle.scenario_tables.specs.declared.statements.AgentStatement.TheVariants.{Stall, Latency, Fill, Code}
 use Rattle.scenario_tables.specs.declared.statements.SourceBeat.{SourceBeat}
 use Rattle.scenario_tables.specs.declared.statements.SourceStatement.{SourceStatement}
 use Rattle.scenario_tables.specs.declared.statements.SourceStatement.TheVariants.{Beat, Gap}
@@ -80,10 +80,16 @@ pub record FitsLatency (port : AgentPort) (cycles : ℕ) : Type 0 where
   pub some : 1 ≤ cycles
   pub few : cycles ≤ 255
 
+pub record FitsCode (port : AgentPort) (offset code : ℕ) : Type 0 where
+  pub answers : IsTrue port.response
+  pub within : offset < span_of port
+  pub few : code ≤ 3
+
 abbrev pub FitsAgent : AgentPort → AgentStatement → Type 0
 FitsAgent port (Stall pattern) = FitsStall port.waitrequest pattern
 FitsAgent port (Latency cycles) = FitsLatency port cycles
 FitsAgent port (Fill offset bytes) = FitsFill port offset bytes
+FitsAgent port (Code offset code) = FitsCode port offset code
 
 -- the patterns among the statements of an agent
 abbrev pub stalls_of : List AgentStatement → List Pattern
@@ -91,6 +97,7 @@ stalls_of [] = []
 stalls_of (Stall pattern ∷ later) = pattern ∷ stalls_of later
 stalls_of (Latency cycles ∷ later) = stalls_of later
 stalls_of (Fill offset bytes ∷ later) = stalls_of later
+stalls_of (Code offset code ∷ later) = stalls_of later
 
 -- the latencies
 abbrev pub latencies_of : List AgentStatement → List ℕ
@@ -98,6 +105,7 @@ latencies_of [] = []
 latencies_of (Stall pattern ∷ later) = latencies_of later
 latencies_of (Latency cycles ∷ later) = cycles ∷ latencies_of later
 latencies_of (Fill offset bytes ∷ later) = latencies_of later
+latencies_of (Code offset code ∷ later) = latencies_of later
 
 pub record IsAgentScript (port : AgentPort) (script : List AgentStatement) : Type 0 where
   pub short : IsShort script

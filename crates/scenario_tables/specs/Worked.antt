@@ -1,6 +1,8 @@
--- A host of 32-bit words with 8 address bits that count bytes and bursts of up to 4 beats, and a source of 2 symbols of 8 bits with packets and 4 channels.
+-- A host of 32-bit words with 8 address bits that count bytes and bursts of up to 4 beats, an agent of 8-bit words with 4 bytes and response, and a source
+-- of 2 symbols of 8 bits with packets and 4 channels.
 use Rattle.std.specs.Prelude.{true, false}
 use Rattle.iface_roles.specs.declared.records.HostPort.{HostPort}
+use Rattle.iface_roles.specs.declared.records.AgentPort.{AgentPort}
 use Rattle.iface_roles.specs.declared.records.StreamPort.{StreamPort}
 use Rattle.scenario_tables.specs.declared.statements.SourceBeat.{SourceBeat}
 
@@ -20,6 +22,30 @@ small_host = record {
   write_response = false;
   allowance = 0;
   wraps = false;
+}
+
+abbrev pub small_agent : AgentPort
+small_agent = record {
+  address_bits = 2;
+  byte_units = true;
+  word_bytes = 1;
+  reads = true;
+  writes = true;
+  enables = false;
+  burst_bits = 0;
+  readdatavalid = true;
+  waitrequest = true;
+  response = true;
+  unsupported = false;
+  write_response = false;
+  allowance = 0;
+  wraps = false;
+  boundaries = false;
+  read_latency = 0;
+  read_wait = 0;
+  write_wait = 0;
+  pending = 1;
+  setup_hold = false;
 }
 
 abbrev pub small_source : StreamPort

@@ -1,10 +1,11 @@
 //! Small scripts that fit their interface, and some that don't. The functions do nothing; their contracts are the rows.
 
-ghost use Rattle.std.specs.Prelude.{[], ◌∷◌, Some, None};
+ghost use Rattle.std.specs.Prelude.{[], ◌∷◌, Some, None, false};
 ghost use Rattle.scenario_tables.specs.declared.statements.HostStatement.TheVariants.{Idle, Write, Read};
+ghost use Rattle.scenario_tables.specs.declared.statements.AgentStatement.TheVariants.{Fill, Code};
 ghost use Rattle.scenario_tables.specs.declared.statements.SourceStatement.TheVariants.{Beat, Gap};
-ghost use Rattle.scenario_tables.specs.Statements.{FitsHost, FitsBeat, FollowPackets};
-ghost use Rattle.scenario_tables.specs.Worked.{small_host, small_source, whole_packet, first_beat, last_beat};
+ghost use Rattle.scenario_tables.specs.Statements.{FitsHost, FitsAgent, FitsBeat, FollowPackets};
+ghost use Rattle.scenario_tables.specs.Worked.{small_host, small_agent, small_source, whole_packet, first_beat, last_beat};
 
 /// What fits a host with bursts of up to four words in 256 bytes, and what doesn't.
 pub fn host_statements()
@@ -17,6 +18,16 @@ pub fn host_statements()
     ensures burst_too_long { ¬ FitsHost small_host (Read 0 15 5) }
     ensures no_word { ¬ FitsHost small_host (Write 0 15 []) }
     ensures no_rest { ¬ FitsHost small_host (Idle 0) }
+{}
+
+/// What fits an agent of four bytes with `response`, and what doesn't.
+pub fn agent_statements()
+    ensures last_bytes { FitsAgent small_agent (Fill 2 (1 ∷ 2 ∷ [])) }
+    ensures bytes_past_the_span { ¬ FitsAgent small_agent (Fill 3 (1 ∷ 2 ∷ [])) }
+    ensures last_byte { FitsAgent small_agent (Code 3 3) }
+    ensures past_the_span { ¬ FitsAgent small_agent (Code 4 2) }
+    ensures past_the_codes { ¬ FitsAgent small_agent (Code 0 4) }
+    ensures without_response { ¬ FitsAgent (record small_agent { response = false }) (Code 0 0) }
 {}
 
 /// Which beats of a source with packets stand behind one another, and which don't.

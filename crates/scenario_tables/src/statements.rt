@@ -36,6 +36,8 @@ pub enum AgentStatement {
     Latency { cycles: u8 },
     /// Its bytes from an offset on are these at first.
     Fill { offset: u32, bytes: Bytes },
+    /// Words that hold the byte at an offset are answered with this code, 0 to 3.
+    Code { offset: u32, code: u8 },
 }
 
 /// A beat of a source: what stands on its ports beside `valid`.
