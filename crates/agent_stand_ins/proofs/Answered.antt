@@ -1,5 +1,5 @@
 -- Where a side keeps to what an agent bears, all words that it asks are given or wait.
-use Rattle.std.proofs.Common.{◌≡◌, ◌+◌, ◌-◌, ◌<◌, ◌≤◌, ℕ, zero, suc, Bool, true, false, not, ◌&&◌, ◌||◌, nat_lt, nat_le, List, [], ◌∷◌, ◌++◌, length, map, flat_map, drop, if◌then◌else◌, refl, sym, ap, ◌∙◌, subst, arith, append-nil, add-zero, add-one, append_assoc}
+use Rattle.std.proofs.Common.{◌≡◌, ◌+◌, ◌-◌, ◌<◌, ◌≤◌, ℕ, zero, suc, Bool, true, false, not, ◌&&◌, ◌||◌, nat_lt, nat_le, List, [], ◌∷◌, ◌++◌, length, map, flat_map, drop, if◌then◌else◌, refl, sym, ap, ap₂, ◌∙◌, subst, arith, append-nil, add-zero, add-one, append_assoc}
 use Rattle.std.proofs.lemmas.Bool.{and_parts, and_from, false≢true}
 use Rattle.std.proofs.lemmas.Bool.Decides.{nat_tests}
 use Rattle.std.proofs.lemmas.List.{length-append, length-map, map-append, drop-append-le, drop-map, length-drop}
@@ -12,9 +12,11 @@ use Rattle.mm_runs.specs.Commands.{Transfer, accepted, agent_accepts, burst_afte
 use Rattle.mm_runs.specs.Legal.{AreLegal, IsWithinPendingBound, is_under_way, words_asked}
 use Rattle.memory_sides.specs.Sides.{agent_side}
 use Rattle.scenario_tables.specs.declared.statements.AgentStatement.{AgentStatement}
+use Rattle.agent_stand_ins.specs.declared.delayed.Answer.{Answer}
 use Rattle.agent_stand_ins.specs.declared.waiting.Waiting.{Waiting}
 use Rattle.agent_stand_ins.specs.Contents.{contents_before}
-use Rattle.agent_stand_ins.specs.Answers.{commands_among, is_borne, is_due, still_waiting, asked_words, takes_read, latency_of, waiting_before, asked_word, word_due, word_behind}
+use Rattle.agent_stand_ins.specs.Codes.{code_at}
+use Rattle.agent_stand_ins.specs.Answers.{commands_among, is_borne, is_due, still_waiting, asked_words, takes_read, latency_of, waiting_before, asked_word, word_due, word_behind, code_due, code_behind, answer, answer_of}
 use Rattle.agent_stand_ins.specs.StandIns.{IsAgentStandIn, words_given, words_found}
 use Rattle.agent_stand_ins.proofs.Legality.{given_in, word_more}
 use Rattle.agent_stand_ins.proofs.WaitingLemmas.{length_numbers}
@@ -110,27 +112,27 @@ total_more : (sizes : List ℕ) (size : ℕ) → total (sizes ++ size ∷ []) �
 total_more [] size = omega arith
 total_more (first ∷ sizes) size = omega (arith, total_more sizes size)
 
-after_read : (side : AgentSide) (contents : ℕ → ℕ) (due : ℕ) (levels : Levels) (given : ℕ) (waiting : List Waiting) (sizes : List ℕ) → 1 ≤ levels.count → Answers given waiting sizes →
-    Answers given (waiting ++ asked_words side contents due levels) (sizes ++ levels.count ∷ [])
-after_read side contents due levels given waiting sizes some answers =
+after_read : (side : AgentSide) (contents codes : ℕ → ℕ) (due : ℕ) (levels : Levels) (given : ℕ) (waiting : List Waiting) (sizes : List ℕ) → 1 ≤ levels.count → Answers given waiting sizes →
+    Answers given (waiting ++ asked_words side contents codes due levels) (sizes ++ levels.count ∷ [])
+after_read side contents codes due levels given waiting sizes some answers =
     let last = λ (one : Waiting). one.last in
     record {
       asked = omega (arith, total_more sizes levels.count, answers.asked);
       marked =
-          map-append last waiting (asked_words side contents due levels)
-          ∙ ap (λ front. front ++ map last (asked_words side contents due levels)) answers.marked
-          ∙ ap (λ back. drop given (all_marks sizes) ++ back) (marks_asked side contents due levels ∙ sym (append-nil (marks levels.count)))
+          map-append last waiting (asked_words side contents codes due levels)
+          ∙ ap (λ front. front ++ map last (asked_words side contents codes due levels)) answers.marked
+          ∙ ap (λ back. drop given (all_marks sizes) ++ back) (marks_asked side contents codes due levels ∙ sym (append-nil (marks levels.count)))
           ∙ sym (drop-append-le given (all_marks sizes) (marks levels.count ++ []) (omega (arith, length_all sizes, answers.asked)))
           ∙ ap (drop given) (sym (flat_map-append marks sizes (levels.count ∷ [])));
       some = some_append sizes levels.count answers.some some;
     }
 
-read_or_not : (takes borne : Bool) (side : AgentSide) (contents : ℕ → ℕ) (due : ℕ) (levels : Levels) (given : ℕ) (waiting : List Waiting) (sizes : List ℕ) →
+read_or_not : (takes borne : Bool) (side : AgentSide) (contents codes : ℕ → ℕ) (due : ℕ) (levels : Levels) (given : ℕ) (waiting : List Waiting) (sizes : List ℕ) →
     (takes ≡ true → (borne ≡ true) × (1 ≤ levels.count)) → Answers given waiting sizes →
-    Answers given (if takes && borne then waiting ++ asked_words side contents due levels else waiting) (sizes ++ (if takes then levels.count ∷ [] else []))
-read_or_not true true side contents due levels given waiting sizes fits answers = after_read side contents due levels given waiting sizes (fits refl).1 answers
-read_or_not true false side contents due levels given waiting sizes fits answers = absurd (cc ((fits refl).0))
-read_or_not false borne side contents due levels given waiting sizes fits answers = subst (Answers given waiting) (sym (append-nil sizes)) answers
+    Answers given (if takes && borne then waiting ++ asked_words side contents codes due levels else waiting) (sizes ++ (if takes then levels.count ∷ [] else []))
+read_or_not true true side contents codes due levels given waiting sizes fits answers = after_read side contents codes due levels given waiting sizes (fits refl).1 answers
+read_or_not true false side contents codes due levels given waiting sizes fits answers = absurd (cc ((fits refl).0))
+read_or_not false borne side contents codes due levels given waiting sizes fits answers = subst (Answers given waiting) (sym (append-nil sizes)) answers
 
 -- ---- what a taken read shows
 
@@ -155,29 +157,25 @@ most_test a b low = grind (arith, nat_tests)
 
 -- ---- the words themselves
 
-word_of : Waiting → ℕ
-word_of one = one.word
-
-words_of : {A : Type 0} (word : A → ℕ) (f : ℕ → A) (items : List ℕ) → map word (map f items) ≡ map (λ n. word (f n)) items
+words_of : {A B : Type 0} (word : A → B) (f : ℕ → A) (items : List ℕ) → map word (map f items) ≡ map (λ n. word (f n)) items
 words_of word f [] = refl
 words_of word f (item ∷ items) = ap (λ later. word (f item) ∷ later) (words_of word f items)
 
 -- the word that is given was the first of those that waited
-moved : (cycle : ℕ) (waiting : List Waiting) (front : List ℕ) →
-    (front ++ only_if (is_due cycle waiting) (word_due cycle waiting)) ++ map word_of (still_waiting cycle waiting) ≡ front ++ map word_of waiting
-unfolding word_of
+moved : (cycle : ℕ) (waiting : List Waiting) (front : List Answer) →
+    (front ++ only_if (is_due cycle waiting) (answer (word_due cycle waiting) (code_due cycle waiting))) ++ map answer_of (still_waiting cycle waiting) ≡ front ++ map answer_of waiting
 moved cycle [] front = append-nil (front ++ [])
 moved cycle (first ∷ later) front =
-    elim (nat_le first.due cycle) as (λ due. (front ++ only_if due (if due then first.word else 0)) ++ map word_of (if due then later else first ∷ later) ≡ front ++ map word_of (first ∷ later)) [
-      | true ↦ append_assoc front (first.word ∷ []) (map word_of later)
-      | false ↦ ap (λ front. front ++ map word_of (first ∷ later)) (append-nil front)
+    elim (nat_le first.due cycle) as (λ due. (front ++ only_if due (answer (if due then first.word else 0) (if due then first.code else 0))) ++ map answer_of (if due then later else first ∷ later) ≡ front ++ map answer_of (first ∷ later)) [
+      | true ↦ append_assoc front (answer_of first ∷ []) (map answer_of later)
+      | false ↦ ap (λ front. front ++ map answer_of (first ∷ later)) (append-nil front)
     ]
 
-found_more : (takes borne : Bool) (front : List ℕ) (waiting asked : List Waiting) → (takes ≡ true → borne ≡ true) →
-    front ++ map word_of (if takes && borne then waiting ++ asked else waiting) ≡ (front ++ map word_of waiting) ++ (if takes then map word_of asked else [])
-found_more true true front waiting asked fits = ap (λ back. front ++ back) (map-append word_of waiting asked) ∙ sym (append_assoc front (map word_of waiting) (map word_of asked))
+found_more : (takes borne : Bool) (front : List Answer) (waiting asked : List Waiting) → (takes ≡ true → borne ≡ true) →
+    front ++ map answer_of (if takes && borne then waiting ++ asked else waiting) ≡ (front ++ map answer_of waiting) ++ (if takes then map answer_of asked else [])
+found_more true true front waiting asked fits = ap (λ back. front ++ back) (map-append answer_of waiting asked) ∙ sym (append_assoc front (map answer_of waiting) (map answer_of asked))
 found_more true false front waiting asked fits = absurd (cc (fits refl))
-found_more false borne front waiting asked fits = sym (append-nil (front ++ map word_of waiting))
+found_more false borne front waiting asked fits = sym (append-nil (front ++ map answer_of waiting))
 
 -- ---- a whole run
 
@@ -236,7 +234,7 @@ module _ (port : AgentPort) (script : List AgentStatement) (view : AgentView) (e
       let levels = levels_at view.signals c in
       let given = subst (λ n. Answers n (still_waiting c (waiting_at c)) (sizes_at c)) (sym (given_next c (omega arith))) (after_given c (words_before view.readdatavalid c) (waiting_at c) (sizes_at c) (answers_at c (omega arith))) in
       subst (Answers (words_before view.readdatavalid (suc c)) (waiting_at (suc c))) (sym (sizes_next c))
-      (read_or_not (takes_read side view c) (is_borne side (still_waiting c (waiting_at c)) levels.count) side (contents_before side script view c) (c + latency_of script) levels
+      (read_or_not (takes_read side view c) (is_borne side (still_waiting c (waiting_at c)) levels.count) side (contents_before side script view c) (code_at side script) (c + latency_of script) levels
       (words_before view.readdatavalid (suc c)) (still_waiting c (waiting_at c)) (sizes_at c) (λ takes. (read_borne c (omega arith) given takes, (read_fits c (omega arith) takes).0)) given)
 
   pub all_answered : (c : ℕ) → c ≤ end →
@@ -246,22 +244,26 @@ module _ (port : AgentPort) (script : List AgentStatement) (view : AgentView) (e
       length_left (words_before view.readdatavalid c) (waiting_at c) (sizes_at c) (answers_at c low)
       ∙ sym (total_beats (accepted (agent_side port).shape view.signals (agent_accepts (agent_side port) view) c))
 
-  pub in_order : (c : ℕ) → c ≤ end → words_given view c ++ map (λ (one : Waiting). one.word) (waiting_before (agent_side port) script view c) ≡ words_found port script view c
-  unfolding sizes_at waiting_at word_of
+  pub in_order : (c : ℕ) → c ≤ end → words_given view c ++ map answer_of (waiting_before (agent_side port) script view c) ≡ words_found port script view c
+  unfolding sizes_at waiting_at
   in_order zero low = refl
   in_order (suc c) low =
       let side = agent_side port in
       let levels = levels_at view.signals c in
       let contents = contents_before side script view c in
       let waiting = waiting_before side script view c in
-      let asked = asked_words side contents (c + latency_of script) levels in
+      let codes = code_at side script in
+      let asked = asked_words side contents codes (c + latency_of script) levels in
       let now : c < end = omega arith in
       let word : view.readdata c ≡ word_due c waiting = stand_in.readdata c now ∙ ap (λ kind. if kind then word_due c waiting else word_behind side script view c) late in
+      let code : view.response c ≡ code_due c waiting = stand_in.response c now ∙ ap (λ kind. if kind then code_due c waiting else code_behind side script view c) late in
       let given = subst (λ n. Answers n (still_waiting c waiting) (sizes_at c)) (sym (given_next c now)) (after_given c (words_before view.readdatavalid c) waiting (sizes_at c) (answers_at c (omega arith))) in
-      let front : words_given view (suc c) ≡ words_given view c ++ only_if (is_due c waiting) (word_due c waiting) =
-      ap (λ test. words_given view c ++ only_if test (view.readdata c)) (given_in port script view end late stand_in c now) ∙ ap (λ w. words_given view c ++ only_if (is_due c waiting) w) word in
-      ap (λ front. front ++ map word_of (waiting_before side script view (suc c))) front
-      ∙ found_more (takes_read side view c) (is_borne side (still_waiting c waiting) levels.count) (words_given view c ++ only_if (is_due c waiting) (word_due c waiting)) (still_waiting c waiting) asked
+      let due = answer (word_due c waiting) (code_due c waiting) in
+      let front : words_given view (suc c) ≡ words_given view c ++ only_if (is_due c waiting) due =
+      ap (λ test. words_given view c ++ only_if test (answer (view.readdata c) (view.response c))) (given_in port script view end late stand_in c now)
+      ∙ ap₂ (λ word code. words_given view c ++ only_if (is_due c waiting) (answer word code)) word code in
+      ap (λ front. front ++ map answer_of (waiting_before side script view (suc c))) front
+      ∙ found_more (takes_read side view c) (is_borne side (still_waiting c waiting) levels.count) (words_given view c ++ only_if (is_due c waiting) due) (still_waiting c waiting) asked
       (read_borne c now given)
-      ∙ ap (λ words. words ++ (if takes_read side view c then map word_of asked else [])) (moved c waiting (words_given view c) ∙ in_order c (omega arith))
-      ∙ ap (λ words. words_found port script view c ++ (if takes_read side view c then words else [])) (words_of word_of (asked_word side contents (c + latency_of script) levels) (numbers 0 levels.count))
+      ∙ ap (λ words. words ++ (if takes_read side view c then map answer_of asked else [])) (moved c waiting (words_given view c) ∙ in_order c (omega arith))
+      ∙ ap (λ words. words_found port script view c ++ (if takes_read side view c then words else [])) (words_of answer_of (asked_word side contents codes (c + latency_of script) levels) (numbers 0 levels.count))

@@ -11,6 +11,7 @@ use Rattle.mm_runs.specs.Legal.{IsLegalAgent, AreOwed, words_asked}
 use Rattle.memory_sides.specs.Sides.{agent_side}
 use Rattle.scenario_tables.specs.declared.statements.AgentStatement.{AgentStatement}
 use Rattle.agent_stand_ins.specs.Contents.{contents_before}
+use Rattle.agent_stand_ins.specs.Codes.{code_at}
 use Rattle.agent_stand_ins.specs.declared.waiting.Waiting.{Waiting}
 use Rattle.agent_stand_ins.specs.Answers.{is_due, still_waiting, is_borne, asked_word, asked_words, takes_read, latency_of, waiting_after, waiting_before}
 use Rattle.agent_stand_ins.specs.StandIns.{IsAgentStandIn}
@@ -52,12 +53,12 @@ length_if false c = refl
 pub word_more : (valid : ℕ → ℕ) (c : ℕ) → words_before valid (suc c) ≡ words_before valid c + one_if (is_raised (valid c))
 word_more valid c = length-append (before (λ c. only_if (is_raised (valid c)) c) c) _ ∙ ap (λ n. words_before valid c + n) (length_if (is_raised (valid c)) c)
 
-added_at_most : (side : AgentSide) (latency cycle : ℕ) (contents : ℕ → ℕ) (levels : Levels) (reads : Bool) (waiting : List Waiting) (asked : ℕ) → (reads ≡ true → asked ≡ length (numbers 0 levels.count)) →
-    length (waiting_after side latency cycle contents levels reads waiting) ≤ length (still_waiting cycle waiting) + asked
-added_at_most side latency cycle contents levels reads waiting asked is =
-    elim reads as (λ (r : Bool). (r ≡ true → asked ≡ length (numbers 0 levels.count)) → length (waiting_after side latency cycle contents levels r waiting) ≤ length (still_waiting cycle waiting) + asked) [
-      | true ↦ λ is. elim (is_borne side (still_waiting cycle waiting) levels.count) as (λ borne. length (if borne then still_waiting cycle waiting ++ asked_words side contents (cycle + latency) levels else still_waiting cycle waiting) ≤ length (still_waiting cycle waiting) + asked) [
-        | true ↦ omega (arith, length-append (still_waiting cycle waiting) (asked_words side contents (cycle + latency) levels), length-map (numbers 0 levels.count) (λ number. asked_word side contents (cycle + latency) levels number), is refl)
+added_at_most : (side : AgentSide) (latency cycle : ℕ) (contents codes : ℕ → ℕ) (levels : Levels) (reads : Bool) (waiting : List Waiting) (asked : ℕ) → (reads ≡ true → asked ≡ length (numbers 0 levels.count)) →
+    length (waiting_after side latency cycle contents codes levels reads waiting) ≤ length (still_waiting cycle waiting) + asked
+added_at_most side latency cycle contents codes levels reads waiting asked is =
+    elim reads as (λ (r : Bool). (r ≡ true → asked ≡ length (numbers 0 levels.count)) → length (waiting_after side latency cycle contents codes levels r waiting) ≤ length (still_waiting cycle waiting) + asked) [
+      | true ↦ λ is. elim (is_borne side (still_waiting cycle waiting) levels.count) as (λ borne. length (if borne then still_waiting cycle waiting ++ asked_words side contents codes (cycle + latency) levels else still_waiting cycle waiting) ≤ length (still_waiting cycle waiting) + asked) [
+        | true ↦ omega (arith, length-append (still_waiting cycle waiting) (asked_words side contents codes (cycle + latency) levels), length-map (numbers 0 levels.count) (λ number. asked_word side contents codes (cycle + latency) levels number), is refl)
         | false ↦ omega arith
       ]
       | false ↦ λ is. omega arith
@@ -87,7 +88,7 @@ module _ (port : AgentPort) (script : List AgentStatement) (view : AgentView) (e
         ap one_if (given_in c low),
         still_or_given c waiting,
         asked_more side.shape view.signals accepts c,
-        added_at_most side (latency_of script) c (contents_before side script view c) levels (takes_read side view c) waiting added
+        added_at_most side (latency_of script) c (contents_before side script view c) (code_at side script) levels (takes_read side view c) waiting added
             (λ reads. read_added side.shape levels _ (accepts c) (is_raised levels.write) reads),
       )
 

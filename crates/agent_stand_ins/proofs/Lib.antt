@@ -1,3 +1,4 @@
+pub mod CodeLemmas
 pub mod Legality
 pub mod Words
 pub mod Bytes

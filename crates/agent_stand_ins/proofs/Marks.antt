@@ -87,15 +87,15 @@ trues_of (first ∷ later) =
       | false ↦ trues_of later
     ]
 
-marks_from : (side : AgentSide) (contents : ℕ → ℕ) (due : ℕ) (levels : Levels) (first more : ℕ) → first + more ≡ levels.count →
-    map (λ (one : Waiting). one.last) (map (asked_word side contents due levels) (numbers first more)) ≡ marks more
-marks_from side contents due levels first zero is = refl
-marks_from side contents due levels first (suc zero) is =
+marks_from : (side : AgentSide) (contents codes : ℕ → ℕ) (due : ℕ) (levels : Levels) (first more : ℕ) → first + more ≡ levels.count →
+    map (λ (one : Waiting). one.last) (map (asked_word side contents codes due levels) (numbers first more)) ≡ marks more
+marks_from side contents codes due levels first zero is = refl
+marks_from side contents codes due levels first (suc zero) is =
     let last : (first + 1 == levels.count) ≡ true = eq-eqb (first + 1) levels.count (omega arith) in ap (λ b. b ∷ []) last
-marks_from side contents due levels first (suc (suc more)) is =
+marks_from side contents codes due levels first (suc (suc more)) is =
     let last : (first + 1 == levels.count) ≡ false = grind (arith, nat_tests) in
-    ap (λ b. b ∷ map (λ (one : Waiting). one.last) (map (asked_word side contents due levels) (numbers (suc first) (suc more)))) last
-    ∙ ap (λ later. false ∷ later) (marks_from side contents due levels (suc first) (suc more) (omega arith))
+    ap (λ b. b ∷ map (λ (one : Waiting). one.last) (map (asked_word side contents codes due levels) (numbers (suc first) (suc more)))) last
+    ∙ ap (λ later. false ∷ later) (marks_from side contents codes due levels (suc first) (suc more) (omega arith))
 
-pub marks_asked : (side : AgentSide) (contents : ℕ → ℕ) (due : ℕ) (levels : Levels) → map (λ (one : Waiting). one.last) (asked_words side contents due levels) ≡ marks levels.count
-marks_asked side contents due levels = marks_from side contents due levels 0 levels.count (omega arith)
+pub marks_asked : (side : AgentSide) (contents codes : ℕ → ℕ) (due : ℕ) (levels : Levels) → map (λ (one : Waiting). one.last) (asked_words side contents codes due levels) ≡ marks levels.count
+marks_asked side contents codes due levels = marks_from side contents codes due levels 0 levels.count (omega arith)

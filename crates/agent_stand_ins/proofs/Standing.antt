@@ -1,5 +1,5 @@
 -- From cycle to cycle a stand-in stands for its run.
-use Rattle.std.proofs.Common.{◌*◌, slice_get, Some, ◌≡◌, ◌+◌, ◌-◌, ◌<◌, ℕ, zero, suc, Bool, true, false, not, ◌&&◌, nat_eq, nat_le, List, [], ◌∷◌, ◌++◌, length, map, filter, flat_map, drop, slice_index, if◌then◌else◌, refl, sym, ap, ◌∙◌, subst, inl, inr, arith, add-one, append-nil, add-zero, ◌⊎◌}
+use Rattle.std.proofs.Common.{◌*◌, slice_get, Some, ◌≡◌, ◌+◌, ◌-◌, ◌<◌, ℕ, zero, suc, Bool, true, false, not, ◌&&◌, nat_eq, nat_le, List, [], ◌∷◌, ◌++◌, length, map, filter, flat_map, drop, slice_index_or, if◌then◌else◌, refl, sym, ap, ap₂, ◌∙◌, subst, inl, inr, arith, add-one, append-nil, add-zero, ◌⊎◌}
 use Rattle.std.proofs.lemmas.Bool.Decides.{nat_tests}
 use Rattle.std.proofs.Math.Nat.{eq-or-lt_of_le}
 use Rattle.std.proofs.lemmas.List.{length-append}
@@ -12,10 +12,12 @@ use Rattle.mm_runs.specs.Commands.{Transfer, Burst, byte_address, accepted, agen
 use Rattle.memory_sides.specs.Sides.{agent_side}
 use Rattle.scenario_tables.specs.declared.statements.AgentStatement.{AgentStatement}
 use Rattle.agent_stand_ins.specs.Contents.{filled, contents_before}
-use Rattle.agent_stand_ins.specs.Answers.{latency_of, takes_read, is_due, word_due, word_asked, word_asked_in, word_behind, waiting_after, waiting_before}
+use Rattle.agent_stand_ins.specs.declared.delayed.Answer.{Answer}
+use Rattle.agent_stand_ins.specs.Codes.{code_at}
+use Rattle.agent_stand_ins.specs.Answers.{latency_of, takes_read, is_due, word_due, code_due, word_asked, word_asked_in, word_behind, code_asked, code_asked_in, code_behind, answer, answer_behind, no_answer, waiting_after, waiting_before}
 use Rattle.agent_stand_ins.specs.StandIns.{stalls_in}
 use Rattle.agent_stand_ins.specs.Memory.{contents_of}
-use Rattle.agent_stand_ins.specs.Whole.{AgentStandInValue, carries, wait_of, accepts, reads, word_now, IsBehind, StandsFor, ShowsAsDefined, TakesAsDefined}
+use Rattle.agent_stand_ins.specs.Whole.{AgentStandInValue, carries, wait_of, accepts, reads, word_now, code_now, answer_asked, codes_of, IsBehind, StandsFor, ShowsAsDefined, TakesAsDefined}
 use Rattle.agent_stand_ins.proofs.Legality.{raised_if}
 use Rattle.agent_stand_ins.proofs.OperationLemmas.{memory_append}
 
@@ -44,24 +46,24 @@ taken_leaves shape span levels written contents false writes = refl
 
 -- ---- the words under way
 
-read_front : (items : List ℕ) (word k : ℕ) → k < length items → slice_index (items ++ word ∷ []) k ≡ slice_index items k
-read_front [] word k inside = absurd (omega arith)
-read_front (first ∷ later) word zero inside = refl
-read_front (first ∷ later) word (suc k) inside = read_front later word k (omega arith)
+read_front : {X : Type 0} (items : List X) (item none : X) (k : ℕ) → k < length items → slice_index_or (items ++ item ∷ []) k none ≡ slice_index_or items k none
+read_front [] item none k inside = absurd (omega arith)
+read_front (first ∷ later) item none zero inside = refl
+read_front (first ∷ later) item none (suc k) inside = read_front later item none k (omega arith)
 
-read_last : (items : List ℕ) (word : ℕ) → slice_index (items ++ word ∷ []) (length items) ≡ word
-read_last [] word = refl
-read_last (first ∷ later) word = read_last later word
+read_last : {X : Type 0} (items : List X) (item none : X) → slice_index_or (items ++ item ∷ []) (length items) none ≡ item
+read_last [] item none = refl
+read_last (first ∷ later) item none = read_last later item none
 
-line_shift : (words : List ℕ) (word k : ℕ) → suc k < length words → slice_index (drop 1 (words ++ word ∷ [])) k ≡ slice_index words (suc k)
-line_shift [] word k inside = absurd (omega arith)
-line_shift (first ∷ later) word k inside = read_front later word k (omega arith)
+line_shift : {X : Type 0} (words : List X) (word none : X) (k : ℕ) → suc k < length words → slice_index_or (drop 1 (words ++ word ∷ [])) k none ≡ slice_index_or words (suc k) none
+line_shift [] word none k inside = absurd (omega arith)
+line_shift (first ∷ later) word none k inside = read_front later word none k (omega arith)
 
-line_last : (words : List ℕ) (word k : ℕ) → suc k ≡ length words → slice_index (drop 1 (words ++ word ∷ [])) k ≡ word
-line_last [] word k inside = absurd (omega arith)
-line_last (first ∷ later) word k inside = let last : k ≡ length later = omega arith in ap (slice_index (later ++ word ∷ [])) last ∙ read_last later word
+line_last : {X : Type 0} (words : List X) (word none : X) (k : ℕ) → suc k ≡ length words → slice_index_or (drop 1 (words ++ word ∷ [])) k none ≡ word
+line_last [] word none k inside = absurd (omega arith)
+line_last (first ∷ later) word none k inside = let last : k ≡ length later = omega arith in ap (λ at. slice_index_or (later ++ word ∷ []) at none) last ∙ read_last later word none
 
-line_length : (words : List ℕ) (word : ℕ) → length (drop 1 (words ++ word ∷ [])) ≡ length words
+line_length : {X : Type 0} (words : List X) (word : X) → length (drop 1 (words ++ word ∷ [])) ≡ length words
 line_length [] word = refl
 line_length (first ∷ later) word = length-append later (word ∷ []) ∙ omega arith
 
@@ -72,12 +74,18 @@ guarded false one other same = refl
 lt_or_last : (k n : ℕ) → k < n → (suc k < n) ⊎ (suc k ≡ n)
 lt_or_last k n inside = elim (eq-or-lt_of_le inside) [ inl same ↦ inr same | inr less ↦ inl less ]
 
--- the word of a read comes as many cycles behind it as the latency has
+-- what is asked for in a cycle comes as many cycles behind it as the latency has
+comes_behind : (asked : ℕ → ℕ) (latency cycle later : ℕ) → later ≡ cycle + latency → asked cycle ≡ (if nat_le latency later then asked (later - latency) else 0)
+comes_behind asked latency cycle later is =
+    let behind : nat_le latency later ≡ true = grind (arith, nat_tests) in
+    let back : later - latency ≡ cycle = omega arith in
+    ap asked (sym back) ∙ ap (λ test. if test then asked (later - latency) else 0) (sym behind)
+
 word_comes : (side : AgentSide) (script : List AgentStatement) (view : AgentView) (cycle later : ℕ) → later ≡ cycle + side.read_latency → word_asked_in side script view cycle ≡ word_behind side script view later
-word_comes side script view cycle later is =
-    let behind : nat_le side.read_latency later ≡ true = grind (arith, nat_tests) in
-    let back : later - side.read_latency ≡ cycle = omega arith in
-    ap (word_asked_in side script view) (sym back) ∙ ap (λ test. if test then word_asked_in side script view (later - side.read_latency) else 0) (sym behind)
+word_comes side script view cycle later is = comes_behind (word_asked_in side script view) side.read_latency cycle later is
+
+code_comes : (side : AgentSide) (script : List AgentStatement) (view : AgentView) (cycle later : ℕ) → later ≡ cycle + side.read_latency → code_asked_in side script view cycle ≡ code_behind side script view later
+code_comes side script view cycle later is = comes_behind (code_asked_in side script view) side.read_latency cycle later is
 
 -- ---- one cycle
 
@@ -101,6 +109,19 @@ module _ (script : List AgentStatement) (agent : AgentStandInValue) (view : Agen
       let levels = levels_at view.signals agent.cycle in
       ap (λ asks. word_asked side (contents_of agent.memory) levels asks) (sym (reads_is waits))
       ∙ ap (λ contents. word_asked side contents levels (takes_read side view agent.cycle)) stands.contents
+
+  code_is : view.waitrequest agent.cycle ≡ one_if (stalls_in agent.stalls agent.cycle) → code_now agent (levels_at view.signals agent.cycle) ≡ code_asked_in (agent_side agent.port) script view agent.cycle
+  code_is waits =
+      let side = agent_side agent.port in
+      let levels = levels_at view.signals agent.cycle in
+      ap (code_asked side (codes_of agent) levels) (sym (reads_is waits))
+      ∙ ap (λ codes. code_asked side codes levels (takes_read side view agent.cycle)) stands.codes
+
+  answer_is : view.waitrequest agent.cycle ≡ one_if (stalls_in agent.stalls agent.cycle) → (later : ℕ) → later ≡ agent.cycle + agent.port.read_latency
+      → answer_asked agent (levels_at view.signals agent.cycle) (reads agent (levels_at view.signals agent.cycle)) ≡ answer_behind (agent_side agent.port) script view later
+  answer_is waits later is =
+      let side = agent_side agent.port in
+      ap₂ answer (word_is waits ∙ word_comes side script view agent.cycle later is) (code_is waits ∙ code_comes side script view agent.cycle later is)
 
   module _ (after : AgentStandInValue) (waits : view.waitrequest agent.cycle ≡ one_if (stalls_in agent.stalls agent.cycle)) (behind : IsBehind agent (levels_at view.signals agent.cycle) after) where
     -- what is said of the old port and the next cycle is said of the new ones
@@ -147,31 +168,33 @@ module _ (script : List AgentStatement) (agent : AgentStandInValue) (view : Agen
         let side = agent_side agent.port in
         let levels = levels_at view.signals agent.cycle in
         behind.waiting late
-        ∙ ap (λ latency. waiting_after side latency agent.cycle (contents_of agent.memory) levels (reads agent levels) agent.waiting) stands.latency
-        ∙ ap (λ contents. waiting_after side (latency_of script) agent.cycle contents levels (reads agent levels) agent.waiting) stands.contents
-        ∙ ap (λ asks. waiting_after side (latency_of script) agent.cycle (contents_before side script view agent.cycle) levels asks agent.waiting) (sym (reads_is waits))
-        ∙ ap (waiting_after side (latency_of script) agent.cycle (contents_before side script view agent.cycle) levels (takes_read side view agent.cycle)) (stands.waiting late)
+        ∙ ap (λ latency. waiting_after side latency agent.cycle (contents_of agent.memory) (codes_of agent) levels (reads agent levels) agent.waiting) stands.latency
+        ∙ ap₂ (λ contents codes. waiting_after side (latency_of script) agent.cycle contents codes levels (reads agent levels) agent.waiting) stands.contents stands.codes
+        ∙ ap (λ asks. waiting_after side (latency_of script) agent.cycle (contents_before side script view agent.cycle) (code_at side script) levels asks agent.waiting) (sym (reads_is waits))
+        ∙ ap (waiting_after side (latency_of script) agent.cycle (contents_before side script view agent.cycle) (code_at side script) levels (takes_read side view agent.cycle)) (stands.waiting late)
         ∙ there (λ port c. waiting_before (agent_side port) script view c)
 
     delay_next : agent.port.readdatavalid ≡ false → length after.delayed ≡ agent.port.read_latency
     delay_next fixed = ap length (behind.delayed fixed) ∙ line_length agent.delayed _ ∙ stands.delay fixed
 
-    delayed_next : agent.port.readdatavalid ≡ false → (k : ℕ) → k < agent.port.read_latency → slice_index after.delayed k ≡ word_behind (agent_side agent.port) script view (suc agent.cycle + k)
+    delayed_next : agent.port.readdatavalid ≡ false → (k : ℕ) → k < agent.port.read_latency → slice_index_or after.delayed k no_answer ≡ answer_behind (agent_side agent.port) script view (suc agent.cycle + k)
     delayed_next fixed k inside =
         let side = agent_side agent.port in
-        let word = word_now agent (levels_at view.signals agent.cycle) in
-        ap (λ (words : List ℕ). slice_index words k) (behind.delayed fixed)
+        let levels = levels_at view.signals agent.cycle in
+        let word = answer_asked agent levels (reads agent levels) in
+        ap (λ (words : List Answer). slice_index_or words k no_answer) (behind.delayed fixed)
         ∙ elim (lt_or_last k agent.port.read_latency inside) [
           | inl less ↦
-              line_shift agent.delayed word k (omega (arith, stands.delay fixed)) ∙ stands.delayed fixed (suc k) less ∙ ap (word_behind side script view) (omega arith)
+              line_shift agent.delayed word no_answer k (omega (arith, stands.delay fixed)) ∙ stands.delayed fixed (suc k) less ∙ ap (answer_behind side script view) (omega arith)
           | inr last ↦
-              line_last agent.delayed word k (omega (arith, stands.delay fixed)) ∙ word_is waits ∙ word_comes side script view agent.cycle (suc agent.cycle + k) (omega arith)
+              line_last agent.delayed word no_answer k (omega (arith, stands.delay fixed)) ∙ answer_is waits (suc agent.cycle + k) (omega arith)
         ]
 
     pub stands_next : StandsFor script after view
     stands_next = record {
       stalls = behind.stalls ∙ stands.stalls;
       latency = behind.latency ∙ stands.latency;
+      codes = ap₂ (λ (port : AgentPort) (coded : List AgentStatement). code_at (agent_side port) coded) behind.port behind.coded ∙ stands.codes ∙ ap (λ (port : AgentPort). code_at (agent_side port) script) (sym behind.port);
       stood = stood_next;
       burst = burst_next;
       contents = contents_next;
@@ -179,20 +202,25 @@ module _ (script : List AgentStatement) (agent : AgentStandInValue) (view : Agen
       delay = λ fixed. delay_next (ap (λ (port : AgentPort). port.readdatavalid) (sym behind.port) ∙ fixed) ∙ ap (λ (port : AgentPort). port.read_latency) (sym behind.port);
       delayed = λ fixed k inside.
           delayed_next (ap (λ (port : AgentPort). port.readdatavalid) (sym behind.port) ∙ fixed) k (subst (λ (port : AgentPort). k < port.read_latency) behind.port inside)
-          ∙ there (λ port c. word_behind (agent_side port) script view (c + k));
+          ∙ there (λ port c. answer_behind (agent_side port) script view (c + k));
     }
 
   pub shows : ShowsAsDefined script agent view
   shows =
       let side = agent_side agent.port in
       let by_kind = λ (late : Bool). if late then word_due agent.cycle (waiting_before side script view agent.cycle) else word_behind side script view agent.cycle in
-      let shown_by_kind = λ (late : Bool). if late then word_due agent.cycle agent.waiting else slice_index agent.delayed 0 in
+      let shown_by_kind = λ (late : Bool). if late then word_due agent.cycle agent.waiting else (slice_index_or agent.delayed 0 no_answer).word in
+      let code_by_kind = λ (late : Bool). if late then code_due agent.cycle (waiting_before side script view agent.cycle) else code_behind side script view agent.cycle in
+      let code_shown_by_kind = λ (late : Bool). if late then code_due agent.cycle agent.waiting else (slice_index_or agent.delayed 0 no_answer).code in
       record {
         waitrequest = ap (λ pattern. stalls_in pattern agent.cycle) stands.stalls;
         readdatavalid = guarded agent.port.readdatavalid _ _ (λ late. ap (is_due agent.cycle) (stands.waiting late));
         late = λ late. ap shown_by_kind late ∙ ap (word_due agent.cycle) (stands.waiting late) ∙ sym (ap by_kind late);
-        fixed = λ fixed some. ap shown_by_kind fixed ∙ stands.delayed fixed 0 some ∙ ap (word_behind side script view) (add-zero agent.cycle) ∙ sym (ap by_kind fixed);
+        fixed = λ fixed some. ap shown_by_kind fixed ∙ ap (λ (one : Answer). one.word) (stands.delayed fixed 0 some) ∙ ap (word_behind side script view) (add-zero agent.cycle) ∙ sym (ap by_kind fixed);
         at_once = λ fixed none waits. word_is waits ∙ word_comes side script view agent.cycle agent.cycle (omega arith) ∙ sym (ap by_kind fixed);
+        late_code = λ late. ap code_shown_by_kind late ∙ ap (code_due agent.cycle) (stands.waiting late) ∙ sym (ap code_by_kind late);
+        fixed_code = λ fixed some. ap code_shown_by_kind fixed ∙ ap (λ (one : Answer). one.code) (stands.delayed fixed 0 some) ∙ ap (code_behind side script view) (add-zero agent.cycle) ∙ sym (ap code_by_kind fixed);
+        code_at_once = λ fixed none waits. code_is waits ∙ code_comes side script view agent.cycle agent.cycle (omega arith) ∙ sym (ap code_by_kind fixed);
       }
 
 -- ---- where the words lie that are taken

@@ -28,18 +28,18 @@ commands_append : (waiting more : List Waiting) → commands_among (waiting ++ m
 commands_append waiting more = ap length (filter-append (λ (one : Waiting). one.last) waiting more) ∙ length-append _ _
 
 -- of the words of a read from one on, the last alone ends a command
-one_ends : (side : AgentSide) (contents : ℕ → ℕ) (due : ℕ) (levels : Levels) (first more : ℕ) → first + suc more ≡ levels.count →
-    commands_among (map (asked_word side contents due levels) (numbers first (suc more))) ≡ 1
-one_ends side contents due levels first zero is =
+one_ends : (side : AgentSide) (contents codes : ℕ → ℕ) (due : ℕ) (levels : Levels) (first more : ℕ) → first + suc more ≡ levels.count →
+    commands_among (map (asked_word side contents codes due levels) (numbers first (suc more))) ≡ 1
+one_ends side contents codes due levels first zero is =
     let last : (first + 1 == levels.count) ≡ true = eq-eqb (first + 1) levels.count (omega arith) in rw last refl
-one_ends side contents due levels first (suc more) is =
-    let last : (first + 1 == levels.count) ≡ false = grind (arith, nat_tests) in rw last (one_ends side contents due levels (suc first) more (omega arith))
+one_ends side contents codes due levels first (suc more) is =
+    let last : (first + 1 == levels.count) ≡ false = grind (arith, nat_tests) in rw last (one_ends side contents codes due levels (suc first) more (omega arith))
 
-pub one_command : (side : AgentSide) (contents : ℕ → ℕ) (due : ℕ) (levels : Levels) → 1 ≤ levels.count → commands_among (asked_words side contents due levels) ≡ 1
-one_command side contents due levels some =
-    elim (levels.count) as (λ count. count ≡ levels.count → 1 ≤ count → commands_among (map (asked_word side contents due levels) (numbers 0 count)) ≡ 1) [
+pub one_command : (side : AgentSide) (contents codes : ℕ → ℕ) (due : ℕ) (levels : Levels) → 1 ≤ levels.count → commands_among (asked_words side contents codes due levels) ≡ 1
+one_command side contents codes due levels some =
+    elim (levels.count) as (λ count. count ≡ levels.count → 1 ≤ count → commands_among (map (asked_word side contents codes due levels) (numbers 0 count)) ≡ 1) [
       | zero ↦ λ is some. absurd (omega arith)
-      | suc more ↦ λ is some. one_ends side contents due levels 0 more (omega arith)
+      | suc more ↦ λ is some. one_ends side contents codes due levels 0 more (omega arith)
     ] refl some
 
 -- ---- groups
@@ -55,14 +55,14 @@ grouped_append longest (first ∷ later) more grouped behind =
     ap (λ n. longest * n) (commands_append (first ∷ later) more) ∙ mul-add longest (commands_among (first ∷ later)) (commands_among more) in
     (omega (arith, parts, length-append (first ∷ later) more, grouped.0, grouped_length longest more behind), grouped_append longest later more grouped.1 behind)
 
-grouped_from : (side : AgentSide) (contents : ℕ → ℕ) (due : ℕ) (levels : Levels) (longest first more : ℕ) → first + more ≡ levels.count → levels.count ≤ longest →
-    AreGrouped longest (map (asked_word side contents due levels) (numbers first more))
-grouped_from side contents due levels longest first zero is short = tt
-grouped_from side contents due levels longest first (suc more) is short =
-    let one = one_ends side contents due levels first more is in
-    let whole : longest * commands_among (map (asked_word side contents due levels) (numbers first (suc more))) ≡ longest = ap (λ n. longest * n) one ∙ omega arith in
-    let long : length (map (asked_word side contents due levels) (numbers first (suc more))) ≡ suc more = length-map (numbers first (suc more)) (asked_word side contents due levels) ∙ length_numbers first (suc more) in
-    (omega (arith, whole, long), grouped_from side contents due levels longest (suc first) more (omega arith) short)
+grouped_from : (side : AgentSide) (contents codes : ℕ → ℕ) (due : ℕ) (levels : Levels) (longest first more : ℕ) → first + more ≡ levels.count → levels.count ≤ longest →
+    AreGrouped longest (map (asked_word side contents codes due levels) (numbers first more))
+grouped_from side contents codes due levels longest first zero is short = tt
+grouped_from side contents codes due levels longest first (suc more) is short =
+    let one = one_ends side contents codes due levels first more is in
+    let whole : longest * commands_among (map (asked_word side contents codes due levels) (numbers first (suc more))) ≡ longest = ap (λ n. longest * n) one ∙ omega arith in
+    let long : length (map (asked_word side contents codes due levels) (numbers first (suc more))) ≡ suc more = length-map (numbers first (suc more)) (asked_word side contents codes due levels) ∙ length_numbers first (suc more) in
+    (omega (arith, whole, long), grouped_from side contents codes due levels longest (suc first) more (omega arith) short)
 
 -- ---- room
 
@@ -73,13 +73,13 @@ room_for waiting commands longest pending room count fits few short =
     let counted : longest * commands ≡ longest * commands_among waiting = ap (λ n. longest * n) fits.counted in
     omega (arith, most, parts, counted, fits.roomy, grouped_length longest waiting fits.grouped)
 
-pub fits_more : (side : AgentSide) (contents : ℕ → ℕ) (due : ℕ) (levels : Levels) (waiting : List Waiting) (commands longest pending room : ℕ) → FitRoom waiting commands longest pending room →
-    commands < pending → levels.count ≤ longest → 1 ≤ levels.count → FitRoom (waiting ++ asked_words side contents due levels) (commands + 1) longest pending room
-fits_more side contents due levels waiting commands longest pending room fits few short some =
+pub fits_more : (side : AgentSide) (contents codes : ℕ → ℕ) (due : ℕ) (levels : Levels) (waiting : List Waiting) (commands longest pending room : ℕ) → FitRoom waiting commands longest pending room →
+    commands < pending → levels.count ≤ longest → 1 ≤ levels.count → FitRoom (waiting ++ asked_words side contents codes due levels) (commands + 1) longest pending room
+fits_more side contents codes due levels waiting commands longest pending room fits few short some =
     record {
-      counted = omega (arith, fits.counted, commands_append waiting (asked_words side contents due levels), one_command side contents due levels some);
+      counted = omega (arith, fits.counted, commands_append waiting (asked_words side contents codes due levels), one_command side contents codes due levels some);
       few = omega arith;
-      grouped = grouped_append longest waiting (asked_words side contents due levels) fits.grouped (grouped_from side contents due levels longest 0 levels.count (omega arith) short);
+      grouped = grouped_append longest waiting (asked_words side contents codes due levels) fits.grouped (grouped_from side contents codes due levels longest 0 levels.count (omega arith) short);
       roomy = fits.roomy;
     }
 

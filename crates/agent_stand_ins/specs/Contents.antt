@@ -5,7 +5,7 @@ use Rattle.mm_runs.specs.Operations.{Operation, own_operations, memory_after}
 use Rattle.mm_runs.specs.Operations.Operation.{Write}
 use Rattle.mm_runs.specs.Commands.{Transfer, accepted, agent_accepts}
 use Rattle.scenario_tables.specs.declared.statements.AgentStatement.{AgentStatement}
-use Rattle.scenario_tables.specs.declared.statements.AgentStatement.TheVariants.{Stall, Latency, Fill}
+use Rattle.scenario_tables.specs.declared.statements.AgentStatement.TheVariants.{Stall, Latency, Fill, Code}
 
 -- bytes that are written one after another from an offset on
 abbrev pub writes_from : ℕ → List ℕ → List Operation
@@ -16,6 +16,7 @@ abbrev pub fills : AgentStatement → List Operation
 fills (Stall pattern) = []
 fills (Latency cycles) = []
 fills (Fill offset bytes) = writes_from offset bytes
+fills (Code offset code) = []
 
 -- the bytes at first: 0 but for those that are filled, a later statement over an earlier one
 abbrev pub filled : List AgentStatement → ℕ → ℕ

@@ -1,4 +1,5 @@
 pub mod Contents
+pub mod Codes
 pub mod Answers
 pub mod StandIns
 pub mod Memory

@@ -1,17 +1,18 @@
 //! What holds of every run with stand-ins, and small runs that show it. The functions do nothing; their contracts are the laws.
 
-ghost use Rattle.std.specs.Prelude.{◌≡◌, ◌+◌, ◌≤◌, ℕ, true, false, IsTrue, List, length, map, ◌++◌};
+ghost use Rattle.std.specs.Prelude.{◌≡◌, ◌+◌, ◌≤◌, ℕ, true, false, IsTrue, IsFalse, List, [], ◌∷◌, length, map, ◌++◌};
 ghost use Rattle.iface_roles.specs.declared.records.AgentPort.{AgentPort};
 ghost use Rattle.mm_runs.specs.Views.{AgentView, levels_at};
 ghost use Rattle.mm_runs.specs.Legal.{IsLegalAgent, AreLegal, IsWithinPendingBound, words_asked};
 ghost use Rattle.mm_runs.specs.Commands.{agent_accepts, words_before};
-ghost use Rattle.agent_stand_ins.specs.Answers.{waiting_before};
+ghost use Rattle.agent_stand_ins.specs.Answers.{waiting_before, answer_of};
 ghost use Rattle.memory_sides.specs.Sides.{agent_side};
 ghost use Rattle.scenario_tables.specs.declared.statements.AgentStatement.{AgentStatement};
-ghost use Rattle.agent_stand_ins.specs.StandIns.{IsAgentStandIn, stalls_in, words_given, words_found};
-ghost use Rattle.agent_stand_ins.specs.declared.waiting.Waiting.{Waiting};
+ghost use Rattle.scenario_tables.specs.declared.statements.AgentStatement.TheVariants.{Fill, Code};
+ghost use Rattle.scenario_tables.specs.Statements.{IsAgentScript};
+ghost use Rattle.agent_stand_ins.specs.StandIns.{IsAgentStandIn, stalls_in, code_in, words_given, words_found};
 ghost use Rattle.agent_stand_ins.specs.Whole.{AgentStandInValue, IsFirst, IsBehind, StandsFor, ShowsAsDefined, TakesAsDefined};
-ghost use Rattle.agent_stand_ins.specs.Worked.{late_gives, late_word, late_byte, fixed_word};
+ghost use Rattle.agent_stand_ins.specs.Worked.{late_gives, late_word, late_code, late_byte, fixed_word, fixed_code, byte_code, wide_code};
 ghost use Rattle.histories.specs.History.{one_if};
 
 /// Whatever the module shows, a stand-in is a legal agent.
@@ -28,11 +29,17 @@ pub fn borne_reads_are_answered()
 {}
 
 /// Under the same conditions the words that are given are, in order, what the reads found when they were taken: what the writes taken
-/// before them had left.
+/// before them had left, each with the code of its place.
 pub fn words_come_in_order()
     ensures { (port : AgentPort) (script : List AgentStatement) (view : AgentView) (end : ℕ) → IsTrue port.readdatavalid → IsAgentStandIn port script view end
         → AreLegal (agent_side port).shape view.signals (agent_accepts (agent_side port) view) end → IsWithinPendingBound (agent_side port) view end
-        → (c : ℕ) → c ≤ end → words_given view c ++ map (λ (one : Waiting). one.word) (waiting_before (agent_side port) script view c) ≡ words_found port script view c }
+        → (c : ℕ) → c ≤ end → words_given view c ++ map answer_of (waiting_before (agent_side port) script view c) ≡ words_found port script view c }
+{}
+
+/// What a stand-in's `response` bears fits its port: a code from 0 to 3, and 0 where there is no such port.
+pub fn codes_fit_their_port()
+    ensures few { (port : AgentPort) (script : List AgentStatement) (view : AgentView) (c : ℕ) → IsAgentScript port script → code_in port script view c ≤ 3 }
+    ensures none { (port : AgentPort) (script : List AgentStatement) (view : AgentView) (c : ℕ) → IsAgentScript port script → IsFalse port.response → code_in port script view c ≡ 0 }
 {}
 
 /// A stand-in that is made stands for every run before its first cycle; from cycle to cycle it stands for a run that shows what
@@ -52,6 +59,10 @@ pub fn late_words()
     ensures first_word { late_word 3 ≡ 4660 }
     ensures between { late_word 4 ≡ 0 }
     ensures second_word { late_word 7 ≡ 4813 }
+    ensures no_code_yet { late_code 2 ≡ 0 }
+    ensures first_code { late_code 3 ≡ 2 }
+    ensures no_code_between { late_code 4 ≡ 0 }
+    ensures second_code { late_code 7 ≡ 2 }
     ensures unwritten { late_byte 3 2 ≡ 52 }
     ensures written { late_byte 4 2 ≡ 205 }
     ensures not_enabled { late_byte 4 3 ≡ 18 }
@@ -66,5 +77,21 @@ pub fn fixed_words()
     ensures first_word { fixed_word 2 ≡ 4660 }
     ensures between { fixed_word 3 ≡ 0 }
     ensures second_word { fixed_word 6 ≡ 4813 }
+    ensures no_code_yet { fixed_code 1 ≡ 0 }
+    ensures first_code { fixed_code 2 ≡ 2 }
+    ensures no_code_between { fixed_code 3 ≡ 0 }
     ensures not_at_once { ¬ (fixed_word 5 ≡ 4813) }
+{}
+
+/// The codes of words of one byte, and of words of four: the last statement of a byte of the word counts.
+pub fn stated_codes()
+    ensures its_word { byte_code (Code 2 2 ∷ []) 2 ≡ 2 }
+    ensures another_word { byte_code (Code 2 2 ∷ []) 0 ≡ 0 }
+    ensures past_the_span { byte_code (Code 2 2 ∷ []) 6 ≡ 2 }
+    ensures of_the_first_byte { wide_code (Code 1 1 ∷ []) 0 ≡ 1 }
+    ensures not_of_the_next_word { wide_code (Code 1 1 ∷ Code 4 3 ∷ []) 0 ≡ 1 }
+    ensures of_the_later_byte { wide_code (Code 1 1 ∷ Fill 0 (7 ∷ []) ∷ Code 2 3 ∷ []) 0 ≡ 3 }
+    ensures not_of_the_higher_byte { wide_code (Code 2 3 ∷ Code 1 1 ∷ []) 0 ≡ 1 }
+    ensures not_the_greatest { ¬ (wide_code (Code 2 3 ∷ Code 1 1 ∷ []) 0 ≡ 3) }
+    ensures taken_back { wide_code (Code 1 1 ∷ Code 2 0 ∷ []) 0 ≡ 0 }
 {}

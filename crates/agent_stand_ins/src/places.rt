@@ -1,6 +1,6 @@
 //! Where the words of an agent lie.
 
-ghost use Rattle.std.specs.Prelude.{◌≡◌, ◌+◌, ◌*◌, ◌%◌, ◌<◌, ◌≤◌, ◌^◌, ℕ};
+ghost use Rattle.std.specs.Prelude.{◌≡◌, ◌+◌, ◌*◌, ◌/◌, ◌%◌, ◌<◌, ◌≤◌, ◌^◌, ℕ};
 ghost use Rattle.iface_roles.specs.Proper.{IsBoundedAgent, span_of};
 ghost use Rattle.mm_runs.specs.Commands.{byte_address};
 ghost use Rattle.memory_sides.specs.Sides.{agent_side};
@@ -41,7 +41,8 @@ pub(crate) fn byte_address(port: &AgentPort, address: u32) -> u64
 pub(crate) fn word_number(port: &AgentPort, address: u64) -> u32
     requires bounded { IsBoundedAgent port.now }
     requires whole { address % port.now.word_bytes ≡ 0 }
-    ensures { (lane : ℕ) → lane < port.now.word_bytes → (address + lane) % span_of port.now ≡ result * port.now.word_bytes + lane }
+    ensures number { result ≡ address % span_of port.now / port.now.word_bytes }
+    ensures places { (lane : ℕ) → lane < port.now.word_bytes → (address + lane) % span_of port.now ≡ result * port.now.word_bytes + lane }
 {
     ((address % span(port)) / u64::from(port.word_bytes)) as u32
 }

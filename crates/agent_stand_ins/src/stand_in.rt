@@ -7,13 +7,15 @@ ghost use Rattle.memory_sides.specs.Sides.{agent_side, bound_of};
 ghost use Rattle.scenario_tables.specs.Statements.{IsAgentScript};
 ghost use Rattle.host_stand_ins.specs.Steps.{levels_of};
 ghost use Rattle.agent_stand_ins.specs.Contents.{filled};
-ghost use Rattle.agent_stand_ins.specs.Answers.{waiting_after, word_asked};
+ghost use Rattle.agent_stand_ins.specs.Codes.{code_at};
+ghost use Rattle.agent_stand_ins.specs.Answers.{waiting_after, word_asked, code_asked};
 ghost use Rattle.agent_stand_ins.specs.StandIns.{stalls_in};
 ghost use Rattle.agent_stand_ins.specs.Memory.{contents_of};
-ghost use Rattle.agent_stand_ins.specs.Whole.{carries, wait_of, accepts, address_shown, gives, word_shown, word_now, IsAnswered, IsBehind, IsFirst};
+ghost use Rattle.agent_stand_ins.specs.Whole.{carries, wait_of, accepts, address_shown, gives, word_shown, word_now, code_shown, code_now, IsAnswered, IsBehind, IsFirst};
 
 use crate::burst::WriteBurst;
-use crate::delayed::DelayedWords;
+use crate::codes::{code_at, coded};
+use crate::delayed::{Answer, DelayedWords};
 use crate::memory::Memory;
 use crate::places::{byte_address, span, word_at};
 use crate::script::{fill, latency, stall_pattern};
@@ -25,13 +27,15 @@ use scenario_tables::AgentStatement;
 use std::alloc::Global;
 use std::marker::Model;
 
-/// Stands in for an agent: a map of bytes that stalls by its pattern and gives the words that it is asked for. All its
-/// memory is taken when it is made.
+/// Stands in for an agent: a map of bytes that stalls by its pattern and gives the words that it is asked for, with their
+/// codes. All its memory is taken when it is made.
 #[derive(Drop)]
 pub struct AgentStandIn<'a> {
     port: AgentPort,
     stalls: &'a [bool],
     latency: u8,
+    /// The statements that say the codes of words.
+    coded: &'a [AgentStatement],
     cycle: u32,
     /// For how many cycles there is room.
     cycles: u32,
@@ -48,7 +52,7 @@ impl<'a> Model for AgentStandIn<'a> {
 
     ghost Value = { AgentStandInValue };
 
-    ghost view = { λ s. record { port = s.port; stalls = s.stalls.now; latency = s.latency; cycle = s.cycle; cycles = s.cycles; stood = s.stood; burst = burst_of s.burst; memory = s.memory; waiting = s.waiting.waiting; delayed = s.delayed } };
+    ghost view = { λ s. record { port = s.port; stalls = s.stalls.now; latency = s.latency; coded = s.coded.now; cycle = s.cycle; cycles = s.cycles; stood = s.stood; burst = burst_of s.burst; memory = s.memory; waiting = s.waiting.waiting; delayed = s.delayed } };
 
     ghost invariant = { λ s. IsKept s.port s.cycle s.cycles s.stood s.burst s.memory s.waiting };
 }
@@ -102,11 +106,29 @@ fn word_asked(port: &AgentPort, memory: &Memory, levels: &CommandLevels, reads: 
     }
 }
 
+/// The code of the word that a command asks for, 0 where none does.
+fn code_asked(
+    port: &AgentPort,
+    script: &[AgentStatement],
+    levels: &CommandLevels,
+    reads: bool,
+) -> u8
+    requires { IsBoundedAgent port.now }
+    ensures { result ≡ code_asked (agent_side port.now) (code_at (agent_side port.now) script.now) (levels_of levels.now) reads }
+{
+    if reads {
+        code_at(port, script, byte_address(port, levels.address))
+    } else {
+        0
+    }
+}
+
 /// Ends a cycle for the words that wait.
 fn pass_waiting(
     waiting: &mut WaitingWords,
     port: &AgentPort,
     memory: &Memory,
+    script: &[AgentStatement],
     cycle: u32,
     latency: u8,
     levels: &CommandLevels,
@@ -117,13 +139,13 @@ fn pass_waiting(
     requires few { cycle < 65536 }
     requires longest { waiting.old.longest ≡ longest_burst (agent_side port.now).burst_bits }
     requires pending { waiting.old.pending ≡ (agent_side port.now).pending }
-    ensures waiting { waiting.new.waiting ≡ waiting_after (agent_side port.now) latency cycle (contents_of memory.now) (levels_of levels.now) reads waiting.old.waiting }
+    ensures waiting { waiting.new.waiting ≡ waiting_after (agent_side port.now) latency cycle (contents_of memory.now) (code_at (agent_side port.now) script.now) (levels_of levels.now) reads waiting.old.waiting }
     ensures longest { waiting.new.longest ≡ waiting.old.longest }
     ensures pending { waiting.new.pending ≡ waiting.old.pending }
 {
     waiting.go_on(cycle);
     if reads && waiting.bears(levels.count) {
-        waiting.ask(port, memory, cycle + u32::from(latency), levels);
+        waiting.ask(port, memory, script, cycle + u32::from(latency), levels);
     }
 }
 
@@ -198,6 +220,7 @@ impl<'a> AgentStandIn<'a> {
             port: *port,
             stalls: stall_pattern(script),
             latency: latency(script),
+            coded: coded(script),
             cycle: 0,
             cycles,
             stood: 0,
@@ -236,7 +259,18 @@ impl<'a> AgentStandIn<'a> {
         if self.port.readdatavalid {
             self.waiting.word(self.cycle)
         } else {
-            self.delayed.first()
+            self.delayed.first().word
+        }
+    }
+
+    /// The code of that word, which `response` bears: 0 where none is given.
+    pub fn code(&self) -> u8
+        ensures { result ≡ code_shown self.now }
+    {
+        if self.port.readdatavalid {
+            self.waiting.code(self.cycle)
+        } else {
+            self.delayed.first().code
         }
     }
 
@@ -272,6 +306,14 @@ impl<'a> AgentStandIn<'a> {
         word_asked(&self.port, &self.memory, levels, reads)
     }
 
+    /// The code of the word that these levels ask for in this cycle, 0 where they ask for none.
+    pub fn code_now(&self, levels: &CommandLevels) -> u8
+        ensures { result ≡ code_now self.now (levels_of levels.now) }
+    {
+        let reads = self.accepts(levels) && !levels.write;
+        code_asked(&self.port, self.coded, levels, reads)
+    }
+
     /// Ends the cycle for the words that wait or are under way.
     fn answer(&mut self, levels: &CommandLevels, reads: bool)
         requires { self.old.cycle < self.old.cycles }
@@ -282,14 +324,17 @@ impl<'a> AgentStandIn<'a> {
                 &mut self.waiting,
                 &self.port,
                 &self.memory,
+                self.coded,
                 self.cycle,
                 self.latency,
                 levels,
                 reads,
             );
         } else {
-            let word = word_asked(&self.port, &self.memory, levels, reads);
-            self.delayed.go_on(word);
+            self.delayed.go_on(Answer {
+                word: word_asked(&self.port, &self.memory, levels, reads),
+                code: code_asked(&self.port, self.coded, levels, reads),
+            });
         }
     }
 

@@ -5,15 +5,18 @@ ghost use Rattle.circular_buffer.specs.Buffer.{buffer};
 ghost use Rattle.iface_roles.specs.Proper.{IsBoundedAgent};
 ghost use Rattle.memory_sides.specs.Sides.{agent_side};
 ghost use Rattle.host_stand_ins.specs.Steps.{levels_of};
-ghost use Rattle.agent_stand_ins.specs.Answers.{is_due, word_due, still_waiting, commands_among, asked_words};
+ghost use Rattle.agent_stand_ins.specs.Answers.{is_due, word_due, code_due, still_waiting, commands_among, asked_words};
 ghost use Rattle.agent_stand_ins.specs.Memory.{contents_of};
+ghost use Rattle.agent_stand_ins.specs.Codes.{code_at};
 
+use crate::codes::code_at;
 use crate::memory::Memory;
 use crate::places::{byte_address, word_at};
 use av_base::NoMemory;
 use circular_buffer::HeapCircularBuffer;
 use host_stand_ins::CommandLevels;
 use iface_roles::AgentPort;
+use scenario_tables::AgentStatement;
 use std::alloc::Global;
 use std::marker::Model;
 
@@ -21,6 +24,7 @@ use std::marker::Model;
 #[derive(Clone, Copy, PartialEq, Eq)]
 pub struct Waiting {
     pub word: u128,
+    pub code: u8,
     /// The first cycle in which it may be given.
     pub due: u32,
     /// It is the last of its command.
@@ -54,19 +58,21 @@ fn push_words(
     words: &mut HeapCircularBuffer<Waiting>,
     port: &AgentPort,
     memory: &Memory,
+    script: &[AgentStatement],
     due: u32,
     levels: &CommandLevels,
 )
     requires bounded { IsBoundedAgent port.now }
     requires bytes { memory.now.word_bytes ≡ port.now.word_bytes }
     requires room { length words.old.items + levels.now.count ≤ words.old.capacity }
-    ensures { words.new ≡ buffer (words.old.items ++ asked_words (agent_side port.now) (contents_of memory.now) due (levels_of levels.now)) words.old.capacity }
+    ensures { words.new ≡ buffer (words.old.items ++ asked_words (agent_side port.now) (contents_of memory.now) (code_at (agent_side port.now) script.now) due (levels_of levels.now)) words.old.capacity }
 {
     let first = byte_address(port, levels.address);
     'words: for number in 0..levels.count {
         let address = first + u64::from(number) * u64::from(port.word_bytes);
         let _ = words.try_push_back(Waiting {
             word: word_at(port, memory, address),
+            code: code_at(port, script, address),
             due,
             last: number + 1 == levels.count,
         });
@@ -109,6 +115,16 @@ impl WaitingWords {
         }
     }
 
+    /// And its code.
+    pub(crate) fn code(&self, cycle: u32) -> u8
+        ensures { result ≡ code_due cycle self.now.waiting }
+    {
+        match self.words.front() {
+            Some(first) if first.due <= cycle => first.code,
+            _ => 0,
+        }
+    }
+
     /// Ends a cycle: the word that was given waits no more.
     pub(crate) fn go_on(&mut self, cycle: u32)
         ensures waiting { self.new.waiting ≡ still_waiting cycle self.old.waiting }
@@ -138,6 +154,7 @@ impl WaitingWords {
         &mut self,
         port: &AgentPort,
         memory: &Memory,
+        script: &[AgentStatement],
         due: u32,
         levels: &CommandLevels,
     )
@@ -145,11 +162,11 @@ impl WaitingWords {
         requires bytes { memory.now.word_bytes ≡ port.now.word_bytes }
         requires few { commands_among self.old.waiting < self.old.pending }
         requires short { levels.now.count ≤ self.old.longest }
-        ensures waiting { self.new.waiting ≡ self.old.waiting ++ asked_words (agent_side port.now) (contents_of memory.now) due (levels_of levels.now) }
+        ensures waiting { self.new.waiting ≡ self.old.waiting ++ asked_words (agent_side port.now) (contents_of memory.now) (code_at (agent_side port.now) script.now) due (levels_of levels.now) }
         ensures longest { self.new.longest ≡ self.old.longest }
         ensures pending { self.new.pending ≡ self.old.pending }
     {
-        push_words(&mut self.words, port, memory, due, levels);
+        push_words(&mut self.words, port, memory, script, due, levels);
         if levels.count > 0 {
             self.commands += 1;
         }

@@ -12,6 +12,6 @@ returns-clause-contents c =
     let levels = c.args.levels.now in
     let contents = contents_of c.args.memory.now in
     c.write.ensures.contents
-    ∙ ap (memory_after contents) (own_lanes c.args.port.now c.address-address.result c.word_number.result levels.word levels.enables c.args.memory.now.word_bytes c.requires.bytes c.word_number.ensures
+    ∙ ap (memory_after contents) (own_lanes c.args.port.now c.address-address.result c.word_number.result levels.word levels.enables c.args.memory.now.word_bytes c.requires.bytes c.word_number.ensures.places
     ∙ ap (λ address. let beat : Beat = record { kind = Writes; address = address; word = levels.word; enables = levels.enables } in own_operations side.shape side.span beat) c.address-address.ensures.value
     ∙ sym (append-nil _))

@@ -1,8 +1,9 @@
 use Rattle.std.proofs.Common.{◌≡◌, replicate}
+use Rattle.agent_stand_ins.specs.Answers.{no_answer}
 use Rattle.agent_stand_ins.proofs.delayed.DelayedWords.new.Given as goal
 
 abbrev pub invariant-cycles : goal.invariant-cycles
 invariant-cycles l = record {
-  zeros : l.words.items ≡ replicate l.counter 0;
-  room : l.words.capacity ≡ l.latency;
+  none : l.answers.items ≡ replicate l.counter no_answer;
+  room : l.answers.capacity ≡ l.latency;
 }
