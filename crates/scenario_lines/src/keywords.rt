@@ -9,6 +9,7 @@ pub enum Keyword {
     Read,
     Idle,
     Fill,
+    Code,
     Stall,
     Latency,
     Beat,
@@ -36,6 +37,9 @@ impl Keyword {
         if word == b"fill".as_slice() {
             return Some(Keyword::Fill);
         }
+        if word == b"code".as_slice() {
+            return Some(Keyword::Code);
+        }
         if word == b"stall".as_slice() {
             return Some(Keyword::Stall);
         }
@@ -61,6 +65,7 @@ impl Keyword {
             Keyword::Read => count == 5,
             Keyword::Idle => count == 3,
             Keyword::Fill => count == 4,
+            Keyword::Code => count == 4,
             Keyword::Stall => count == 3,
             Keyword::Latency => count == 3,
             Keyword::Beat => count == 7,

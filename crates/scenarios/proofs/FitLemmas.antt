@@ -16,7 +16,7 @@ use Rattle.scenario_tables.specs.Statements.{IsRest, longest_of, all_lanes, Fits
 use Rattle.scenario_lines.specs.Words.{word_at}
 use Rattle.scenario_lines.specs.Spelling.{is_hexadecimal, hexadecimal_in, count_in, are_bytes, bytes_in, is_pattern, pattern_in}
 use Rattle.scenarios.specs.Hosts.{CanWrite, CanRead, is_rest, is_burst, fits_address, fits_enables, fits_command, fits_word, write_of, read_of}
-use Rattle.scenarios.specs.Agents.{CanFill, CanWaitFor, fill_of, pattern_of}
+use Rattle.scenarios.specs.Agents.{CanFill, CanAnswer, CanWaitFor, fill_of, code_of, pattern_of}
 use Rattle.scenarios.specs.Streams.{IsShown, beat_of, fits_channel, fits_ports, goes_on, is_marked_well, keeps_packets}
 use Rattle.scenarios.proofs.PortLemmas.{some_byte, few_bytes}
 
@@ -91,6 +91,13 @@ fill_fits port words h =
     let count = length-bytes_in text in
     let within = most (hexadecimal_in (word_at 2 words) + length text / 2) (span_of port) h.within in
     record { some = omega arith; few = omega arith; within = omega arith }
+
+pub code_fits : (port : AgentPort) (words : List (List ℕ)) → port.response ≡ true → CanAnswer port words → FitsAgent port (code_of words)
+code_fits port words has h =
+    let offset = hexadecimal_in (word_at 2 words) in
+    let code = hexadecimal_in (word_at 3 words) in
+    let both = and_parts (nat_lt offset (span_of port)) (nat_le code 3) h.within in
+    record { answers = has; within = less offset (span_of port) both.0; few = most code 3 both.1 }
 
 pattern_fits : (text : List ℕ) → is_pattern text ≡ true → (1 ≤ length text) × (length text ≤ 64)
 unfolding is_pattern

@@ -19,7 +19,7 @@ use Rattle.link_rules.specs.declared.plan_links.StreamLink.{StreamLink}
 use Rattle.link_rules.specs.PlanLinks.{stream_links}
 use Rattle.scenario_tables.specs.declared.statements.HostStatement.{HostStatement}
 use Rattle.scenario_tables.specs.declared.statements.AgentStatement.{AgentStatement}
-use Rattle.scenario_tables.specs.declared.statements.AgentStatement.TheVariants.{Stall, Latency, Fill}
+use Rattle.scenario_tables.specs.declared.statements.AgentStatement.TheVariants.{Stall, Latency, Fill, Code}
 use Rattle.scenario_tables.specs.declared.statements.SourceStatement.{SourceStatement}
 use Rattle.scenario_tables.specs.declared.statements.Pattern.{Pattern}
 use Rattle.scenario_tables.specs.Statements.{IsRest, FitsHost, FitsAgent, FitsStall, IsHostScript, IsAgentScript, IsSourceScript, IsSinkScript, stalls_of, latencies_of}
@@ -218,6 +218,18 @@ fill_script port script offset bytes fits room h =
     record {
       short = one_more script (Fill offset bytes) room;
       each = all_more (FitsAgent port) script (Fill offset bytes) h.each fits;
+      one_stall = rw stalls h.one_stall;
+      one_latency = rw latencies h.one_latency;
+    }
+
+pub code_script : (port : AgentPort) (script : List AgentStatement) (offset code : ℕ) → FitsAgent port (Code offset code) → is_full (length script) ≡ false → IsAgentScript port script
+    → IsAgentScript port (script ++ Code offset code ∷ [])
+code_script port script offset code fits room h =
+    let stalls : stalls_of (script ++ Code offset code ∷ []) ≡ stalls_of script = stalls_of-append script (Code offset code ∷ []) ∙ append-nil (stalls_of script) in
+    let latencies : latencies_of (script ++ Code offset code ∷ []) ≡ latencies_of script = latencies_of-append script (Code offset code ∷ []) ∙ append-nil (latencies_of script) in
+    record {
+      short = one_more script (Code offset code) room;
+      each = all_more (FitsAgent port) script (Code offset code) h.each fits;
       one_stall = rw stalls h.one_stall;
       one_latency = rw latencies h.one_latency;
     }

@@ -9,7 +9,7 @@ use Rattle.scenario_tables.specs.declared.statements.AgentStatement.TheVariants.
 use Rattle.scenario_tables.specs.declared.statements.SourceStatement.TheVariants.{Beat as BeatOf, Gap as GapOf}
 use Rattle.scenario_tables.specs.Statements.{IsSourceScript}
 use Rattle.scenario_lines.specs.declared.keywords.Keyword.{Keyword}
-use Rattle.scenario_lines.specs.declared.keywords.Keyword.TheVariants.{Cycles, Write, Read, Idle, Fill, Stall, Latency, Beat, Gap}
+use Rattle.scenario_lines.specs.declared.keywords.Keyword.TheVariants.{Cycles, Write, Read, Idle, Fill, Code, Stall, Latency, Beat, Gap}
 use Rattle.scenario_lines.specs.Keywords.{keyword_in, fits_words}
 use Rattle.scenario_lines.specs.Words.{is_silent, is_clean, words_of, first_word, word_at}
 use Rattle.scenario_lines.specs.Spelling.{is_count, count_in, hexadecimal_in, bytes_in}
@@ -22,13 +22,13 @@ use Rattle.scenarios.specs.declared.so_far.SoFar.{SoFar}
 use Rattle.scenarios.specs.Interfaces.{host_at, host_named, agent_at, agent_named, stream_at, stream_named}
 use Rattle.scenarios.specs.SoFar.{Reading, judged, is_early, script_at}
 use Rattle.scenarios.specs.Hosts.{is_full, is_rest, write_of, read_of, write_in, read_in, idle_in}
-use Rattle.scenarios.specs.Agents.{fill_of, pattern_of, has_stall, has_latency, fill_in, agent_stall_in, sink_stall_in, latency_in}
+use Rattle.scenarios.specs.Agents.{fill_of, code_of, pattern_of, has_stall, has_latency, fill_in, code_in, agent_stall_in, sink_stall_in, latency_in}
 use Rattle.scenarios.specs.Streams.{beat_of, beat_in, gap_in}
 use Rattle.scenarios.specs.Lines.{cycles_rule, cycles_in, at_one, where_there, stall_by, statement_in, by_keyword, words_in, line_in}
-use Rattle.scenarios.proofs.RuleLemmas.{second, written, asked, waited, filled, stalled, late, sent}
-use Rattle.scenarios.proofs.FitLemmas.{rest_fits, write_fits, read_fits, fill_fits, stall_fits, latency_fits, beat_fits}
+use Rattle.scenarios.proofs.RuleLemmas.{second, written, asked, waited, filled, coded, stalled, late, sent}
+use Rattle.scenarios.proofs.FitLemmas.{rest_fits, write_fits, read_fits, fill_fits, code_fits, stall_fits, latency_fits, beat_fits}
 use Rattle.scenarios.proofs.ScriptLemmas.{one_more, beat_more, gap_more}
-use Rattle.scenarios.proofs.KeepLemmas.{AreFitting, host_is, agent_is, stream_is, host_more, agent_more, source_more, sink_more, host_script, fill_script, stall_script, latency_script, sink_script}
+use Rattle.scenarios.proofs.KeepLemmas.{AreFitting, host_is, agent_is, stream_is, host_more, agent_more, source_more, sink_more, host_script, fill_script, code_script, stall_script, latency_script, sink_script}
 
 -- what holds of what is read, where no rule is broken
 abbrev IfRead : (SoFar → Type 0) → Reading → Type 0
@@ -87,6 +87,16 @@ fill_line system so_far agent words h at =
     if_judged (AreFitting system) _ _ (λ none.
     let kept = filled agent.port (is_early so_far) (length script) words none in
     agent_more system so_far agent (fill_of words) h at (fill_script agent.port script (hexadecimal_in (word_at 2 words)) (bytes_in (word_at 3 words)) (fill_fits agent.port words kept.0) kept.1.room))
+
+code_line : (system : SystemTable) (so_far : SoFar) (agent : NamedAgent) (words : List (List ℕ)) → AreFitting system so_far → agent_at system agent.number ≡ Some agent → agent.port.response ≡ true
+    → IfRead (AreFitting system) (code_in so_far agent words)
+unfolding code_in
+code_line system so_far agent words h at has =
+    let script = script_at agent.number so_far.agents in
+    if_judged (AreFitting system) _ _ (λ none.
+    let kept = coded agent.port (is_early so_far) (length script) words none in
+    agent_more system so_far agent (code_of words) h at
+    (code_script agent.port script (hexadecimal_in (word_at 2 words)) (hexadecimal_in (word_at 3 words)) (code_fits agent.port words has kept.0) kept.1.room))
 
 agent_stall_line : (system : SystemTable) (so_far : SoFar) (agent : NamedAgent) (words : List (List ℕ)) → AreFitting system so_far → agent_at system agent.number ≡ Some agent → agent.port.waitrequest ≡ true
     → IfRead (AreFitting system) (agent_stall_in so_far agent words)
@@ -172,6 +182,9 @@ statement_line system so_far words Write h = if_one (AreFitting system) (host_na
 statement_line system so_far words Read h = if_one (AreFitting system) (host_named system (word_at 1 words)) _ (λ host is. read_line system so_far host words h (host_is system (word_at 1 words) host is))
 statement_line system so_far words Idle h = if_one (AreFitting system) (host_named system (word_at 1 words)) _ (λ host is. idle_line system so_far host words h (host_is system (word_at 1 words) host is))
 statement_line system so_far words Fill h = if_one (AreFitting system) (agent_named system (word_at 1 words)) _ (λ agent is. fill_line system so_far agent words h (agent_is system (word_at 1 words) agent is))
+statement_line system so_far words Code h =
+    if_one (AreFitting system) (agent_named system (word_at 1 words)) _
+    (λ agent is. if_there (AreFitting system) agent.port.response _ (λ has. code_line system so_far agent words h (agent_is system (word_at 1 words) agent is) has))
 statement_line system so_far words Stall h =
     stall_line system so_far words (agent_named system (word_at 1 words)) (stream_named system End (word_at 1 words)) h (λ one is. agent_is system (word_at 1 words) one is) (λ one is. stream_is system End (word_at 1 words) one is)
 statement_line system so_far words Latency h =

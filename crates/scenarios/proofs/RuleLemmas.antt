@@ -13,7 +13,7 @@ use Rattle.scenarios.specs.declared.faults.ScenarioRule.{ScenarioRule}
 use Rattle.scenarios.specs.declared.faults.ScenarioRule.TheVariants.{Spelling, Ranges, Beginning, Transfers, Packets, Limits}
 use Rattle.scenarios.specs.Rules.{first_broken}
 use Rattle.scenarios.specs.Hosts.{CanWrite, CanRead, is_rest, is_full, spells_write, spells_read, can_write, can_read, fits_command, fits_word, write_rule, read_rule, rest_rule}
-use Rattle.scenarios.specs.Agents.{CanFill, CanWaitFor, spells_fill, fits_fill, is_latency, fill_rule, stall_rule, latency_rule}
+use Rattle.scenarios.specs.Agents.{CanFill, CanAnswer, CanWaitFor, spells_fill, fits_fill, spells_code, fits_code, is_latency, fill_rule, code_rule, stall_rule, latency_rule}
 use Rattle.scenarios.specs.Streams.{IsShown, spells_beat, fits_ports, beat_of, opened_by, keeps_packets, beat_rule}
 
 -- the first of the rules is kept, and so are those behind it
@@ -89,6 +89,12 @@ pub filled : (port : AgentPort) (early : Bool) (count : ℕ) (words : List (List
 unfolding fill_rule
 filled port early count words e =
     let kept = four (spells_fill words) (fits_fill port words) early (is_full count) Spelling Ranges Beginning Limits e in
+    (record { spelled = kept.0; within = kept.1 }, record { begun = kept.2; room = kept.3 })
+
+pub coded : (port : AgentPort) (early : Bool) (count : ℕ) (words : List (List ℕ)) → code_rule port early count words ≡ None → CanAnswer port words × HasRoom early (is_full count)
+unfolding code_rule
+coded port early count words e =
+    let kept = four (spells_code words) (fits_code port words) early (is_full count) Spelling Ranges Beginning Limits e in
     (record { spelled = kept.0; within = kept.1 }, record { begun = kept.2; room = kept.3 })
 
 pub stalled : (early no_room : Bool) (words : List (List ℕ)) → stall_rule early no_room words ≡ None → (is_pattern (word_at 2 words) ≡ true) × HasRoom early no_room

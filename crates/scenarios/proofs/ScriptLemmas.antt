@@ -7,7 +7,7 @@ use Rattle.std.proofs.lemmas.List.Elements.{All-append}
 use Rattle.iface_roles.specs.declared.records.StreamPort.{StreamPort}
 use Rattle.scenario_tables.specs.Changes.{changed_at}
 use Rattle.scenario_tables.specs.declared.statements.AgentStatement.{AgentStatement}
-use Rattle.scenario_tables.specs.declared.statements.AgentStatement.TheVariants.{Stall, Latency, Fill}
+use Rattle.scenario_tables.specs.declared.statements.AgentStatement.TheVariants.{Stall, Latency, Fill, Code}
 use Rattle.scenario_tables.specs.declared.statements.SourceBeat.{SourceBeat}
 use Rattle.scenario_tables.specs.declared.statements.SourceStatement.{SourceStatement}
 use Rattle.scenario_tables.specs.declared.statements.SourceStatement.TheVariants.{Beat, Gap}
@@ -55,12 +55,14 @@ stalls_of-append [] more = refl
 stalls_of-append (Stall pattern ∷ later) more = ap (λ ps. pattern ∷ ps) (stalls_of-append later more)
 stalls_of-append (Latency cycles ∷ later) more = stalls_of-append later more
 stalls_of-append (Fill offset bytes ∷ later) more = stalls_of-append later more
+stalls_of-append (Code offset code ∷ later) more = stalls_of-append later more
 
 pub latencies_of-append : (script more : List AgentStatement) → latencies_of (script ++ more) ≡ latencies_of script ++ latencies_of more
 latencies_of-append [] more = refl
 latencies_of-append (Stall pattern ∷ later) more = latencies_of-append later more
 latencies_of-append (Latency cycles ∷ later) more = ap (λ cs. cycles ∷ cs) (latencies_of-append later more)
 latencies_of-append (Fill offset bytes ∷ later) more = latencies_of-append later more
+latencies_of-append (Code offset code ∷ later) more = latencies_of-append later more
 
 -- ---- sources
 

@@ -3,7 +3,7 @@ use Rattle.std.specs.Prelude.{◌≡◌, ℕ, ◌+◌, ◌/◌, Bool, true, ◌&
 use Rattle.iface_roles.specs.declared.records.AgentPort.{AgentPort}
 use Rattle.iface_roles.specs.Proper.{span_of}
 use Rattle.scenario_tables.specs.declared.statements.AgentStatement.{AgentStatement}
-use Rattle.scenario_tables.specs.declared.statements.AgentStatement.TheVariants.{Stall, Latency, Fill}
+use Rattle.scenario_tables.specs.declared.statements.AgentStatement.TheVariants.{Stall, Latency, Fill, Code}
 use Rattle.scenario_tables.specs.declared.statements.Pattern.{Pattern}
 use Rattle.scenario_tables.specs.Statements.{stalls_of, latencies_of}
 use Rattle.scenario_lines.specs.Words.{word_at}
@@ -39,6 +39,30 @@ fill_of words = Fill (hexadecimal_in (word_at 2 words)) (bytes_in (word_at 3 wor
 unfoldable pub fill_in : SoFar → NamedAgent → List (List ℕ) → Reading
 fill_in so_far agent words =
     judged (fill_rule agent.port (is_early so_far) (length (script_at agent.number so_far.agents)) words) (with_agent agent.number (fill_of words) so_far)
+
+-- ---- `code AGENT OFFSET CODE`
+
+abbrev pub spells_code : List (List ℕ) → Bool
+spells_code words = is_hexadecimal (word_at 2 words) && is_hexadecimal (word_at 3 words)
+
+-- the code of a byte that the agent has, 0 to 3
+abbrev pub fits_code : AgentPort → List (List ℕ) → Bool
+fits_code port words = nat_lt (hexadecimal_in (word_at 2 words)) (span_of port) && nat_le (hexadecimal_in (word_at 3 words)) 3
+
+unfoldable pub code_rule : AgentPort → Bool → ℕ → List (List ℕ) → Option ScenarioRule
+code_rule port early count words = first_broken
+    ((not (spells_code words), Spelling)
+    ∷ (not (fits_code port words), Ranges)
+    ∷ (early, Beginning)
+    ∷ (is_full count, Limits)
+    ∷ [])
+
+abbrev pub code_of : List (List ℕ) → AgentStatement
+code_of words = Code (hexadecimal_in (word_at 2 words)) (hexadecimal_in (word_at 3 words))
+
+unfoldable pub code_in : SoFar → NamedAgent → List (List ℕ) → Reading
+code_in so_far agent words =
+    judged (code_rule agent.port (is_early so_far) (length (script_at agent.number so_far.agents)) words) (with_agent agent.number (code_of words) so_far)
 
 -- ---- `stall END PATTERN`, of an end that has room for one or none
 
@@ -90,6 +114,10 @@ latency_in so_far agent words =
 pub record CanFill (port : AgentPort) (words : List (List ℕ)) : Type 0 where
   pub spelled : spells_fill words ≡ true
   pub within : fits_fill port words ≡ true
+
+pub record CanAnswer (port : AgentPort) (words : List (List ℕ)) : Type 0 where
+  pub spelled : spells_code words ≡ true
+  pub within : fits_code port words ≡ true
 
 pub record CanWaitFor (words : List (List ℕ)) : Type 0 where
   pub spelled : is_count (word_at 2 words) ≡ true

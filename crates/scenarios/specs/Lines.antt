@@ -3,7 +3,7 @@ use Rattle.std.specs.Prelude.{ℕ, Bool, not, List, [], ◌∷◌, length, Optio
 use Rattle.iface_roles.specs.declared.kinds.Side.TheVariants.{Start, End}
 use Rattle.system_tables.specs.Tables.{SystemTable}
 use Rattle.scenario_lines.specs.declared.keywords.Keyword.{Keyword}
-use Rattle.scenario_lines.specs.declared.keywords.Keyword.TheVariants.{Cycles, Write, Read, Idle, Fill, Stall, Latency, Beat, Gap}
+use Rattle.scenario_lines.specs.declared.keywords.Keyword.TheVariants.{Cycles, Write, Read, Idle, Fill, Code, Stall, Latency, Beat, Gap}
 use Rattle.scenario_lines.specs.Keywords.{keyword_in, fits_words}
 use Rattle.scenario_lines.specs.Words.{is_silent, is_clean, words_of, first_word, word_at}
 use Rattle.scenario_lines.specs.Spelling.{is_count, count_in}
@@ -16,7 +16,7 @@ use Rattle.scenarios.specs.Rules.{first_broken}
 use Rattle.scenarios.specs.Interfaces.{host_named, agent_named, stream_named}
 use Rattle.scenarios.specs.SoFar.{Reading, judged}
 use Rattle.scenarios.specs.Hosts.{is_rest, write_in, read_in, idle_in}
-use Rattle.scenarios.specs.Agents.{fill_in, agent_stall_in, sink_stall_in, latency_in}
+use Rattle.scenarios.specs.Agents.{fill_in, code_in, agent_stall_in, sink_stall_in, latency_in}
 use Rattle.scenarios.specs.Streams.{beat_in, gap_in}
 
 -- ---- `cycles COUNT`
@@ -53,6 +53,10 @@ idle_at system so_far words = at_one (host_named system (word_at 1 words)) (λ h
 abbrev pub fill_at : SystemTable → SoFar → List (List ℕ) → Reading
 fill_at system so_far words = at_one (agent_named system (word_at 1 words)) (λ agent. fill_in so_far agent words)
 
+-- a code comes by `response`
+abbrev pub code_at : SystemTable → SoFar → List (List ℕ) → Reading
+code_at system so_far words = at_one (agent_named system (word_at 1 words)) (λ agent. where_there agent.port.response (code_in so_far agent words))
+
 -- a latency counts where words come with `readdatavalid`
 abbrev pub latency_at : SystemTable → SoFar → List (List ℕ) → Reading
 latency_at system so_far words = at_one (agent_named system (word_at 1 words)) (λ agent. where_there agent.port.readdatavalid (latency_in so_far agent words))
@@ -77,6 +81,7 @@ statement_in system so_far words Write = write_at system so_far words
 statement_in system so_far words Read = read_at system so_far words
 statement_in system so_far words Idle = idle_at system so_far words
 statement_in system so_far words Fill = fill_at system so_far words
+statement_in system so_far words Code = code_at system so_far words
 statement_in system so_far words Stall = stall_at system so_far words
 statement_in system so_far words Latency = latency_at system so_far words
 statement_in system so_far words Beat = beat_at system so_far words

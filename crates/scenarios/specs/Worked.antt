@@ -1,4 +1,4 @@
--- A system of a host and an agent, `h.m` and `a.s`, and of a source and a sink, `o.x` and `i.y`, for small scenarios.
+-- Systems of a host and an agent, `h.m` and `a.s`, and of a source and a sink, `o.x` and `i.y`, for small scenarios.
 use Rattle.std.specs.Prelude.{ℕ, Bool, true, false, List, [], ◌∷◌, codes, is_ok}
 use Rattle.iface_roles.specs.declared.kinds.Kind.{Kind}
 use Rattle.iface_roles.specs.declared.kinds.Kind.TheVariants.{Mm, Stream}
@@ -60,18 +60,25 @@ joined from to kind = record {
   clock_fits = true;
 }
 
-abbrev pub small_system : SystemTable
-small_system = record {
+abbrev pub system_with : AgentPort → SystemTable
+system_with agent = record {
   name = codes "small";
   stages = 0;
   instances =
       instance (codes "h") (codes "m") Mm Start (Host small_host)
-      ∷ instance (codes "a") (codes "s") Mm End (Agent small_agent)
+      ∷ instance (codes "a") (codes "s") Mm End (Agent agent)
       ∷ instance (codes "o") (codes "x") Stream Start (Source small_source)
       ∷ instance (codes "i") (codes "y") Stream End (Sink small_source)
       ∷ [];
   connections = joined 0 1 Mm ∷ joined 2 3 Stream ∷ [];
 }
+
+abbrev pub small_system : SystemTable
+small_system = system_with small_agent
+
+-- its agent has `response`
+abbrev pub coded_system : SystemTable
+coded_system = system_with (record small_agent { response = true })
 
 -- the system for so many cycles, with the statements of each interface
 abbrev pub small_scenario : ℕ → List HostStatement → List AgentStatement → List SourceStatement → List Pattern → Scenario

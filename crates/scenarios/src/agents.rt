@@ -5,7 +5,7 @@ ghost use Rattle.iface_roles.specs.Proper.{IsBoundedAgent};
 ghost use Rattle.scenario_lines.specs.Spelling.{is_hexadecimal, are_bytes, is_count, count_in, bytes_in};
 ghost use Rattle.scenario_lines.specs.Words.{word_at};
 ghost use Rattle.scenarios.specs.SoFar.{Breaks};
-ghost use Rattle.scenarios.specs.Agents.{CanFill, CanWaitFor, fill_of, pattern_of, fits_fill, fill_rule, fill_in, stall_rule, has_stall, agent_stall_in, sink_stall_in, has_latency, is_latency, latency_rule, latency_in};
+ghost use Rattle.scenarios.specs.Agents.{CanFill, CanAnswer, CanWaitFor, fill_of, code_of, pattern_of, fits_fill, fill_rule, fill_in, fits_code, code_rule, code_in, stall_rule, has_stall, agent_stall_in, sink_stall_in, has_latency, is_latency, latency_rule, latency_in};
 
 use crate::faults::{LineFault, ScenarioRule};
 use crate::interfaces::{NamedAgent, NamedStream};
@@ -88,6 +88,77 @@ pub(crate) fn fill(
         return Err(LineFault::Broken { rule });
     }
     let statement = fill_of(alloc, &agent.port, words)?;
+    so_far.agents.push(agent.number, statement)?;
+    Ok(())
+}
+
+/// Whether a `code` is from 0 to 3, and of a byte within an agent's span.
+fn fits_code(agent: &AgentPort, words: &Words) -> bool
+    requires agent { IsBoundedAgent agent.now }
+    requires offset { is_hexadecimal (word_at 2 words.now) ≡ true }
+    requires code { is_hexadecimal (word_at 3 words.now) ≡ true }
+    ensures { result ≡ fits_code agent.now words.now }
+{
+    let offset = hexadecimal(words.word(2));
+    let code = hexadecimal(words.word(3));
+    offset < u128::from(span(agent)) && code <= 3
+}
+
+/// The least rule that a `code` breaks, behind so many statements of its agent.
+#[tactic(auto, unfolding(crate::specs::Agents::code_rule))]
+fn code_rule(
+    agent: &AgentPort,
+    early: bool,
+    statements: usize,
+    words: &Words,
+) -> Option<ScenarioRule>
+    requires { IsBoundedAgent agent.now }
+    ensures { result ≡ code_rule agent.now early statements words.now }
+{
+    if !(is_hexadecimal(words.word(2)) && is_hexadecimal(words.word(3))) {
+        return Some(ScenarioRule::Spelling);
+    }
+    if !fits_code(agent, words) {
+        return Some(ScenarioRule::Ranges);
+    }
+    if early {
+        return Some(ScenarioRule::Beginning);
+    }
+    if 4096 <= statements {
+        return Some(ScenarioRule::Limits);
+    }
+    None
+}
+
+fn code_of(agent: &AgentPort, words: &Words) -> AgentStatement
+    requires agent { IsBoundedAgent agent.now }
+    requires fits { CanAnswer agent.now words.now }
+    ensures { result ≡ code_of words.now }
+{
+    let _span = span(agent);
+    AgentStatement::Code {
+        offset: hexadecimal(words.word(2)) as u32,
+        code: hexadecimal(words.word(3)) as u8,
+    }
+}
+
+/// Reads `code AGENT OFFSET CODE`.
+#[tactic(auto, unfolding(crate::specs::Agents::code_in))]
+pub(crate) fn code(
+    so_far: &mut SoFar,
+    agent: &NamedAgent,
+    words: &Words,
+) -> Result<(), LineFault>
+    requires port { IsBoundedAgent agent.now.port }
+    requires number { agent.now.number < length so_far.old.agents }
+    ensures ok { OnOk result (code_in so_far.old agent.now words.now ≡ Ok so_far.new) }
+    ensures err { IfErr result (Breaks (code_in so_far.old agent.now words.now)) }
+{
+    let statements = so_far.agents.script(agent.number).len();
+    if let Some(rule) = code_rule(&agent.port, so_far.is_early(), statements, words) {
+        return Err(LineFault::Broken { rule });
+    }
+    let statement = code_of(&agent.port, words);
     so_far.agents.push(agent.number, statement)?;
     Ok(())
 }

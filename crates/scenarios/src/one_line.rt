@@ -3,9 +3,9 @@
 ghost use Rattle.std.specs.Prelude.{◌≡◌, Ok, Err, OnOk, IfErr};
 ghost use Rattle.scenarios.specs.declared.faults.LineFault.TheVariants.{Broken};
 ghost use Rattle.scenarios.specs.SoFar.{HasScripts, Breaks};
-ghost use Rattle.scenarios.specs.Lines.{cycles_in, write_at, read_at, idle_at, fill_at, latency_at, stall_at, beat_at, gap_at, statement_in, words_in, line_in};
+ghost use Rattle.scenarios.specs.Lines.{cycles_in, write_at, read_at, idle_at, fill_at, code_at, latency_at, stall_at, beat_at, gap_at, statement_in, words_in, line_in};
 
-use crate::agents::{agent_stall, fill, latency, sink_stall};
+use crate::agents::{agent_stall, code, fill, latency, sink_stall};
 use crate::faults::{LineFault, ScenarioRule};
 use crate::hosts::{idle, read, write};
 use crate::interfaces::{agent_named, host_named, stream_named};
@@ -91,6 +91,21 @@ fn fill_at(alloc: Global, plan: &Plan, so_far: &mut SoFar, words: &Words) -> Res
     fill(alloc, so_far, &agent, words)
 }
 
+/// Reads `code AGENT OFFSET CODE`.
+fn code_at(plan: &Plan, so_far: &mut SoFar, words: &Words) -> Result<(), LineFault>
+    requires { HasScripts plan.now.system so_far.old }
+    ensures ok { OnOk result (code_at plan.now.system so_far.old words.now ≡ Ok so_far.new) }
+    ensures err { IfErr result (Breaks (code_at plan.now.system so_far.old words.now)) }
+{
+    let Some(agent) = agent_named(plan, words.word(1)) else {
+        return broken(ScenarioRule::Interfaces);
+    };
+    if !agent.port.response {
+        return broken(ScenarioRule::Interfaces);
+    }
+    code(so_far, &agent, words)
+}
+
 /// Reads `beat SOURCE WORD CHANNEL ERROR FLAGS EMPTY`.
 fn beat_at(plan: &Plan, so_far: &mut SoFar, words: &Words) -> Result<(), LineFault>
     requires { HasScripts plan.now.system so_far.old }
@@ -169,6 +184,7 @@ fn read_statement(
         Keyword::Read => read_at(plan, so_far, words),
         Keyword::Idle => idle_at(plan, so_far, words),
         Keyword::Fill => fill_at(alloc, plan, so_far, words),
+        Keyword::Code => code_at(plan, so_far, words),
         Keyword::Stall => stall_at(alloc, plan, so_far, words),
         Keyword::Latency => latency_at(plan, so_far, words),
         Keyword::Beat => beat_at(plan, so_far, words),

@@ -1,15 +1,15 @@
 //! Small files for a small system, right and wrong. The functions do nothing; their contracts are the rows.
-#![tactic(auto, unfolding(crate::specs::Files::file_in, crate::specs::Lines::line_in, crate::specs::Lines::words_in, crate::specs::Lines::cycles_in, crate::specs::Interfaces::host_named, crate::specs::Interfaces::agent_named, crate::specs::Interfaces::stream_named, crate::specs::Hosts::write_in, crate::specs::Hosts::write_rule, crate::specs::Hosts::read_in, crate::specs::Hosts::read_rule, crate::specs::Hosts::idle_in, crate::specs::Hosts::rest_rule, crate::specs::Agents::fill_in, crate::specs::Agents::fill_rule, crate::specs::Agents::agent_stall_in, crate::specs::Agents::sink_stall_in, crate::specs::Agents::stall_rule, crate::specs::Agents::latency_in, crate::specs::Agents::latency_rule, crate::specs::Streams::beat_in, crate::specs::Streams::beat_rule, crate::specs::Streams::gap_in, scenario_lines::specs::Words::is_clean, scenario_lines::specs::Keywords::keyword_in, scenario_lines::specs::Spelling::is_hexadecimal, scenario_lines::specs::Spelling::hexadecimal_in, scenario_lines::specs::Spelling::is_count, scenario_lines::specs::Spelling::count_in, scenario_lines::specs::Spelling::is_pattern, scenario_lines::specs::Spelling::pattern_in, scenario_lines::specs::Spelling::are_bytes, scenario_lines::specs::Spelling::flags_in))]
+#![tactic(auto, unfolding(crate::specs::Files::file_in, crate::specs::Lines::line_in, crate::specs::Lines::words_in, crate::specs::Lines::cycles_in, crate::specs::Interfaces::host_named, crate::specs::Interfaces::agent_named, crate::specs::Interfaces::stream_named, crate::specs::Hosts::write_in, crate::specs::Hosts::write_rule, crate::specs::Hosts::read_in, crate::specs::Hosts::read_rule, crate::specs::Hosts::idle_in, crate::specs::Hosts::rest_rule, crate::specs::Agents::fill_in, crate::specs::Agents::fill_rule, crate::specs::Agents::code_in, crate::specs::Agents::code_rule, crate::specs::Agents::agent_stall_in, crate::specs::Agents::sink_stall_in, crate::specs::Agents::stall_rule, crate::specs::Agents::latency_in, crate::specs::Agents::latency_rule, crate::specs::Streams::beat_in, crate::specs::Streams::beat_rule, crate::specs::Streams::gap_in, scenario_lines::specs::Words::is_clean, scenario_lines::specs::Keywords::keyword_in, scenario_lines::specs::Spelling::is_hexadecimal, scenario_lines::specs::Spelling::hexadecimal_in, scenario_lines::specs::Spelling::is_count, scenario_lines::specs::Spelling::count_in, scenario_lines::specs::Spelling::is_pattern, scenario_lines::specs::Spelling::pattern_in, scenario_lines::specs::Spelling::are_bytes, scenario_lines::specs::Spelling::flags_in))]
 
 ghost use Rattle.std.specs.Prelude.{◌≡◌, [], ◌∷◌, true, false, Some, None, codes};
 ghost use Rattle.scenario_tables.specs.declared.statements.HostStatement.TheVariants.{Idle, Write, Read};
-ghost use Rattle.scenario_tables.specs.declared.statements.AgentStatement.TheVariants.{Stall, Latency, Fill};
+ghost use Rattle.scenario_tables.specs.declared.statements.AgentStatement.TheVariants.{Stall, Latency, Fill, Code};
 ghost use Rattle.scenario_tables.specs.declared.statements.SourceStatement.TheVariants.{Beat, Gap};
 ghost use Rattle.scenario_tables.specs.Worked.{whole_packet, first_beat, last_beat};
 ghost use Rattle.scenario_lines.specs.Words.{words_of};
 ghost use Rattle.scenarios.specs.Hosts.{rest_rule};
 ghost use Rattle.scenarios.specs.Files.{IsScenarioOf, IsFaultOf};
-ghost use Rattle.scenarios.specs.Worked.{small_system, small_scenario, is_read};
+ghost use Rattle.scenarios.specs.Worked.{small_system, coded_system, small_scenario, is_read};
 ghost use Rattle.scenarios.specs.declared.faults.ScenarioRule.TheVariants.{Characters, Statements, Words, Interfaces, Spelling, Ranges, Beginning, Transfers, Packets, Limits};
 ghost use Rattle.scenarios.specs.declared.faults.ScenarioFault.TheVariants.{Refused};
 
@@ -18,6 +18,7 @@ pub fn stated_files()
     ensures nothing { IsScenarioOf small_system (codes "cycles 65536") (small_scenario 65536 [] [] [] []) }
     ensures host { IsScenarioOf small_system (codes "cycles 9\r\n# write\n\nwrite h.m fc f 1 ffffffff\nread h.m ff 0 4\nidle h.m 65536\n") (small_scenario 9 (Write 252 15 (1 ∷ 0xffffffff ∷ []) ∷ Read 255 0 4 ∷ Idle 65536 ∷ []) [] [] []) }
     ensures agent { IsScenarioOf small_system (codes "cycles 9\nlatency a.s 255\nfill a.s 3c 00a0ff01\nstall a.s 011") (small_scenario 9 [] (Latency 255 ∷ Fill 60 (0 ∷ 160 ∷ 255 ∷ 1 ∷ []) ∷ Stall (record { stalls = false ∷ true ∷ true ∷ [] }) ∷ []) [] []) }
+    ensures coded_agent { IsScenarioOf coded_system (codes "cycles 9\ncode a.s 3f 3\nfill a.s 0 07\ncode a.s 0 0") (small_scenario 9 [] (Code 63 3 ∷ Fill 0 (7 ∷ []) ∷ Code 0 0 ∷ []) [] []) }
     ensures stream { IsScenarioOf small_system (codes "cycles 9\nbeat o.x 1100 3 1 se 1\nbeat o.x 1122 2 0 s 0\ngap o.x 1\nbeat o.x 3300 2 0 e 1\nstall i.y 10\n") (small_scenario 9 [] [] (Beat whole_packet ∷ Beat first_beat ∷ Gap 1 ∷ Beat last_beat ∷ []) ((record { stalls = true ∷ false ∷ [] }) ∷ [])) }
 {}
 
@@ -36,6 +37,9 @@ pub fn refused_words()
     ensures instance_alone { IsFaultOf small_system (codes "cycles 9\nidle h 1") (Refused 2 Interfaces) }
     ensures longer_name { IsFaultOf small_system (codes "cycles 9\nidle h.mm 1") (Refused 2 Interfaces) }
     ensures stall_of_a_host { IsFaultOf small_system (codes "cycles 9\nstall h.m 1") (Refused 2 Interfaces) }
+    ensures code_without_response { IsFaultOf small_system (codes "cycles 9\ncode a.s 0 0") (Refused 2 Interfaces) }
+    ensures code_of_a_host { IsFaultOf coded_system (codes "cycles 9\ncode h.m 0 0") (Refused 2 Interfaces) }
+    ensures code_without_offset { IsFaultOf coded_system (codes "cycles 9\ncode a.s 0") (Refused 2 Words) }
 {}
 
 /// Numbers, flags and patterns that are spelled in other ways.
@@ -47,6 +51,7 @@ pub fn refused_spellings()
     ensures digit_too_many { IsFaultOf small_system (codes "cycles 9\nread h.m 000000000000000000000000000000000 f 1") (Refused 2 Spelling) }
     ensures even_digits { is_read (codes "cycles 9\nfill a.s 0 12") ≡ true }
     ensures odd_digits { IsFaultOf small_system (codes "cycles 9\nfill a.s 0 123") (Refused 2 Spelling) }
+    ensures code_that_is_no_number { IsFaultOf coded_system (codes "cycles 9\ncode a.s 0 -1") (Refused 2 Spelling) }
     ensures neither_0_nor_1 { IsFaultOf small_system (codes "cycles 9\nstall i.y 02") (Refused 2 Spelling) }
     ensures both_flags { is_read (codes "cycles 9\nbeat o.x 1 0 0 se 0") ≡ true }
     ensures flags_in_another_order { IsFaultOf small_system (codes "cycles 9\nbeat o.x 1 0 0 es 0") (Refused 2 Spelling) }
@@ -64,6 +69,8 @@ pub fn refused_values()
     ensures many_digits { IsFaultOf small_system (codes "cycles 9\nidle h.m 10000000000000000000000000000000000000000") (Refused 2 Ranges) }
     ensures last_byte { is_read (codes "cycles 9\nfill a.s 3c 00000000") ≡ true }
     ensures past_the_span { IsFaultOf small_system (codes "cycles 9\nfill a.s 3d 00000000") (Refused 2 Ranges) }
+    ensures past_the_codes { IsFaultOf coded_system (codes "cycles 9\ncode a.s 0 4") (Refused 2 Ranges) }
+    ensures code_past_the_span { IsFaultOf coded_system (codes "cycles 9\ncode a.s 40 0") (Refused 2 Ranges) }
     ensures longest_latency { is_read (codes "cycles 9\nlatency a.s 255") ≡ true }
     ensures latency_too_long { IsFaultOf small_system (codes "cycles 9\nlatency a.s 256") (Refused 2 Ranges) }
     ensures last_channel { is_read (codes "cycles 9\nbeat o.x 0 3 0 se 1") ≡ true }
@@ -77,6 +84,7 @@ pub fn refused_beginnings()
     ensures no_statement { IsFaultOf small_system (codes "# none\n\n") (Refused 3 Beginning) }
     ensures no_cycles { IsFaultOf small_system (codes "idle h.m 1\n") (Refused 1 Beginning) }
     ensures least_rule { IsFaultOf small_system (codes "idle h.m 0\n") (Refused 1 Ranges) }
+    ensures code_before_cycles { IsFaultOf coded_system (codes "code a.s 0 3\n") (Refused 1 Beginning) }
     ensures second_cycles { IsFaultOf small_system (codes "cycles 9\ncycles 9\n") (Refused 2 Beginning) }
     ensures first_line { IsFaultOf small_system (codes "cycles 0\ncycles 0\n") (Refused 1 Ranges) }
 {}
