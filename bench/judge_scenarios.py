@@ -10,13 +10,14 @@ from random import Random
 
 from script_systems import System
 
-WORDS = {"cycles": 2, "read": 5, "idle": 3, "fill": 4, "stall": 3, "latency": 3, "beat": 7, "gap": 3}
-KINDS = {"write": ["host"], "read": ["host"], "idle": ["host"], "fill": ["agent"], "stall": ["agent", "sink"], "latency": ["agent"],
-         "beat": ["source"], "gap": ["source"]}
+WORDS = {"cycles": 2, "read": 5, "idle": 3, "fill": 4, "code": 4, "stall": 3, "latency": 3, "beat": 7, "gap": 3}
+KINDS = {"write": ["host"], "read": ["host"], "idle": ["host"], "fill": ["agent"], "code": ["agent"], "stall": ["agent", "sink"],
+         "latency": ["agent"], "beat": ["source"], "gap": ["source"]}
 HEXADECIMAL, COUNT = re.compile(r"[0-9a-f]{1,32}"), re.compile(r"0|[1-9][0-9]*")
 BYTES, PATTERN, FLAGS = re.compile(r"([0-9a-f]{2}){1,32}"), re.compile(r"[01]{1,64}"), re.compile(r"-|s|e|se")
-SPELLED = {"cycles": [COUNT], "read": [HEXADECIMAL, HEXADECIMAL, COUNT], "idle": [COUNT], "fill": [HEXADECIMAL, BYTES], "stall": [PATTERN],
-           "latency": [COUNT], "beat": [HEXADECIMAL, HEXADECIMAL, HEXADECIMAL, FLAGS, HEXADECIMAL], "gap": [COUNT]}
+SPELLED = {"cycles": [COUNT], "read": [HEXADECIMAL, HEXADECIMAL, COUNT], "idle": [COUNT], "fill": [HEXADECIMAL, BYTES],
+           "code": [HEXADECIMAL, HEXADECIMAL], "stall": [PATTERN], "latency": [COUNT],
+           "beat": [HEXADECIMAL, HEXADECIMAL, HEXADECIMAL, FLAGS, HEXADECIMAL], "gap": [COUNT]}
 LONGEST, MOST = 65536, 4096
 
 
@@ -74,6 +75,9 @@ class Reader:
     def fill(self, end, words):
         demand(int(words[2], 16) + len(words[3]) // 2 <= end.reached(), 6)
 
+    def code(self, end, words):
+        demand(int(words[2], 16) < end.reached() and int(words[3], 16) <= 3, 6)
+
     def stall(self, end, words):
         pass
 
@@ -110,6 +114,7 @@ class Reader:
         end = self.find(words[1], KINDS[keyword])
         demand(keyword != "stall" or end.width("waitrequest" if end.kind == "agent" else "ready"), 4)
         demand(keyword != "latency" or end.width("readdatavalid"), 4)
+        demand(keyword != "code" or end.width("response"), 4)
         forms = SPELLED.get(keyword, [HEXADECIMAL] * (len(words) - 2))
         demand(all(form.fullmatch(word) for form, word in zip(forms, words[2:])), 5)
         later = getattr(self, keyword)(end, words)
@@ -230,6 +235,8 @@ class Drawer:
             return ["latency", name, drawn_count(random, 255)]
         if random.random() < 0.3 and self.once(name, end, "stall", "waitrequest"):
             return self.stall(name)
+        if random.random() < 0.3 and (end.width("response") or self.errs()):
+            return ["code", name, drawn_hexadecimal(random, end.reached() - 1), drawn_hexadecimal(random, 3)]
         return ["fill", name, drawn_hexadecimal(random, max(end.reached() - size, 0)), random.randbytes(size).hex()]
 
     def stall(self, name):
