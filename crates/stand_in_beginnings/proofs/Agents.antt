@@ -11,7 +11,8 @@ use Rattle.memory_sides.specs.Sides.{agent_side}
 use Rattle.scenario_tables.specs.declared.statements.AgentStatement.{AgentStatement}
 use Rattle.agent_stand_ins.specs.Contents.{filled, contents_before}
 use Rattle.agent_stand_ins.specs.declared.waiting.Waiting.{Waiting}
-use Rattle.agent_stand_ins.specs.Answers.{takes_read, latency_of, waiting_before, waiting_after, is_due, word_due, word_asked, word_asked_in, word_behind}
+use Rattle.agent_stand_ins.specs.Codes.{code_at}
+use Rattle.agent_stand_ins.specs.Answers.{takes_read, latency_of, waiting_before, waiting_after, is_due, word_due, word_asked, word_asked_in, word_behind, code_due, code_asked, code_asked_in, code_behind, answer}
 use Rattle.agent_stand_ins.specs.StandIns.{IsAgentStandIn}
 use Rattle.agent_stand_ins.specs.Whole.{AgentStandInValue, StandsFor}
 
@@ -68,9 +69,9 @@ module _ (side : AgentSide) (one two : AgentView) (end : ℕ) (agree : AgentsAgr
   same_waiting : (script : List AgentStatement) (c : ℕ) → c ≤ end → waiting_before side script one c ≡ waiting_before side script two c
   same_waiting script zero low = refl
   same_waiting script (suc c) low =
-      ap₂ (λ (contents : ℕ → ℕ) (levels : Levels). waiting_after side (latency_of script) c contents levels (takes_read side one c) (waiting_before side script one c))
+      ap₂ (λ (contents : ℕ → ℕ) (levels : Levels). waiting_after side (latency_of script) c contents (code_at side script) levels (takes_read side one c) (waiting_before side script one c))
       (same_contents script c (omega arith)) (agree.signals c (omega arith))
-      ∙ ap₂ (λ (reads : Bool) (waiting : List Waiting). waiting_after side (latency_of script) c (contents_before side script two c) (levels_at two.signals c) reads waiting)
+      ∙ ap₂ (λ (reads : Bool) (waiting : List Waiting). waiting_after side (latency_of script) c (contents_before side script two c) (code_at side script) (levels_at two.signals c) reads waiting)
       (same_takes c (omega arith)) (same_waiting script c (omega arith))
 
   same_asked : (script : List AgentStatement) (c : ℕ) → c < end → word_asked_in side script one c ≡ word_asked_in side script two c
@@ -81,11 +82,24 @@ module _ (side : AgentSide) (one two : AgentView) (end : ℕ) (agree : AgentsAgr
   same_behind : (script : List AgentStatement) (c : ℕ) → c < end → word_behind side script one c ≡ word_behind side script two c
   same_behind script c low = ap (λ (word : ℕ). if nat_le side.read_latency c then word else 0) (same_asked script (c - side.read_latency) (omega arith))
 
+  same_code_asked : (script : List AgentStatement) (c : ℕ) → c < end → code_asked_in side script one c ≡ code_asked_in side script two c
+  same_code_asked script c low = ap₂ (code_asked side (code_at side script)) (agree.signals c low) (same_takes c low)
+
+  same_code_behind : (script : List AgentStatement) (c : ℕ) → c < end → code_behind side script one c ≡ code_behind side script two c
+  same_code_behind script c low = ap (λ (code : ℕ). if nat_le side.read_latency c then code else 0) (same_code_asked script (c - side.read_latency) (omega arith))
+
   -- and so it is of the cycles that come before the read latency is over
   same_behind_later : (script : List AgentStatement) (k : ℕ) → k < side.read_latency → word_behind side script one (end + k) ≡ word_behind side script two (end + k)
   same_behind_later script k soon =
       elim (cases_Bool (nat_le side.read_latency (end + k))) [
         | inl e ↦ (let late = leb-true side.read_latency (end + k) e in rw (e) (same_asked script (end + k - side.read_latency) (omega arith)))
+        | inr e ↦ rw (e) refl
+      ]
+
+  same_code_behind_later : (script : List AgentStatement) (k : ℕ) → k < side.read_latency → code_behind side script one (end + k) ≡ code_behind side script two (end + k)
+  same_code_behind_later script k soon =
+      elim (cases_Bool (nat_le side.read_latency (end + k))) [
+        | inl e ↦ (let late = leb-true side.read_latency (end + k) e in rw (e) (same_code_asked script (end + k - side.read_latency) (omega arith)))
         | inr e ↦ rw (e) refl
       ]
 
@@ -96,12 +110,13 @@ same_state script agent one two agree stands =
     record {
       stalls = stands.stalls;
       latency = stands.latency;
+      codes = stands.codes;
       stood = stands.stood ∙ same_stood side one two end agree end (omega arith);
       burst = stands.burst ∙ same_burst side one two end agree end (omega arith);
       contents = stands.contents ∙ same_contents side one two end agree script end (omega arith);
       waiting = λ late. stands.waiting late ∙ same_waiting side one two end agree script end (omega arith);
       delay = stands.delay;
-      delayed = λ fixed k low. stands.delayed fixed k low ∙ same_behind_later side one two end agree script k low;
+      delayed = λ fixed k low. stands.delayed fixed k low ∙ ap₂ answer (same_behind_later side one two end agree script k low) (same_code_behind_later side one two end agree script k low);
     }
 
 pub same_agent : (port : AgentPort) (script : List AgentStatement) (one two : AgentView) (end : ℕ) → AgentsAgree one two end → IsAgentStandIn port script one end → IsAgentStandIn port script two end
@@ -114,5 +129,7 @@ same_agent port script one two end agree stands =
       readdata = λ c low. sym (agree.readdata c low) ∙ stands.readdata c low
           ∙ ap₂ (λ (waiting : List Waiting) (word : ℕ). if port.readdatavalid then word_due c waiting else word)
           (same_waiting side one two end agree script c (omega arith)) (same_behind side one two end agree script c low);
-      response = λ c low. sym (agree.response c low) ∙ stands.response c low;
+      response = λ c low. sym (agree.response c low) ∙ stands.response c low
+          ∙ ap₂ (λ (waiting : List Waiting) (code : ℕ). if port.readdatavalid then code_due c waiting else code)
+          (same_waiting side one two end agree script c (omega arith)) (same_code_behind side one two end agree script c low);
     }
