@@ -1,13 +1,13 @@
 -- The lines of a trace. Each begins with the number of its cycle, what is told, and the name of the interface.
-use Rattle.std.specs.Prelude.{ℕ, List, ◌++◌, codes, decimal, if◌then◌else◌}
+use Rattle.std.specs.Prelude.{ℕ, List, ◌++◌, codes, decimal, Option, if◌then◌else◌}
 use Rattle.av_base.specs.Word.{Word}
 use Rattle.verilog_writer.specs.Text.{hex_digits}
 use Rattle.trace_lines.specs.declared.events.ShownBeat.{ShownBeat}
-use Rattle.trace_lines.specs.Spelling.{value_text, short_hex, flags_text}
+use Rattle.trace_lines.specs.Spelling.{value_text, short_hex, code_text, flags_text}
 
--- a host is given a word
-abbrev pub get_line : ℕ → List ℕ → Word → List ℕ
-get_line cycle host word = decimal cycle ++ codes " get " ++ host ++ codes " " ++ value_text word ++ codes "\n"
+-- a host is given a word, with this code where it has `response`
+abbrev pub get_line : ℕ → List ℕ → Word → Option ℕ → List ℕ
+get_line cycle host word code = decimal cycle ++ codes " get " ++ host ++ codes " " ++ value_text word ++ code_text code ++ codes "\n"
 
 -- what an agent takes, of the host of this number
 abbrev pub taken_text : List ℕ → ℕ → List ℕ → ℕ → ℕ → Word → List ℕ

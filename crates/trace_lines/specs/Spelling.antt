@@ -1,5 +1,5 @@
 -- How a trace spells numbers.
-use Rattle.std.specs.Prelude.{ℕ, zero, suc, ◌+◌, ◌/◌, ◌%◌, Bool, true, false, nat_lt, List, [], ◌∷◌, ◌++◌, codes, if◌then◌else◌}
+use Rattle.std.specs.Prelude.{ℕ, zero, suc, ◌+◌, ◌/◌, ◌%◌, Bool, true, false, nat_lt, List, [], ◌∷◌, ◌++◌, codes, Option, Some, None, if◌then◌else◌}
 use Rattle.av_base.specs.Word.{Word}
 use Rattle.verilog_writer.specs.Text.{hex_digit, hex_digits}
 
@@ -14,6 +14,11 @@ hex_within (suc most) n = (if nat_lt n 16 then [] else hex_within most (n / 16))
 
 abbrev pub short_hex : ℕ → List ℕ
 short_hex n = hex_within 8 n
+
+-- the code of a word behind a blank, where there is one
+abbrev pub code_text : Option ℕ → List ℕ
+code_text None = []
+code_text (Some code) = codes " " ++ short_hex code
 
 -- whether a beat begins a packet, and whether it ends one
 abbrev pub flags_text : Bool → Bool → List ℕ

@@ -1,5 +1,5 @@
 -- What is told of a cycle, by what stands at the interfaces.
-use Rattle.std.specs.Prelude.{ℕ, ◌+◌, ◌*◌, ◌%◌, Bool, List, [], ◌∷◌, ◌++◌, map, flat_map, length, nat_eq, if◌then◌else◌}
+use Rattle.std.specs.Prelude.{ℕ, ◌+◌, ◌*◌, ◌%◌, Bool, List, [], ◌∷◌, ◌++◌, map, flat_map, length, nat_eq, Option, Some, None, if◌then◌else◌}
 use Rattle.av_base.specs.Word.{word}
 use Rattle.histories.specs.History.{before, only_if}
 use Rattle.mm_runs.specs.Views.{HostSide, HostView, AgentSide, AgentView}
@@ -38,10 +38,14 @@ pub record RunEnds : Type 0 where
   pub agents : List AgentEnd
   pub streams : List StreamEnds
 
--- of a host: the word that it is given
+-- the code that a host shows in a cycle, where it has `response`
+abbrev pub code_at : ℕ → HostEnd → Option ℕ
+code_at c host = if host.side.has_response then Some (host.view.response c) else None
+
+-- of a host: the word that it is given, with its code
 abbrev pub told_of_host : ℕ → HostEnd → List (List ℕ)
 told_of_host c host =
-    only_if (gives_word host.side host.view c) (get_line c host.name (word (8 * host.side.word_bytes) (host.view.readdata c)))
+    only_if (gives_word host.side host.view c) (get_line c host.name (word (8 * host.side.word_bytes) (host.view.readdata c)) (code_at c host))
 
 -- what an agent shows when it takes a transfer
 abbrev pub taken_at : ℕ → AgentEnd → Transfer

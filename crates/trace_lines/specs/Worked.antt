@@ -85,3 +85,21 @@ one_host = record {
   agents = record { name = codes "m.s1"; side = small_agent; view = agent_view } ∷ [];
   streams = [];
 }
+
+-- two hosts that are given the same word with other codes, and one of the first kind without `response`
+abbrev pub answering : ℕ → HostView
+answering code = record host_view { response = signal_of (0 ∷ 0 ∷ 0 ∷ 0 ∷ code ∷ []) }
+
+abbrev pub coded_host : HostSide
+coded_host = record late_host { has_response = true }
+
+abbrev pub three_hosts : RunEnds
+three_hosts = record {
+  hosts =
+      record { name = codes "h.m"; side = coded_host; view = answering 2 }
+      ∷ record { name = codes "g.m"; side = coded_host; view = answering 0 }
+      ∷ record { name = codes "f.m"; side = late_host; view = answering 2 }
+      ∷ [];
+  agents = [];
+  streams = [];
+}

@@ -43,6 +43,8 @@ pub struct WordGiven<'a> {
     pub host: EndName<'a>,
     /// As wide as the host's words.
     pub word: Val,
+    /// What `response` bears, where the host has it.
+    pub code: Option<u8>,
 }
 
 /// An agent takes a beat of a write, or a read.

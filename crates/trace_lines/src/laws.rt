@@ -12,7 +12,7 @@ ghost use Rattle.trace_lines.specs.Lines.{write_line, read_line, sent_line, got_
 ghost use Rattle.trace_lines.specs.Told.{AgentEnd, RunEnds, read_address, write_address, told_of_agent, told_in, trace_of};
 ghost use Rattle.trace_lines.specs.Counted.{counts_before};
 ghost use Rattle.trace_lines.specs.Sums.{beats_taken_in, counts_in, with_counts};
-ghost use Rattle.trace_lines.specs.Worked.{packet_wire, one_host, whole_packet};
+ghost use Rattle.trace_lines.specs.Worked.{packet_wire, one_host, three_hosts, whole_packet};
 
 use link_rules::Plan;
 use system_tables::EndId;
@@ -57,6 +57,13 @@ pub fn memory_is_told()
     ensures past_the_span { ¬ (told_in one_host 2 ≡ codes "2 write m.s1 1 00000100 3 00000022\n" ∷ []) }
     ensures told_while_it_waits { ¬ (told_in one_host 1 ≡ codes "1 write m.s1 1 00000000 3 00000022\n" ∷ []) }
     ensures counts { counts_before one_host 5 ≡ record { taken = 5; answered = 1; delivered = 0; dropped = 0 } }
+{}
+
+/// The line of a word bears its own host's code of that cycle, where the host has `response`.
+pub fn codes_are_told()
+    ensures lines { told_in three_hosts 4 ≡ codes "4 get h.m 0000002a 2\n" ∷ codes "4 get g.m 0000002a 0\n" ∷ codes "4 get f.m 0000002a\n" ∷ [] }
+    ensures left_out { ¬ (told_in three_hosts 4 ≡ codes "4 get h.m 0000002a\n" ∷ codes "4 get g.m 0000002a\n" ∷ codes "4 get f.m 0000002a\n" ∷ []) }
+    ensures of_another { ¬ (told_in three_hosts 4 ≡ codes "4 get h.m 0000002a 0\n" ∷ codes "4 get g.m 0000002a 0\n" ∷ codes "4 get f.m 0000002a\n" ∷ []) }
 {}
 
 /// How numbers without zeros in front and beats are spelled. `empty` counts at the end of a packet alone.

@@ -5,7 +5,7 @@ ghost use Rattle.trace_lines.specs.Names.{name_of};
 ghost use Rattle.trace_lines.specs.Lines.{get_line, taken_text, write_line, read_line, beat_line, sent_line, got_line, dropped_line, end_line};
 
 use crate::events::{BeatMoved, CommandTaken, EndName, WordGiven};
-use crate::spelling::{put_flags, put_offset, put_short, put_value};
+use crate::spelling::{put_code, put_flags, put_offset, put_short, put_value};
 use av_base::Val;
 use byte_lines::Line;
 
@@ -24,12 +24,13 @@ fn line_of(cycle: u32, what: &[u8], end: &EndName) -> Line
     line
 }
 
-/// The line of a word that a host is given.
+/// The line of a word that a host is given, with its code where the host has `response`.
 pub fn get_line(event: &WordGiven) -> Line
-    ensures { result ≡ get_line event.now.cycle (name_of event.now.host) event.now.word }
+    ensures { result ≡ get_line event.now.cycle (name_of event.now.host) event.now.word event.now.code }
 {
     let mut line = line_of(event.cycle, b" get ", &event.host);
     put_value(&mut line, event.word);
+    put_code(&mut line, event.code);
     line.put(b"\n");
     line
 }

@@ -2,7 +2,7 @@
 
 ghost use Rattle.std.specs.Prelude.{◌≡◌, ◌+◌, ◌<◌, ◌≤◌, ◌++◌, length, codes};
 ghost use Rattle.verilog_writer.specs.Text.{hex_digit, hex_digits};
-ghost use Rattle.trace_lines.specs.Spelling.{value_text, hex_within, short_hex, flags_text};
+ghost use Rattle.trace_lines.specs.Spelling.{value_text, hex_within, short_hex, code_text, flags_text};
 
 use av_base::Val;
 use byte_lines::Line;
@@ -68,6 +68,17 @@ pub(crate) fn put_short(line: &mut Line, number: u32)
 {
     line.put(b" ");
     put_hex_within(line, 8, number);
+}
+
+/// Appends a code, where there is one.
+pub(crate) fn put_code(line: &mut Line, code: Option<u8>)
+    requires { length line.old ≤ 247 }
+    ensures text { line.new ≡ line.old ++ code_text code }
+    ensures short { length line.new ≤ length line.old + 9 }
+{
+    if let Some(code) = code {
+        put_short(line, u32::from(code));
+    }
 }
 
 pub(crate) fn put_flags(line: &mut Line, first: bool, last: bool)
