@@ -83,7 +83,8 @@ class Host:
         given = self.pins.read(levels, "readdatavalid") if self.end.has("readdatavalid") else reads and not waits
         if given:
             self.answered += 1
-            yield f"{cycle} get {self.name} {self.pins.read(levels, 'readdata'):0{digits(self.end.word())}x}"
+            code = f" {self.pins.read(levels, 'response'):x}" if self.end.has("response") else ""
+            yield f"{cycle} get {self.name} {self.pins.read(levels, 'readdata'):0{digits(self.end.word())}x}{code}"
         if self.steps and (self.steps[0] is None or not waits):
             self.steps.popleft()
 
@@ -108,7 +109,8 @@ class Agent:
         for words in statements:
             if words[0] == "fill":
                 self.bytes.update(enumerate(bytes.fromhex(words[3]), int(words[2], 16)))
-        self.waiting = deque()  # (cycle, word, whether it is the last of its read)
+        self.codes = [(int(words[2], 16), int(words[3], 16)) for words in statements if words[0] == "code"]
+        self.waiting = deque()  # (cycle, word, its code, whether it is the last of its read)
         self.stood = self.left = self.next = 0
 
     def is_late(self):
@@ -123,7 +125,8 @@ class Agent:
 
     def show(self, inputs, cycle):
         given = self.due(cycle)
-        self.pins.set(inputs, waitrequest=self.stalls.at(cycle), readdatavalid=int(bool(given)), readdata=self.waiting[0][1] if given else 0, response=0)
+        _, word, code, _ = self.waiting[0] if given else (0, 0, 0, True)
+        self.pins.set(inputs, waitrequest=self.stalls.at(cycle), readdatavalid=int(bool(given)), readdata=word, response=code)
 
     def wait_time(self, writes):
         return self.end.number("writeWaitTime", 0) if writes else self.end.number("readWaitTime", 1)
@@ -147,11 +150,17 @@ class Agent:
     def word_at(self, at):
         return sum(self.bytes.get(self.place(at + lane), 0) << 8 * lane for lane in range(self.end.word() // 8))
 
+    def code_at(self, at):
+        """That of the last statement for a byte of the word; 0 where there is none."""
+        size = self.end.word() // 8
+        return next((code for offset, code in reversed(self.codes) if offset // size == self.place(at) // size), 0)
+
     def answer(self, inputs, levels):
         """Whether it gives a word at once, which is set."""
         answers = self.answers_at_once() and self.accepts(levels) and not self.pins.read(levels, "write")
         if answers:
-            self.pins.set(inputs, readdata=self.word_at(self.offset(levels)))
+            offset = self.offset(levels)
+            self.pins.set(inputs, readdata=self.word_at(offset), response=self.code_at(offset))
         return answers
 
     def told(self, cycle, levels):
@@ -188,14 +197,14 @@ class Agent:
     def read(self, cycle, offset, count):
         if not self.is_late():
             if not self.answers_at_once():
-                self.waiting.append((cycle + self.end.number("readLatency", 0), self.word_at(offset), True))
+                self.waiting.append((cycle + self.end.number("readLatency", 0), self.word_at(offset), self.code_at(offset), True))
             return
-        open_ = sum(last for _, _, last in self.waiting)
+        open_ = sum(last for *_, last in self.waiting)
         if open_ >= max(self.end.number("maximumPendingReadTransactions", 0), 1) or count > self.end.longest():
             return
         for k in range(count):
-            word = self.word_at(offset + k * self.end.word() // 8)
-            self.waiting.append((cycle + self.latency, word, k + 1 == count))
+            at = offset + k * self.end.word() // 8
+            self.waiting.append((cycle + self.latency, self.word_at(at), self.code_at(at), k + 1 == count))
 
 
 class StreamEnd:
