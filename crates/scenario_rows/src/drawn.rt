@@ -49,6 +49,9 @@ fn tell_agent(rt: &HostRuntime, number: usize, statement: &AgentStatement) -> io
         AgentStatement::Stall { pattern } => tell_pattern(rt, 'a', 's', number, pattern),
         AgentStatement::Latency { cycles } => println!(rt; "latency a{number}.s {cycles}"),
         AgentStatement::Fill { offset, .. } => println!(rt; "fill a{number}.s {offset:08x}"),
+        AgentStatement::Code { offset, code } => {
+            println!(rt; "code a{number}.s {offset:08x} {code}")
+        }
     }
 }
 
