@@ -14,9 +14,9 @@ use Rattle.port_rows.specs.declared.driven.Driven.{Driven}
 use Rattle.port_rows.specs.Levels.{Level, levels_for}
 use Rattle.port_rows.specs.Rows.{level_of}
 use Rattle.scenario_tables.specs.declared.statements.AgentStatement.{AgentStatement}
-use Rattle.scenario_tables.specs.declared.statements.AgentStatement.TheVariants.{Stall, Latency, Fill}
+use Rattle.scenario_tables.specs.declared.statements.AgentStatement.TheVariants.{Stall, Latency, Fill, Code}
 use Rattle.scenario_tables.specs.Statements.{all_lanes}
-use Rattle.agent_stand_ins.specs.StandIns.{stall_pattern, stalls_in, gives_in, word_in}
+use Rattle.agent_stand_ins.specs.StandIns.{stall_pattern, stalls_in, gives_in, word_in, code_in}
 use Rattle.port_rows.specs.declared.agent_ends.places.AgentLevels.{AgentLevels}
 use Rattle.port_rows.specs.declared.agent_ends.places.AgentPlaces.{AgentPlaces}
 use Rattle.port_rows.specs.declared.agent_ends.places.AgentPorts.{AgentPorts}
@@ -57,13 +57,13 @@ commanded netlist run c bytes ports = record {
 abbrev drives : Option ℕ → ℕ → Driven
 drives place bits = record { place = place; bits = bits }
 
--- the levels of an agent, signal by signal; its response is always 0
+-- the levels of an agent, signal by signal
 abbrev pub agent_driven : AgentPlaces → AgentLevels → List Driven
 agent_driven places levels =
     drives places.wait (one_if levels.wait)
     ∷ drives places.valid (one_if levels.valid)
     ∷ drives places.word levels.word
-    ∷ drives places.response 0
+    ∷ drives places.response levels.code
     ∷ []
 
 -- and what they set in a row
@@ -75,13 +75,14 @@ pub record FitsPorts (port : AgentPort) (levels : AgentLevels) : Type 0 where
   pub wait : FitsPort (bits_if port.waitrequest 1) 0 (one_if levels.wait)
   pub valid : FitsPort (bits_if port.readdatavalid 1) 0 (one_if levels.valid)
   pub word : FitsPort (bits_if port.reads (8 * port.word_bytes)) 0 levels.word
+  pub code : FitsPort (bits_if port.response 2) 0 levels.code
 
 -- an agent shows these levels in a cycle
 pub record AreShownBy (view : AgentView) (c : ℕ) (levels : AgentLevels) : Type 0 where
   pub waitrequest : view.waitrequest c ≡ one_if levels.wait
   pub readdatavalid : view.readdatavalid c ≡ one_if levels.valid
   pub readdata : view.readdata c ≡ levels.word
-  pub response : view.response c ≡ 0
+  pub response : view.response c ≡ levels.code
 
 -- what an agent's stand-in shows in a cycle
 abbrev pub stand_in_levels : AgentPort → List AgentStatement → AgentView → ℕ → AgentLevels
@@ -89,6 +90,7 @@ stand_in_levels port script view c = record {
   wait = stalls_in (stall_pattern script) c;
   valid = gives_in port script view c;
   word = word_in port script view c;
+  code = code_in port script view c;
 }
 
 -- what a script fills are bytes
@@ -96,6 +98,7 @@ abbrev pub HoldsBytes : AgentStatement → Type 0
 HoldsBytes (Stall pattern) = Unit {0}
 HoldsBytes (Latency cycles) = Unit {0}
 HoldsBytes (Fill offset bytes) = (k : ℕ) → slice_index bytes k < 256
+HoldsBytes (Code offset code) = Unit {0}
 
 abbrev pub AllHoldBytes : List AgentStatement → Type 0
 AllHoldBytes [] = Unit {0}

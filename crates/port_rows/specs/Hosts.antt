@@ -31,6 +31,7 @@ host_outputs system end = record {
   wait = port_at system end role.WaitRequest;
   valid = port_at system end role.ReadDataValid;
   word = port_at system end role.ReadData;
+  response = port_at system end role.Response;
 }
 
 -- the levels of a host, signal by signal

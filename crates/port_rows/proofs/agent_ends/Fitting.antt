@@ -13,12 +13,13 @@ use Rattle.mm_runs.specs.Commands.{Transfer, accepted, agent_accepts, stood_befo
 use Rattle.memory_sides.specs.Sides.{agent_side}
 use Rattle.port_tables.specs.Ports.{bits_if}
 use Rattle.scenario_tables.specs.declared.statements.AgentStatement.{AgentStatement}
-use Rattle.scenario_tables.specs.declared.statements.AgentStatement.TheVariants.{Stall, Latency, Fill}
+use Rattle.scenario_tables.specs.declared.statements.AgentStatement.TheVariants.{Stall, Latency, Fill, Code}
 use Rattle.scenario_tables.specs.Statements.{FitsAgent, FitsStall, IsAgentScript, stalls_of}
 use Rattle.agent_stand_ins.specs.declared.waiting.Waiting.{Waiting}
+use Rattle.agent_stand_ins.specs.Codes.{code_at}
 use Rattle.agent_stand_ins.specs.Contents.{contents_before, filled, fills, word_at, writes_from}
 use Rattle.agent_stand_ins.specs.Answers.{asked_word, asked_words, is_borne, is_due, latency_of, still_waiting, takes_read, waiting_before, word_asked, word_asked_in, word_behind, word_due}
-use Rattle.agent_stand_ins.specs.StandIns.{first_stalls, gives_in, stall_pattern, stalls_in, word_in}
+use Rattle.agent_stand_ins.specs.StandIns.{first_stalls, gives_in, stall_pattern, stalls_in, word_in, code_in}
 use Rattle.agent_stand_ins.specs.ByteLaws.{byte_shift, number_below}
 use Rattle.port_rows.specs.Inputs.{FitsPort}
 use Rattle.port_rows.specs.declared.agent_ends.places.AgentLevels.{AgentLevels}
@@ -69,6 +70,7 @@ fills_small : (statement : AgentStatement) → HoldsBytes statement → AreSmall
 fills_small (Stall pattern) h = tt
 fills_small (Latency cycles) h = tt
 fills_small (Fill offset bytes) h = from_small offset bytes h
+fills_small (Code offset code) h = tt
 
 script_small : (script : List AgentStatement) → AllHoldBytes script → AreSmall (flat_map fills script)
 script_small [] h = tt
@@ -101,10 +103,10 @@ below_append : (bound : ℕ) (one other : List Waiting) → AreBelow bound one �
 below_append bound [] other h k = k
 below_append bound (first ∷ later) other h k = (h.0, below_append bound later other h.1 k)
 
-asked_below : (side : AgentSide) (contents : ℕ → ℕ) (due : ℕ) (levels : Levels) (asked : List ℕ) → ((place : ℕ) → contents place < 256)
-    → AreBelow (bound_of side) (map (asked_word side contents due levels) asked)
-asked_below side contents due levels [] small = tt
-asked_below side contents due levels (number ∷ later) small = (word_small side contents _ small, asked_below side contents due levels later small)
+asked_below : (side : AgentSide) (contents codes : ℕ → ℕ) (due : ℕ) (levels : Levels) (asked : List ℕ) → ((place : ℕ) → contents place < 256)
+    → AreBelow (bound_of side) (map (asked_word side contents codes due levels) asked)
+asked_below side contents codes due levels [] small = tt
+asked_below side contents codes due levels (number ∷ later) small = (word_small side contents _ small, asked_below side contents codes due levels later small)
 
 still_below : (bound c : ℕ) (waiting : List Waiting) → AreBelow bound waiting → AreBelow bound (still_waiting c waiting)
 still_below bound c [] h = tt
@@ -118,9 +120,9 @@ waiting_below side script view (suc c) h =
     let before = waiting_before side script view c in
     let still = still_below (bound_of side) c before (waiting_below side script view c h) in
     either (AreBelow (bound_of side)) (takes_read side view c && is_borne side (still_waiting c before) levels.count)
-    (still_waiting c before ++ asked_words side contents (c + latency_of script) levels) (still_waiting c before)
-    (below_append (bound_of side) (still_waiting c before) (asked_words side contents (c + latency_of script) levels) still
-    (asked_below side contents (c + latency_of script) levels (numbers 0 levels.count) (contents_small side script view c h)))
+    (still_waiting c before ++ asked_words side contents (code_at side script) (c + latency_of script) levels) (still_waiting c before)
+    (below_append (bound_of side) (still_waiting c before) (asked_words side contents (code_at side script) (c + latency_of script) levels) still
+    (asked_below side contents (code_at side script) (c + latency_of script) levels (numbers 0 levels.count) (contents_small side script view c h)))
     still
 
 due_below : (side : AgentSide) (c : ℕ) (waiting : List Waiting) → AreBelow (bound_of side) waiting → word_due c waiting < bound_of side
@@ -187,6 +189,7 @@ no_stalls port (Stall pattern ∷ later) fits none =
     absurd (cc)
 no_stalls port (Latency cycles ∷ later) fits none = no_stalls port later (All-tail (FitsAgent port) (Latency cycles) later fits) none
 no_stalls port (Fill offset bytes ∷ later) fits none = no_stalls port later (All-tail (FitsAgent port) (Fill offset bytes) later fits) none
+no_stalls port (Code offset code ∷ later) fits none = no_stalls port later (All-tail (FitsAgent port) (Code offset code) later fits) none
 
 -- ---- at the ports
 
@@ -199,13 +202,22 @@ word_fits : (present : Bool) (width word : ℕ) → word < 2 ^ width → (presen
 word_fits true width word room none = record { room = λ some. room; default = λ empty. let one : word < 2 ^ 0 = subst (λ (n : ℕ). word < 2 ^ n) empty room in omega (arith, one) }
 word_fits false width word room none = record { room = λ some. absurd (omega arith); default = λ empty. none refl }
 
-pub stand_in_fits : (port : AgentPort) (script : List AgentStatement) (view : AgentView) (c : ℕ) → AllHoldBytes script → IsBoundedAgent port → IsAgentScript port script
+-- ---- what is known of codes
+
+abbrev pub CodesAreFew : Type 0
+CodesAreFew = (port : AgentPort) (script : List AgentStatement) (view : AgentView) (c : ℕ) → IsAgentScript port script → code_in port script view c ≤ 3
+
+abbrev pub NoCodeWithout : Type 0
+NoCodeWithout = (port : AgentPort) (script : List AgentStatement) (view : AgentView) (c : ℕ) → IsAgentScript port script → IsFalse port.response → code_in port script view c ≡ 0
+
+pub stand_in_fits : CodesAreFew → NoCodeWithout → (port : AgentPort) (script : List AgentStatement) (view : AgentView) (c : ℕ) → AllHoldBytes script → IsBoundedAgent port → IsAgentScript port script
     → (IsFalse port.reads → (d : ℕ) → d ≤ c → view.signals.read d ≡ 0) → FitsPorts port (stand_in_levels port script view c)
-stand_in_fits port script view c bytes bounded kept unread = record {
+stand_in_fits few without port script view c bytes bounded kept unread = record {
   wait = flag_fits port.waitrequest (stalls_in (stall_pattern script) c) (λ none. ap (λ patterns. stalls_in (first_stalls patterns) c) (no_stalls port script kept.each none));
   valid = flag_fits port.readdatavalid (gives_in port script view c) (λ none. ap (λ (valid : Bool). valid && is_due c (waiting_before (agent_side port) script view c)) none);
   word = word_fits port.reads (8 * port.word_bytes) (word_in port script view c) (word_below port script view c bytes) (λ none. no_word port script view c bounded none (unread none));
+  code = word_fits port.response 2 (code_in port script view c) (let most = few port script view c kept in omega (arith, most)) (without port script view c kept);
 }
 
-pub rest_fits : (port : AgentPort) (levels : AgentLevels) → FitsPorts port levels → FitsPorts port (record levels { word = 0 })
-rest_fits port levels h = record { wait = h.wait; valid = h.valid; word = low_fits (bits_if port.reads (8 * port.word_bytes)) }
+pub rest_fits : (port : AgentPort) (levels : AgentLevels) → FitsPorts port levels → FitsPorts port (record levels { word = 0; code = 0 })
+rest_fits port levels h = record { wait = h.wait; valid = h.valid; word = low_fits (bits_if port.reads (8 * port.word_bytes)); code = low_fits (bits_if port.response 2) }

@@ -64,7 +64,7 @@ agent_shown system netlist run c row law each known given end agent levels among
       waitrequest = shown 6 _ (one_if levels.wait) refl refl fits.wait (each row driven 0 _ refl stand);
       readdatavalid = shown 8 _ (one_if levels.valid) refl refl fits.valid (each row driven 1 _ refl stand);
       readdata = shown 7 _ levels.word refl refl fits.word (each row driven 2 _ refl stand);
-      response = shown 9 _ 0 refl refl (low_fits _) (each row driven 3 _ refl stand);
+      response = shown 9 _ levels.code refl refl fits.code (each row driven 3 _ refl stand);
     }
 
 pub agent_fits : (system : SystemTable) (row : List Word) → HaveRoom → AllHaveRoom → HasKnownPorts system → widths_of row ≡ input_widths (ports_of system)
@@ -77,6 +77,6 @@ agent_fits system row law all known same end agent levels among there fits =
       room 6 _ (one_if levels.wait) refl refl fits.wait,
       (
         room 8 _ (one_if levels.valid) refl refl fits.valid,
-        (room 7 _ levels.word refl refl fits.word, (room 9 _ 0 refl refl (low_fits _), tt)),
+        (room 7 _ levels.word refl refl fits.word, (room 9 _ levels.code refl refl fits.code, tt)),
       ),
     )

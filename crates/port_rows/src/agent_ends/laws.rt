@@ -26,6 +26,7 @@ ghost use Rattle.port_rows.specs.WorkedAgents.{reader, reader_row, seven_given};
 
 use crate::host_ends::inputs_are_driven;
 use crate::outputs_are_those_of_nets;
+use agent_stand_ins::codes_fit_their_port;
 
 /// Levels that fit an agent's ports have room in a row, and where they stand there, the run shows them.
 pub fn agents_are_shown()
@@ -53,15 +54,18 @@ pub fn agents_are_commanded()
     outputs_are_those_of_nets();
 }
 
-/// What an agent's stand-in shows fits the agent's ports, where an agent that doesn't read was never read. It still does without its word.
+/// What an agent's stand-in shows fits the agent's ports, where an agent that doesn't read was never read. It still does without its word and code.
 pub fn shown_agents_fit()
     ensures shown { (port : AgentPort) (script : List AgentStatement) (view : AgentView) (c : ℕ) → IsBoundedAgent port → IsAgentScript port script → AllHoldBytes script
         → (IsFalse port.reads → (d : ℕ) → d ≤ c → view.signals.read d ≡ 0) → FitsPorts port (stand_in_levels port script view c) }
-    ensures wordless { (port : AgentPort) (levels : AgentLevels) → FitsPorts port levels → FitsPorts port (record levels { word = 0 }) }
-{}
+    ensures wordless { (port : AgentPort) (levels : AgentLevels) → FitsPorts port levels → FitsPorts port (record levels { word = 0; code = 0 }) }
+{
+    codes_fit_their_port();
+}
 
 /// What an agent that reads alone sets in a row.
 pub fn driven_levels()
-    ensures given { set_levels reader_row (agent_levels reader seven_given) ≡ word 1 0 ∷ word 32 7 ∷ word 1 1 ∷ [] }
-    ensures in_order { ¬ (set_levels reader_row (agent_levels reader seven_given) ≡ word 1 1 ∷ word 32 7 ∷ word 1 0 ∷ []) }
+    ensures given { set_levels reader_row (agent_levels reader seven_given) ≡ word 1 0 ∷ word 32 7 ∷ word 1 1 ∷ word 2 2 ∷ [] }
+    ensures in_order { ¬ (set_levels reader_row (agent_levels reader seven_given) ≡ word 1 1 ∷ word 32 7 ∷ word 1 0 ∷ word 2 2 ∷ []) }
+    ensures without_code { ¬ (set_levels reader_row (agent_levels reader seven_given) ≡ word 1 0 ∷ word 32 7 ∷ word 1 1 ∷ word 2 0 ∷ []) }
 {}

@@ -16,12 +16,13 @@ use link_rules::Plan;
 use netlist::PortLine;
 use system_tables::EndId;
 
-/// What an agent shows in a cycle: `waitrequest`, `readdatavalid` and `readdata`.
+/// What an agent shows in a cycle: `waitrequest`, `readdatavalid`, `readdata` and `response`.
 #[derive(Clone, Copy)]
 pub struct AgentLevels {
     pub wait: bool,
     pub valid: bool,
     pub word: u128,
+    pub code: u8,
 }
 
 /// Where `waitrequest`, `readdatavalid`, `readdata` and `response` of an agent stand in a row of values; None where a port is absent.
@@ -61,7 +62,7 @@ impl AgentPlaces {
         }
     }
 
-    /// Sets the levels of a cycle in a row, which has room for them; `response` is 0.
+    /// Sets the levels of a cycle in a row, which has room for them.
     pub fn show(&self, row: &mut InputRow, levels: AgentLevels)
         requires { AllFit row.old (agent_levels self.now levels) }
         ensures { row.new ≡ set_levels row.old (agent_levels self.now levels) }
@@ -82,7 +83,7 @@ impl AgentPlaces {
             },
             Driven {
                 place: places.response,
-                bits: 0,
+                bits: u128::from(levels.code),
             },
         ]);
     }

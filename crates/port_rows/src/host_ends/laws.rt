@@ -60,6 +60,8 @@ pub fn hosts_are_answered()
         → (host_view netlist run bytes (name_at system end)).readdatavalid c ≡ level_of netlist run c 0 (host_outputs system end).valid }
     ensures word { (system : SystemTable) (netlist : Netlist) (run : Run) (c bytes : ℕ) (end : EndId) → netlist.ports ≡ ports_of system
         → (host_view netlist run bytes (name_at system end)).readdata c ≡ level_of netlist run c 0 (host_outputs system end).word }
+    ensures response { (system : SystemTable) (netlist : Netlist) (run : Run) (c bytes : ℕ) (end : EndId) → netlist.ports ≡ ports_of system
+        → (host_view netlist run bytes (name_at system end)).response c ≡ level_of netlist run c 0 (host_outputs system end).response }
 {
     outputs_are_those_of_nets();
 }

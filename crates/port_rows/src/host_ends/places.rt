@@ -27,12 +27,13 @@ pub struct HostPlaces {
     pub count: Option<usize>,
 }
 
-/// The numbers, in the header, of the outputs that answer a host: `waitrequest`, `readdatavalid` and `readdata`. None where a port is absent.
+/// The numbers, in the header, of the outputs that answer a host: `waitrequest`, `readdatavalid`, `readdata` and `response`. None where a port is absent.
 #[derive(Clone, Copy)]
 pub struct HostPorts {
     pub wait: Option<u32>,
     pub valid: Option<u32>,
     pub word: Option<u32>,
+    pub response: Option<u32>,
 }
 
 impl HostPlaces {
@@ -99,6 +100,7 @@ impl HostPorts {
             wait: port_number(plan, ports, end, Role::WaitRequest),
             valid: port_number(plan, ports, end, Role::ReadDataValid),
             word: port_number(plan, ports, end, Role::ReadData),
+            response: port_number(plan, ports, end, Role::Response),
         }
     }
 }
