@@ -21,7 +21,7 @@ use Rattle.scenario_tables.specs.declared.scenario.Scenario.{Scenario}
 use Rattle.host_stand_ins.specs.Steps.{all_steps, shown}
 use Rattle.host_stand_ins.specs.StandIns.{left_before, IsHostStandIn}
 use Rattle.agent_stand_ins.specs.Answers.{is_due, word_due, waiting_before, word_behind}
-use Rattle.agent_stand_ins.specs.StandIns.{stall_pattern, stalls_in, IsAgentStandIn}
+use Rattle.agent_stand_ins.specs.StandIns.{stall_pattern, stalls_in, code_in, IsAgentStandIn}
 use Rattle.stream_stand_ins.specs.Sources.{beat_shown, Shows, IsSourceStandIn}
 use Rattle.stream_stand_ins.specs.Sinks.{ready_in, IsSinkStandIn}
 use Rattle.simulated_runs.specs.Ends.{stream_view}
@@ -46,7 +46,7 @@ agent_goes_on port script view c stands shows = record {
   readdatavalid = grown (λ (k : ℕ). view.readdatavalid k ≡ one_if (port.readdatavalid && is_due k (waiting_before (agent_side port) script view k))) c stands.readdatavalid shows.readdatavalid;
   readdata = grown (λ (k : ℕ). view.readdata k ≡ (if port.readdatavalid then word_due k (waiting_before (agent_side port) script view k) else word_behind (agent_side port) script view k)) c
       stands.readdata shows.readdata;
-  response = grown (λ (k : ℕ). view.response k ≡ 0) c stands.response shows.response;
+  response = grown (λ (k : ℕ). view.response k ≡ code_in port script view k) c stands.response shows.response;
 }
 
 pub goes_on : (plan : PlanTable) (scenario : Scenario) (netlist : Netlist) (run : Run) (c : ℕ) (cycle : Cycle)

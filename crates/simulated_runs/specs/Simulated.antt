@@ -26,7 +26,7 @@ use Rattle.scenario_tables.specs.Scenarios.{IsHostAt, IsAgentAt}
 use Rattle.host_stand_ins.specs.Steps.{all_steps, shown}
 use Rattle.host_stand_ins.specs.StandIns.{left_before, IsHostStandIn}
 use Rattle.agent_stand_ins.specs.Answers.{is_due, word_due, waiting_before, word_behind}
-use Rattle.agent_stand_ins.specs.StandIns.{stall_pattern, stalls_in, IsAgentStandIn}
+use Rattle.agent_stand_ins.specs.StandIns.{stall_pattern, stalls_in, code_in, IsAgentStandIn}
 use Rattle.stream_stand_ins.specs.Sources.{beat_shown, Shows, IsSourceStandIn}
 use Rattle.stream_stand_ins.specs.Sinks.{ready_in, IsSinkStandIn}
 use Rattle.simulated_runs.specs.Ends.{stream_view}
@@ -54,7 +54,7 @@ pub record AgentShows (port : AgentPort) (script : List AgentStatement) (view : 
   pub waitrequest : view.waitrequest c ≡ one_if (stalls_in (stall_pattern script) c)
   pub readdatavalid : view.readdatavalid c ≡ one_if (port.readdatavalid && is_due c (waiting_before (agent_side port) script view c))
   pub readdata : view.readdata c ≡ (if port.readdatavalid then word_due c (waiting_before (agent_side port) script view c) else word_behind (agent_side port) script view c)
-  pub response : view.response c ≡ 0
+  pub response : view.response c ≡ code_in port script view c
 
 -- each interface of the plan does in a cycle what its script says
 pub record AreShown (plan : PlanTable) (scenario : Scenario) (netlist : Netlist) (run : Run) (c : ℕ) : Type 0 where
