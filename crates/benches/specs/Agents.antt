@@ -9,12 +9,13 @@ use Rattle.system_tables.specs.Tables.{SystemTable}
 use Rattle.map_text.specs.Text.{end_name}
 use Rattle.cycle_sim.specs.Sims.{SimValue}
 use Rattle.mm_runs.specs.Views.{Levels, AgentView, levels_at}
+use Rattle.mm_runs.specs.Legal.{Word as CodedWord}
 use Rattle.port_rows.specs.Levels.{Level}
 use Rattle.scenario_tables.specs.declared.statements.AgentStatement.{AgentStatement}
 use Rattle.scenario_tables.specs.Scenarios.{IsAgentAt}
 use Rattle.scenario_tables.specs.Statements.{all_lanes}
 use Rattle.agent_stand_ins.specs.StandIns.{stalls_in}
-use Rattle.agent_stand_ins.specs.Whole.{AgentStandInValue, IsFirst, IsBehind, accepts, address_shown, gives, word_shown, word_now}
+use Rattle.agent_stand_ins.specs.Whole.{AgentStandInValue, IsFirst, IsBehind, accepts, address_shown, gives, word_shown, word_now, code_shown, code_now}
 use Rattle.port_rows.specs.declared.agent_ends.places.AgentLevels.{AgentLevels}
 use Rattle.port_rows.specs.declared.agent_ends.places.AgentPlaces.{AgentPlaces}
 use Rattle.port_rows.specs.declared.agent_ends.places.AgentPorts.{AgentPorts}
@@ -68,21 +69,28 @@ commanded agent sim = record {
   count = level_now sim 1 agent.ports.count;
 }
 
--- what it shows, with this word on `readdata`
-abbrev pub levels_with : BenchAgentValue → ℕ → AgentLevels
-levels_with agent bits = record { wait = stalls_in agent.stand_in.stalls agent.stand_in.cycle; valid = gives agent.stand_in; word = bits }
+-- what it shows, with this word on `readdata` and its code on `response`
+abbrev pub levels_with : BenchAgentValue → CodedWord → AgentLevels
+levels_with agent answer = record { wait = stalls_in agent.stand_in.stalls agent.stand_in.cycle; valid = gives agent.stand_in; word = answer.word; code = answer.code }
 
--- what it sets in a row before its command is known
+-- the word of the cycle before its command is known, and its code
+abbrev pub first_word : BenchAgentValue → CodedWord
+first_word agent = record { word = word_shown agent.stand_in; code = code_shown agent.stand_in }
+
+-- what it sets in a row then
 abbrev pub sets : BenchAgentValue → List Level
-sets agent = agent_levels agent.places (levels_with agent (word_shown agent.stand_in))
+sets agent = agent_levels agent.places (levels_with agent (first_word agent))
 
 -- it gives a word in the very cycle in which it takes the read
 abbrev pub gives_at_once : BenchAgentValue → Bool
 gives_at_once agent = not agent.stand_in.port.readdatavalid && nat_eq agent.stand_in.port.read_latency 0
 
--- the word of the cycle once the command is known
-abbrev pub word_answered : BenchAgentValue → SimValue → ℕ
-word_answered agent sim = if gives_at_once agent then word_now agent.stand_in (commanded agent sim) else word_shown agent.stand_in
+-- the word of the cycle once the command is known, and its code
+abbrev pub word_answered : BenchAgentValue → SimValue → CodedWord
+word_answered agent sim = record {
+  word = if gives_at_once agent then word_now agent.stand_in (commanded agent sim) else word_shown agent.stand_in;
+  code = if gives_at_once agent then code_now agent.stand_in (commanded agent sim) else code_shown agent.stand_in;
+}
 
 -- what it sets then
 abbrev pub sets_answered : BenchAgentValue → SimValue → List Level

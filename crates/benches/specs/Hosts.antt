@@ -60,6 +60,7 @@ pub record Fits (host : BenchHostValue) (sim : SimValue) : Type 0 where
   pub wait : IsOutputIf sim.netlist 1 host.ports.wait
   pub valid : IsOutputIf sim.netlist 1 host.ports.valid
   pub word : IsOutputIf sim.netlist (8 * host.stand_in.port.word_bytes) host.ports.word
+  pub response : IsOutputIf sim.netlist 2 host.ports.response
 
 -- it is given a word
 abbrev pub is_given : BenchHostValue → SimValue → Bool
@@ -71,13 +72,17 @@ is_given host sim =
 abbrev pub word_given : BenchHostValue → SimValue → Option Word
 word_given host sim = if is_given host sim then Some (word (8 * host.stand_in.port.word_bytes) (level_now sim 0 host.ports.word)) else None
 
+-- the code beside it, where the host has `response`
+abbrev pub code_shown : BenchHostValue → SimValue → Option ℕ
+code_shown host sim = if host.stand_in.port.response then Some (level_now sim 0 host.ports.response) else None
+
 -- a write beat of it is accepted
 abbrev pub is_write_taken : BenchHostValue → SimValue → Bool
 is_write_taken host sim = is_raised (shown_by host).write && not (is_raised (level_now sim 0 host.ports.wait))
 
 -- the line that tells of a word
 abbrev pub tells : BenchHostValue → SimValue → ℕ → List (List ℕ)
-tells host sim c = only_if (is_given host sim) (get_line c host.name (word (8 * host.stand_in.port.word_bytes) (level_now sim 0 host.ports.word)))
+tells host sim c = only_if (is_given host sim) (get_line c host.name (word (8 * host.stand_in.port.word_bytes) (level_now sim 0 host.ports.word)) (code_shown host sim))
 
 -- what it adds to the counts
 abbrev pub counts : BenchHostValue → SimValue → Counts
@@ -95,3 +100,4 @@ pub record IsSeen (view : HostView) (c : ℕ) (sim : SimValue) (host : BenchHost
   pub waitrequest : view.waitrequest c ≡ level_now sim 0 host.ports.wait
   pub readdatavalid : view.readdatavalid c ≡ level_now sim 0 host.ports.valid
   pub readdata : view.readdata c ≡ level_now sim 0 host.ports.word
+  pub response : view.response c ≡ level_now sim 0 host.ports.response

@@ -9,8 +9,9 @@ use Rattle.memory_sides.specs.Sides.{agent_side}
 use Rattle.scenario_tables.specs.declared.statements.AgentStatement.{AgentStatement}
 use Rattle.agent_stand_ins.specs.Contents.{filled, contents_before}
 use Rattle.agent_stand_ins.specs.declared.waiting.Waiting.{Waiting}
-use Rattle.agent_stand_ins.specs.Answers.{takes_read, latency_of, waiting_before, waiting_after, is_due, word_due, word_asked, word_asked_in, word_behind}
-use Rattle.agent_stand_ins.specs.StandIns.{gives_in, word_in}
+use Rattle.agent_stand_ins.specs.Codes.{code_at}
+use Rattle.agent_stand_ins.specs.Answers.{takes_read, latency_of, waiting_before, waiting_after, is_due, word_due, code_due, word_asked, word_asked_in, word_behind, code_asked, code_asked_in, code_behind}
+use Rattle.agent_stand_ins.specs.StandIns.{gives_in, word_in, code_in}
 
 -- two agents are commanded alike, and stall alike, in the cycles before `end`
 pub record CommandedAlike (one two : AgentView) (end : ℕ) : Type 0 where
@@ -68,9 +69,9 @@ module _ (side : AgentSide) (script : List AgentStatement) (one two : AgentView)
   same_waiting : (c : ℕ) → c ≤ end → waiting_before side script one c ≡ waiting_before side script two c
   same_waiting zero low = refl
   same_waiting (suc c) low =
-      ap₂ (λ (contents : ℕ → ℕ) (levels : Levels). waiting_after side (latency_of script) c contents levels (takes_read side one c) (waiting_before side script one c))
+      ap₂ (λ (contents : ℕ → ℕ) (levels : Levels). waiting_after side (latency_of script) c contents (code_at side script) levels (takes_read side one c) (waiting_before side script one c))
       (same_contents c (omega arith)) (alike.signals c (omega arith))
-      ∙ ap₂ (λ (reads : Bool) (waiting : List Waiting). waiting_after side (latency_of script) c (contents_before side script two c) (levels_at two.signals c) reads waiting)
+      ∙ ap₂ (λ (reads : Bool) (waiting : List Waiting). waiting_after side (latency_of script) c (contents_before side script two c) (code_at side script) (levels_at two.signals c) reads waiting)
       (same_takes c (omega arith)) (same_waiting c (omega arith))
 
   same_asked : (c : ℕ) → c < end → word_asked_in side script one c ≡ word_asked_in side script two c
@@ -80,6 +81,12 @@ module _ (side : AgentSide) (script : List AgentStatement) (one two : AgentView)
 
   same_behind : (c : ℕ) → c < end → word_behind side script one c ≡ word_behind side script two c
   same_behind c low = ap (λ (word : ℕ). if nat_le side.read_latency c then word else 0) (same_asked (c - side.read_latency) (omega arith))
+
+  same_code_asked : (c : ℕ) → c < end → code_asked_in side script one c ≡ code_asked_in side script two c
+  same_code_asked c low = ap₂ (λ (levels : Levels) (reads : Bool). code_asked side (code_at side script) levels reads) (alike.signals c low) (same_takes c low)
+
+  same_code_behind : (c : ℕ) → c < end → code_behind side script one c ≡ code_behind side script two c
+  same_code_behind c low = ap (λ (code : ℕ). if nat_le side.read_latency c then code else 0) (same_code_asked (c - side.read_latency) (omega arith))
 
 -- whether a word is given is known before the command of the cycle
 pub gives_alike : (port : AgentPort) (script : List AgentStatement) (one two : AgentView) (c : ℕ) → CommandedAlike one two c → gives_in port script one c ≡ gives_in port script two c
@@ -91,3 +98,9 @@ pub word_alike : (port : AgentPort) (script : List AgentStatement) (one two : Ag
 word_alike port script one two c alike =
     ap₂ (λ (waiting : List Waiting) (word : ℕ). if port.readdatavalid then word_due c waiting else word)
     (same_waiting (agent_side port) script one two (suc c) alike c (omega arith)) (same_behind (agent_side port) script one two (suc c) alike c (omega arith))
+
+-- and its code
+pub code_alike : (port : AgentPort) (script : List AgentStatement) (one two : AgentView) (c : ℕ) → CommandedAlike one two (suc c) → code_in port script one c ≡ code_in port script two c
+code_alike port script one two c alike =
+    ap₂ (λ (waiting : List Waiting) (code : ℕ). if port.readdatavalid then code_due c waiting else code)
+    (same_waiting (agent_side port) script one two (suc c) alike c (omega arith)) (same_code_behind (agent_side port) script one two (suc c) alike c (omega arith))

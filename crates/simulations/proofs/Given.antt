@@ -101,7 +101,7 @@ host_is_given system end port levels known = record {
 abbrev agent_given : EndId → AgentLevels → EndLevels
 agent_given end levels = record {
   end = end;
-  levels = gives role.WaitRequest (one_if levels.wait) ∷ gives role.ReadDataValid (one_if levels.valid) ∷ gives role.ReadData levels.word ∷ gives role.Response 0 ∷ [];
+  levels = gives role.WaitRequest (one_if levels.wait) ∷ gives role.ReadDataValid (one_if levels.valid) ∷ gives role.ReadData levels.word ∷ gives role.Response levels.code ∷ [];
 }
 
 pub agent_is_given : (system : SystemTable) (end : EndId) (port : AgentPort) (levels : AgentLevels) → known_at system end ≡ Agent port → IsGivenAt system end (agent_levels (agent_places system end) levels)

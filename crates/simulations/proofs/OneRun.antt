@@ -39,7 +39,7 @@ use Rattle.simulated_runs.specs.Simulated.{IsSimulated}
 use Rattle.simulations.specs.Agreeing.{InterfacesAgree}
 use Rattle.simulations.specs.Benches.{IsSetUp}
 use Rattle.simulations.proofs.Alike.{PortsAlike, hosts_alike, agents_alike, interfaces_agree}
-use Rattle.simulations.proofs.Answering.{CommandedAlike, gives_alike, word_alike}
+use Rattle.simulations.proofs.Answering.{CommandedAlike, code_alike, gives_alike, word_alike}
 use Rattle.simulations.proofs.Beside.{Beside, has, inside}
 use Rattle.simulations.proofs.Inputs.{GivesSame, AllGiveSame, InputsAreNets, HostsAreKnown, AgentsAreKnown, StreamsAreNumbered, LinksAreKnown, same_inputs}
 
@@ -166,11 +166,6 @@ module _ (plan : PlanTable) (scenario : Scenario) (netlist : Netlist) (one two :
         ∙ ap one_if (gives_alike port script.item (agent_in plan netlist one a) (agent_in plan netlist two a) c (commanded_before a))
         ∙ sym ((second.agents a port script.item at script.is).readdatavalid c low)
 
-    same_response : (a : ℕ) (port : AgentPort) → IsAgentAt plan.system a port → (agent_in plan netlist one a).response c ≡ (agent_in plan netlist two a).response c
-    same_response a port at =
-        let script = agent_script a port at in
-        (first.agents a port script.item at script.is).response c low ∙ sym ((second.agents a port script.item at script.is).response c low)
-
     -- the cycle alone, over and over
     still : (run : Run) → PortsAlike netlist (standing_still (cycle_of run c)) run 0 c
     still run name port named = refl
@@ -187,7 +182,7 @@ module _ (plan : PlanTable) (scenario : Scenario) (netlist : Netlist) (one two :
         let agent = agents a there.item there.is in
         (agent.agent, record { end = there.item; end_is = there.is; is = known_is plan.system there.item (Agent agent.agent) agent.is })
 
-    -- the commands don't depend on the words that come in the cycle
+    -- the commands don't depend on the words that come in the cycle, nor on their codes
     same_command : SameState netlist (cycle_of one c) (cycle_of two c) → (a : ℕ) → a < length (agents_of plan.system)
         → levels_at (agent_in plan netlist one a).signals c ≡ levels_at (agent_in plan netlist two a).signals c
     same_command state a below =
@@ -205,11 +200,8 @@ module _ (plan : PlanTable) (scenario : Scenario) (netlist : Netlist) (one two :
           agents = λ b inner. (
               let at = known_agent b inner in
               let left = agents_alike netlist still_one one 0 c (still one) plan b in
-              let right = agents_alike netlist still_two two 0 c (still two) plan b in (
-                left.waitrequest ∙ same_wait b at.0 at.1 ∙ sym right.waitrequest,
-                left.readdatavalid ∙ same_valid b at.0 at.1 ∙ sym right.readdatavalid,
-                left.response ∙ same_response b at.0 at.1 ∙ sym right.response,
-              ));
+              let right = agents_alike netlist still_two two 0 c (still two) plan b in
+              (left.waitrequest ∙ same_wait b at.0 at.1 ∙ sym right.waitrequest, left.readdatavalid ∙ same_valid b at.0 at.1 ∙ sym right.readdatavalid));
         })
         a below in
         sym (agents_alike netlist still_one one 0 c (still one) plan a).signals ∙ ap (λ (sees : AgentSees). sees.levels) same ∙ (agents_alike netlist still_two two 0 c (still two) plan a).signals
@@ -229,7 +221,7 @@ module _ (plan : PlanTable) (scenario : Scenario) (netlist : Netlist) (one two :
           waitrequest = same_wait a port at;
           readdatavalid = same_valid a port at;
           readdata = (first.agents a port script.item at script.is).readdata c low ∙ word_alike port script.item view_one view_two c commanded ∙ sym ((second.agents a port script.item at script.is).readdata c low);
-          response = same_response a port at;
+          response = (first.agents a port script.item at script.is).response c low ∙ code_alike port script.item view_one view_two c commanded ∙ sym ((second.agents a port script.item at script.is).response c low);
         }
 
     source_script : (s : ℕ) (link : StreamLink) → slice_get (stream_links plan.system) s ≡ Some link → Beside scenario.sources s

@@ -12,6 +12,7 @@ use Rattle.address_map.specs.Maps.{hosts_of, agents_of}
 use Rattle.link_rules.specs.declared.plan_links.StreamLink.{StreamLink}
 use Rattle.link_rules.specs.Links.{streams_of}
 use Rattle.link_rules.specs.PlanLinks.{stream_links, IsStreamLink}
+use Rattle.mm_runs.specs.Legal.{Word as CodedWord}
 use Rattle.port_tables.specs.EndFacts.{known_is}
 use Rattle.port_tables.specs.Ports.{connection_ends, ends_of}
 use Rattle.port_tables.specs.PortMaps.{HasKnownPorts}
@@ -49,7 +50,7 @@ module _ (system : SystemTable) where
       let is = host_is_given system end host.stand_in.port (of_hosts.shown_by host) known in
       one_given system end (of_hosts.sets host) (subst (IsGivenAt system end) (ap (λ places. host_levels places (of_hosts.shown_by host)) (sym (of.places ∙ ap (host_places system) same))) is)
 
-  agent_given : (words : BenchAgentValue → ℕ) (a : ℕ) (end : EndId) (agent : BenchAgentValue) → slice_get (agents_of system) a ≡ Some end → IsAgentOf system a agent
+  agent_given : (words : BenchAgentValue → CodedWord) (a : ℕ) (end : EndId) (agent : BenchAgentValue) → slice_get (agents_of system) a ≡ Some end → IsAgentOf system a agent
       → AreGivenAt system (end ∷ []) (sets_with words agent)
   agent_given words a end agent there of =
       let same : of.at.end ≡ end = (let e : Some of.at.end ≡ Some end = sym of.at.end_is ∙ there in cc) in
@@ -94,7 +95,7 @@ abbrev pub LinksAreNumbered : SystemTable → Type 0
 LinksAreNumbered system = (number : ℕ) (link : StreamLink) → slice_get (stream_links system) number ≡ Some link → IsStreamLink system number link
 
 -- whatever the words of the agents are, no place is set twice
-pub all_apart : (system : SystemTable) (bench : BenchValue) (words : BenchAgentValue → ℕ) → EndsAreApart → LinksAreNumbered system → HasKnownPorts system → AreOf system bench → AreApart (all_levels bench words)
+pub all_apart : (system : SystemTable) (bench : BenchValue) (words : BenchAgentValue → CodedWord) → EndsAreApart → LinksAreNumbered system → HasKnownPorts system → AreOf system bench → AreApart (all_levels bench words)
 all_apart system bench words law links ports are =
     let hosts : AreGivenAt system (flat_map (λ (e : EndId). e ∷ []) (hosts_of system)) (flat_map of_hosts.sets bench.hosts) =
     many_given system (λ (e : EndId). e ∷ []) of_hosts.sets (hosts_of system) bench.hosts are.host_count (λ h end host there at. host_given system h end host there (are.hosts h host at)) in
@@ -127,17 +128,17 @@ one_of_many_stands {C} front back row sets (first ∷ items) (suc k) item at h =
     one_of_many_stands front back row sets items k item at (back row (sets first) (flat_map sets items) h)
 
 -- the parts of what all components set
-pub hosts_stand : (front : FrontStands) (row : List Word) (bench : BenchValue) (words : BenchAgentValue → ℕ) → AllStand row (all_levels bench words) → AllStand row (flat_map of_hosts.sets bench.hosts)
+pub hosts_stand : (front : FrontStands) (row : List Word) (bench : BenchValue) (words : BenchAgentValue → CodedWord) → AllStand row (all_levels bench words) → AllStand row (flat_map of_hosts.sets bench.hosts)
 hosts_stand front row bench words h =
     front row (flat_map of_hosts.sets bench.hosts) (flat_map (sets_with words) bench.agents)
     (front row (flat_map of_hosts.sets bench.hosts ++ flat_map (sets_with words) bench.agents) (flat_map of_streams.sets bench.streams) h)
 
-pub agents_stand : (front : FrontStands) (back : BackStands) (row : List Word) (bench : BenchValue) (words : BenchAgentValue → ℕ) → AllStand row (all_levels bench words) → AllStand row (flat_map (sets_with words) bench.agents)
+pub agents_stand : (front : FrontStands) (back : BackStands) (row : List Word) (bench : BenchValue) (words : BenchAgentValue → CodedWord) → AllStand row (all_levels bench words) → AllStand row (flat_map (sets_with words) bench.agents)
 agents_stand front back row bench words h =
     back row (flat_map of_hosts.sets bench.hosts) (flat_map (sets_with words) bench.agents)
     (front row (flat_map of_hosts.sets bench.hosts ++ flat_map (sets_with words) bench.agents) (flat_map of_streams.sets bench.streams) h)
 
-pub streams_stand : (back : BackStands) (row : List Word) (bench : BenchValue) (words : BenchAgentValue → ℕ) → AllStand row (all_levels bench words) → AllStand row (flat_map of_streams.sets bench.streams)
+pub streams_stand : (back : BackStands) (row : List Word) (bench : BenchValue) (words : BenchAgentValue → CodedWord) → AllStand row (all_levels bench words) → AllStand row (flat_map of_streams.sets bench.streams)
 streams_stand back row bench words h = back row (flat_map of_hosts.sets bench.hosts ++ flat_map (sets_with words) bench.agents) (flat_map of_streams.sets bench.streams) h
 
 -- as many streams as links

@@ -5,6 +5,7 @@ use Rattle.iface_roles.specs.declared.records.HostPort.{HostPort}
 use Rattle.iface_roles.specs.declared.records.AgentPort.{AgentPort}
 use Rattle.iface_roles.specs.declared.records.StreamPort.{StreamPort}
 use Rattle.mm_runs.specs.Views.{HostView, AgentView, levels_at}
+use Rattle.mm_runs.specs.Legal.{Word as CodedWord}
 use Rattle.stream_runs.specs.View.{EndView}
 use Rattle.scenario_tables.specs.declared.statements.HostStatement.{HostStatement}
 use Rattle.scenario_tables.specs.declared.statements.AgentStatement.{AgentStatement}
@@ -24,11 +25,11 @@ use Rattle.benches.specs.Agents as of_agents
 pub some_same : {X : Type 0} (x y : X) → Some x ≡ Some y → x ≡ y
 some_same x y e = cc
 
-pub seen_at : (view : AgentView) (c : ℕ) (sim : SimValue) (agent : BenchAgentValue) (bits : ℕ) → agent.stand_in.cycle ≡ c → levels_at view.signals c ≡ commanded agent sim
-    → AreShownBy view c (levels_with agent bits) → view.grant c ≡ level_now sim 0 agent.ports.grant → of_agents.IsSeen view sim agent
-seen_at view c sim agent bits now commands shows grants = record {
+pub seen_at : (view : AgentView) (c : ℕ) (sim : SimValue) (agent : BenchAgentValue) (answer : CodedWord) → agent.stand_in.cycle ≡ c → levels_at view.signals c ≡ commanded agent sim
+    → AreShownBy view c (levels_with agent answer) → view.grant c ≡ level_now sim 0 agent.ports.grant → of_agents.IsSeen view sim agent
+seen_at view c sim agent answer now commands shows grants = record {
   signals = subst (λ (d : ℕ). levels_at view.signals d ≡ commanded agent sim) (sym now) commands;
-  waitrequest = subst (λ (d : ℕ). view.waitrequest d ≡ one_if (levels_with agent bits).wait) (sym now) shows.waitrequest;
+  waitrequest = subst (λ (d : ℕ). view.waitrequest d ≡ one_if (levels_with agent answer).wait) (sym now) shows.waitrequest;
   grant = subst (λ (d : ℕ). view.grant d ≡ level_now sim 0 agent.ports.grant) (sym now) grants;
 }
 

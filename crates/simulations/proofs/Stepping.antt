@@ -6,6 +6,7 @@ use Rattle.netlist.specs.Netlists.{Netlist, IsInputPort}
 use Rattle.netlist.specs.Runs.{Run, IsValuation}
 use Rattle.cycle_sim.specs.Sims.{SimValue, given_to, input_widths, present, widths_of}
 use Rattle.cycle_sim.specs.Standing.{IsClearedRun, StandsFor, with_cycle}
+use Rattle.mm_runs.specs.Legal.{Word as CodedWord}
 use Rattle.port_tables.specs.Ports.{ports_of}
 use Rattle.port_rows.specs.Levels.{Level, AllFit, AllStand, set_levels}
 use Rattle.scenario_tables.specs.declared.scenario.Scenario.{Scenario}
@@ -57,7 +58,7 @@ moved plan scenario netlist run k bench sim row all = record {
   streams = all.streams;
 }
 
-pub now_shown : (plan : PlanTable) (scenario : Scenario) (run : Run) (k : ℕ) (bench : BenchValue) (sim : SimValue) (row : List Word) (words : BenchAgentValue → ℕ) → IsUnderWay plan scenario run k bench
+pub now_shown : (plan : PlanTable) (scenario : Scenario) (run : Run) (k : ℕ) (bench : BenchValue) (sim : SimValue) (row : List Word) (words : BenchAgentValue → CodedWord) → IsUnderWay plan scenario run k bench
     → sim.netlist ≡ bench.sim.netlist → StandsFor sim run k → sim.stepped ≡ true → IsClearedRun sim.netlist (with_cycle run k (present sim)) (k + 1) → IsValuation sim.netlist (present sim)
     → ((p w : ℕ) → IsInputPort sim.netlist.ports p w → (present sim).input p ≡ given_to sim.netlist row p) → AllFitPorts bench words → widths_of row ≡ input_widths (ports_of plan.system)
     → AllStand row (all_levels bench words) → IsShown plan scenario run k words (record bench { sim = sim; row = row })

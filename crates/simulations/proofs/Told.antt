@@ -70,10 +70,14 @@ pub same_given : (c : ℕ) (side : HostSide) (one two : HostView) → levels_at 
 same_given c side one two levels wait valid =
     ap₂ (λ (l : Levels) (w : ℕ). is_given side l w (one.readdatavalid c)) levels wait ∙ ap (is_given side (levels_at two.signals c) (two.waitrequest c)) valid
 
+abbrev given_line : ℕ → List ℕ → HostSide → Bool → ℕ → ℕ → List (List ℕ)
+given_line c name side is bits code = only_if is (get_line c name (word (8 * side.word_bytes) bits) (if side.has_response then Some code else None))
+
 pub same_host : (c : ℕ) (name : List ℕ) (side : HostSide) (one two : HostView) → levels_at one.signals c ≡ levels_at two.signals c → one.waitrequest c ≡ two.waitrequest c → one.readdatavalid c ≡ two.readdatavalid c
-    → one.readdata c ≡ two.readdata c → told_of_host c (record { name = name; side = side; view = one }) ≡ told_of_host c (record { name = name; side = side; view = two })
-same_host c name side one two levels wait valid bits =
-    ap₂ (λ (b : Bool) (d : ℕ). only_if b (get_line c name (word (8 * side.word_bytes) d))) (same_given c side one two levels wait valid) bits
+    → one.readdata c ≡ two.readdata c → one.response c ≡ two.response c → told_of_host c (record { name = name; side = side; view = one }) ≡ told_of_host c (record { name = name; side = side; view = two })
+same_host c name side one two levels wait valid bits code =
+    ap₂ (λ (b : Bool) (d : ℕ). given_line c name side b d (one.response c)) (same_given c side one two levels wait valid) bits
+    ∙ ap (given_line c name side (gives_word side two c) (two.readdata c)) code
 
 abbrev taken_lines : ℕ → List ℕ → AgentSide → Bool → Transfer → ℕ → ℕ → List (List ℕ)
 taken_lines c name side accepts transfer grant enables =

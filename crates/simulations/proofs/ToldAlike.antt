@@ -40,7 +40,7 @@ module _ (accepted : AcceptedAlike) (transfer : TransfersAlike) (plan : PlanTabl
       let hosts = flat_same (told_of_host k) (host_end plan netlist one) (host_end plan netlist two) (numbers 0 (length (hosts_of system))) (λ h. (
       let agree = all.memory.hosts h in
       same_host k (name_in system (hosts_of system) h) ((memory_system plan).host h) (host_in plan netlist one h) (host_in plan netlist two h) (agree.signals k low) (agree.waitrequest k low)
-      (agree.readdatavalid k low) (agree.readdata k low))) in
+      (agree.readdatavalid k low) (agree.readdata k low) (agree.response k low))) in
       let agents = flat_same (told_of_agent k) (agent_end plan netlist one) (agent_end plan netlist two) (numbers 0 (length (agents_of system))) (λ a. (
       let agree = all.memory.agents a in
       let side = (memory_system plan).agent a in

@@ -8,6 +8,7 @@ use Rattle.netlist.specs.Netlists.{Netlist, IsModule}
 use Rattle.netlist.specs.Runs.{Run}
 use Rattle.cycle_sim.specs.Sims.{SimValue, input_widths, widths_of}
 use Rattle.cycle_sim.specs.Standing.{StandsFor}
+use Rattle.mm_runs.specs.Legal.{Word as CodedWord}
 use Rattle.port_tables.specs.Ports.{ports_of}
 use Rattle.port_tables.specs.PortMaps.{HasKnownPorts}
 use Rattle.port_rows.specs.Levels.{Level}
@@ -40,12 +41,12 @@ pub record BenchValue : Type 0 where
   pub agents : List BenchAgentValue
   pub streams : List BenchStreamValue
 
--- what an agent sets with a word on `readdata`
-abbrev pub sets_with : (BenchAgentValue → ℕ) → BenchAgentValue → List Level
+-- what an agent sets with a word on `readdata` and its code on `response`
+abbrev pub sets_with : (BenchAgentValue → CodedWord) → BenchAgentValue → List Level
 sets_with words agent = agent_levels agent.places (levels_with agent (words agent))
 
 -- what all components set in a cycle, where the agents' words are these
-abbrev pub all_levels : BenchValue → (BenchAgentValue → ℕ) → List Level
+abbrev pub all_levels : BenchValue → (BenchAgentValue → CodedWord) → List Level
 all_levels bench words = flat_map of_hosts.sets bench.hosts ++ flat_map (sets_with words) bench.agents ++ flat_map of_streams.sets bench.streams
 
 -- ---- what is simulated

@@ -5,6 +5,7 @@ use Rattle.netlist.specs.Netlists.{IsInputPort}
 use Rattle.netlist.specs.Runs.{Run, IsValuation}
 use Rattle.cycle_sim.specs.Sims.{present, given_to}
 use Rattle.cycle_sim.specs.Standing.{IsClearedRun, with_cycle}
+use Rattle.mm_runs.specs.Legal.{Word as CodedWord}
 use Rattle.port_rows.specs.Levels.{AllStand, set_levels}
 use Rattle.interconnect.specs.Memory.{host_in, agent_in}
 use Rattle.scenario_tables.specs.declared.scenario.Scenario.{Scenario}
@@ -14,8 +15,7 @@ use Rattle.trace_lines.specs.Sums.{with_counts}
 use Rattle.benches.specs.Counting.{counted_together}
 use Rattle.benches.specs.Hosts.{BenchHostValue}
 use Rattle.benches.specs.Hosts as of_hosts
-use Rattle.agent_stand_ins.specs.Whole.{word_shown}
-use Rattle.benches.specs.Agents.{BenchAgentValue}
+use Rattle.benches.specs.Agents.{BenchAgentValue, first_word}
 use Rattle.benches.specs.Agents as of_agents
 use Rattle.benches.specs.Streams.{BenchStreamValue}
 use Rattle.benches.specs.Streams as of_streams
@@ -26,9 +26,9 @@ use Rattle.simulations.specs.Sound.{AllFitPorts, StreamsAreShown}
 abbrev pub run_with : Run → ℕ → BenchValue → Run
 run_with run c bench = with_cycle run c (present bench.sim)
 
--- the agents' words before any command is known
-abbrev pub first_words : BenchAgentValue → ℕ
-first_words agent = word_shown agent.stand_in
+-- the agents' words before any command is known, with their codes
+abbrev pub first_words : BenchAgentValue → CodedWord
+first_words agent = first_word agent
 
 -- a bench whose row has what the components show then
 abbrev pub shown_first : BenchValue → BenchValue
@@ -39,7 +39,7 @@ abbrev pub answered : BenchValue → BenchValue
 answered bench = record bench { row = set_levels bench.row (flat_map (λ (agent : BenchAgentValue). of_agents.sets_answered agent bench.sim) bench.agents) }
 
 -- the cycle was evaluated with what the components set, where the agents' words are these
-pub record IsShown (plan : PlanTable) (scenario : Scenario) (run : Run) (c : ℕ) (words : BenchAgentValue → ℕ) (bench : BenchValue) : Type 0 where
+pub record IsShown (plan : PlanTable) (scenario : Scenario) (run : Run) (c : ℕ) (words : BenchAgentValue → CodedWord) (bench : BenchValue) : Type 0 where
   pub under_way : IsUnderWay plan scenario run c bench
   pub stepped : bench.sim.stepped ≡ true
   pub is_run : IsClearedRun bench.sim.netlist (run_with run c bench) (suc c)

@@ -7,6 +7,7 @@ use Rattle.netlist.specs.Netlists.{Netlist}
 use Rattle.netlist.specs.Runs.{Run}
 use Rattle.cycle_sim.specs.Sims.{SimValue}
 use Rattle.mm_runs.specs.Views.{levels_at}
+use Rattle.mm_runs.specs.Legal.{Word as CodedWord}
 use Rattle.port_tables.specs.Ports.{name_at}
 use Rattle.interconnect.specs.Memory.{host_in, agent_in}
 use Rattle.interconnect.specs.Streams.{dropped_signal}
@@ -61,20 +62,20 @@ pub record IsSoundStream (plan : PlanTable) (scenario : Scenario) (netlist : Net
 -- ---- in a cycle
 
 -- what the components show fits their ports, where the agents' words are these
-pub record AllFitPorts (bench : BenchValue) (words : BenchAgentValue → ℕ) : Type 0 where
+pub record AllFitPorts (bench : BenchValue) (words : BenchAgentValue → CodedWord) : Type 0 where
   pub hosts : (h : ℕ) (host : BenchHostValue) → slice_get bench.hosts h ≡ Some host → FitsHostPorts host.stand_in.port (of_hosts.shown_by host)
   pub agents : (a : ℕ) (agent : BenchAgentValue) → slice_get bench.agents a ≡ Some agent → FitsAgentPorts agent.stand_in.port (levels_with agent (words agent))
   pub sources : (s : ℕ) (stream : BenchStreamValue) → slice_get bench.streams s ≡ Some stream → FitsSource stream.source (unwrap_or (of_streams.shown_by stream) no_beat)
   pub sinks : (s : ℕ) (stream : BenchStreamValue) → slice_get bench.streams s ≡ Some stream → FitsReady stream.sink (is_ready stream)
 
--- a run shows in a cycle what an agent sets with this word, and what stands at the outputs that command it
-pub record AgentIsShown (plan : PlanTable) (netlist : Netlist) (run : Run) (k a : ℕ) (sim : SimValue) (agent : BenchAgentValue) (bits : ℕ) : Type 0 where
-  pub shown : AreShownBy (agent_in plan netlist run a) k (levels_with agent bits)
+-- a run shows in a cycle what an agent sets with this word and code, and what stands at the outputs that command it
+pub record AgentIsShown (plan : PlanTable) (netlist : Netlist) (run : Run) (k a : ℕ) (sim : SimValue) (agent : BenchAgentValue) (answer : CodedWord) : Type 0 where
+  pub shown : AreShownBy (agent_in plan netlist run a) k (levels_with agent answer)
   pub commanded_is : levels_at (agent_in plan netlist run a).signals k ≡ commanded agent sim
   pub granted : (agent_in plan netlist run a).grant k ≡ level_now sim 0 agent.ports.grant
 
 -- it shows that of all hosts and agents
-pub record MemoryIsShown (plan : PlanTable) (netlist : Netlist) (run : Run) (k : ℕ) (sim : SimValue) (bench : BenchValue) (words : BenchAgentValue → ℕ) : Type 0 where
+pub record MemoryIsShown (plan : PlanTable) (netlist : Netlist) (run : Run) (k : ℕ) (sim : SimValue) (bench : BenchValue) (words : BenchAgentValue → CodedWord) : Type 0 where
   pub hosts : (h : ℕ) (host : BenchHostValue) → slice_get bench.hosts h ≡ Some host → of_hosts.IsSeen (host_in plan netlist run h) k sim host
   pub agents : (a : ℕ) (agent : BenchAgentValue) → slice_get bench.agents a ≡ Some agent → AgentIsShown plan netlist run k a sim agent (words agent)
 

@@ -29,6 +29,9 @@ host_fits system number host sim known same of =
       word =
           subst (λ (ports : HostPorts). IsOutputIf sim.netlist (8 * port.word_bytes) ports.word) (sym of.ports)
           (output_within sim.netlist (ports_of system) _ (8 * port.word_bytes) _ same (few_bits port.reads (8 * port.word_bytes)) (host_output system number end port 7 _ known of.at.end_is of.at.is refl refl));
+      response =
+          subst (λ (ports : HostPorts). IsOutputIf sim.netlist 2 ports.response) (sym of.ports)
+          (output_within sim.netlist (ports_of system) _ 2 _ same (few_bits port.response 2) (host_output system number end port 9 _ known of.at.end_is of.at.is refl refl));
     }
 
 -- the level at a port in a cycle is that in the present one

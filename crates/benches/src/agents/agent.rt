@@ -74,14 +74,15 @@ impl BenchAgent<'_> {
         }
     }
 
-    /// What it shows, with this word on `readdata`.
-    fn levels_with(&self, word: u128) -> AgentLevels
-        ensures { result ≡ levels_with self.now word }
+    /// What it shows, with this word on `readdata` and this code on `response`.
+    fn levels_with(&self, word: u128, code: u8) -> AgentLevels
+        ensures { result ≡ levels_with self.now (record { word = word; code = code }) }
     {
         AgentLevels {
             wait: self.stand_in.waits(),
             valid: self.stand_in.gives(),
             word,
+            code,
         }
     }
 
@@ -96,12 +97,25 @@ impl BenchAgent<'_> {
     fn word_answered(&self, sim: &Simulator) -> u128
         requires stepped { sim.now.stepped ≡ true }
         requires fits { Fits self.now sim.now }
-        ensures { result ≡ word_answered self.now sim.now }
+        ensures { result ≡ (word_answered self.now sim.now).word }
     {
         if self.gives_at_once() {
             self.stand_in.word_now(&self.levels(sim))
         } else {
             self.stand_in.word()
+        }
+    }
+
+    /// The code of that word.
+    fn code_answered(&self, sim: &Simulator) -> u8
+        requires stepped { sim.now.stepped ≡ true }
+        requires fits { Fits self.now sim.now }
+        ensures { result ≡ (word_answered self.now sim.now).code }
+    {
+        if self.gives_at_once() {
+            self.stand_in.code_now(&self.levels(sim))
+        } else {
+            self.stand_in.code()
         }
     }
 
@@ -112,7 +126,7 @@ impl BenchAgent<'_> {
         requires room { AllFit row.old (sets_answered self.now sim.now) }
         ensures { row.new ≡ set_levels row.old (sets_answered self.now sim.now) }
     {
-        let levels = self.levels_with(self.word_answered(sim));
+        let levels = self.levels_with(self.word_answered(sim), self.code_answered(sim));
         self.places.show(row, levels);
     }
 
@@ -164,7 +178,7 @@ impl Component for BenchAgent<'_> {
     ghost follows = { Follows };
 
     fn show(&self, row: &mut InputRow) {
-        let levels = self.levels_with(self.stand_in.word());
+        let levels = self.levels_with(self.stand_in.word(), self.stand_in.code());
         self.places.show(row, levels);
     }
 

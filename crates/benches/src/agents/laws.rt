@@ -9,6 +9,7 @@ ghost use Rattle.netlist.specs.Netlists.{Netlist};
 ghost use Rattle.netlist.specs.Runs.{Run};
 ghost use Rattle.cycle_sim.specs.Sims.{SimValue, input_widths, widths_of};
 ghost use Rattle.mm_runs.specs.Views.{AgentView, levels_at};
+ghost use Rattle.mm_runs.specs.Legal.{Word as CodedWord};
 ghost use Rattle.port_tables.specs.Ports.{name_at, ports_of};
 ghost use Rattle.port_tables.specs.PortMaps.{HasKnownPorts};
 ghost use Rattle.interconnect.specs.Memory.{agent_view};
@@ -16,14 +17,14 @@ ghost use Rattle.port_rows.specs.Levels.{AllFit, AllStand};
 ghost use Rattle.port_rows.specs.Rows.{IsGivenRow};
 ghost use Rattle.scenario_tables.specs.declared.statements.AgentStatement.{AgentStatement};
 ghost use Rattle.scenario_tables.specs.Statements.{IsAgentScript};
-ghost use Rattle.agent_stand_ins.specs.Whole.{StandsFor, word_shown};
+ghost use Rattle.agent_stand_ins.specs.Whole.{StandsFor};
 ghost use Rattle.port_rows.specs.Agents.{AllHoldBytes, AreShownBy, FitsPorts, agent_levels};
 ghost use Rattle.simulated_runs.specs.Simulated.{AgentShows};
 ghost use Rattle.trace_lines.specs.Told.{told_of_agent};
 ghost use Rattle.trace_lines.specs.Sums.{beats_taken_in};
 ghost use Rattle.benches.specs.Outputs.{level_now};
 ghost use Rattle.benches.specs.Present.{IsPresent};
-ghost use Rattle.benches.specs.Agents.{BenchAgentValue, IsAgentOf, IsSeen, Follows, Fits, commanded, levels_with, tells, beats_taken, word_answered};
+ghost use Rattle.benches.specs.Agents.{BenchAgentValue, IsAgentOf, IsSeen, Follows, Fits, commanded, first_word, levels_with, tells, beats_taken, word_answered};
 
 use agent_stand_ins::stand_ins_stand_for_runs;
 use port_rows::agent_ends::{agents_are_commanded, agents_are_shown, shown_agents_fit};
@@ -34,11 +35,11 @@ use trace_lines::agents_are_told_by_their_ports;
 pub fn agents_take_part()
     ensures fit { (system : SystemTable) (number : ℕ) (agent : BenchAgentValue) (sim : SimValue) → HasKnownPorts system → sim.netlist.ports ≡ ports_of system → IsAgentOf system number agent
         → IsBoundedAgent agent.stand_in.port → agent.stand_in.cycle < agent.stand_in.cycles → Fits agent sim }
-    ensures room { (system : SystemTable) (row : List Bits) (number : ℕ) (agent : BenchAgentValue) (bits : ℕ) → HasKnownPorts system → widths_of row ≡ input_widths (ports_of system)
-        → IsAgentOf system number agent → FitsPorts agent.stand_in.port (levels_with agent bits) → AllFit row (agent_levels agent.places (levels_with agent bits)) }
-    ensures shown { (system : SystemTable) (netlist : Netlist) (run : Run) (c : ℕ) (row : List Bits) (number : ℕ) (agent : BenchAgentValue) (bits : ℕ) (of : IsAgentOf system number agent) → HasKnownPorts system
-        → IsGivenRow system netlist run c row → FitsPorts agent.stand_in.port (levels_with agent bits) → AllStand row (agent_levels agent.places (levels_with agent bits))
-        → AreShownBy (agent_view netlist run agent.stand_in.port.word_bytes (name_at system of.at.end)) c (levels_with agent bits) }
+    ensures room { (system : SystemTable) (row : List Bits) (number : ℕ) (agent : BenchAgentValue) (answer : CodedWord) → HasKnownPorts system → widths_of row ≡ input_widths (ports_of system)
+        → IsAgentOf system number agent → FitsPorts agent.stand_in.port (levels_with agent answer) → AllFit row (agent_levels agent.places (levels_with agent answer)) }
+    ensures shown { (system : SystemTable) (netlist : Netlist) (run : Run) (c : ℕ) (row : List Bits) (number : ℕ) (agent : BenchAgentValue) (answer : CodedWord) (of : IsAgentOf system number agent) → HasKnownPorts system
+        → IsGivenRow system netlist run c row → FitsPorts agent.stand_in.port (levels_with agent answer) → AllStand row (agent_levels agent.places (levels_with agent answer))
+        → AreShownBy (agent_view netlist run agent.stand_in.port.word_bytes (name_at system of.at.end)) c (levels_with agent answer) }
     ensures commanded { (system : SystemTable) (netlist : Netlist) (run : Run) (c : ℕ) (sim : SimValue) (number : ℕ) (agent : BenchAgentValue) (of : IsAgentOf system number agent) → netlist.ports ≡ ports_of system
         → sim.netlist ≡ netlist → IsPresent run c sim
         → levels_at (agent_view netlist run agent.stand_in.port.word_bytes (name_at system of.at.end)).signals c ≡ commanded agent sim }
@@ -69,7 +70,7 @@ pub fn agents_are_told()
 pub fn agents_show()
     ensures fits { (script : List AgentStatement) (view : AgentView) (agent : BenchAgentValue) → IsBoundedAgent agent.stand_in.port → IsAgentScript agent.stand_in.port script → AllHoldBytes script
         → StandsFor script agent.stand_in view → (IsFalse agent.stand_in.port.reads → (d : ℕ) → d ≤ agent.stand_in.cycle → view.signals.read d ≡ 0)
-        → FitsPorts agent.stand_in.port (levels_with agent (word_shown agent.stand_in)) }
+        → FitsPorts agent.stand_in.port (levels_with agent (first_word agent)) }
     ensures fits_answered { (script : List AgentStatement) (view : AgentView) (sim : SimValue) (agent : BenchAgentValue) → IsBoundedAgent agent.stand_in.port → IsAgentScript agent.stand_in.port script → AllHoldBytes script
         → StandsFor script agent.stand_in view → (IsFalse agent.stand_in.port.reads → (d : ℕ) → d ≤ agent.stand_in.cycle → view.signals.read d ≡ 0)
         → IsSeen view sim agent → FitsPorts agent.stand_in.port (levels_with agent (word_answered agent sim)) }

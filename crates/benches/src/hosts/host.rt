@@ -15,7 +15,7 @@ ghost use Rattle.scenario_tables.specs.Scenarios.{IsHostAt};
 ghost use Rattle.scenario_tables.specs.Statements.{IsHostScript};
 ghost use Rattle.trace_lines.specs.Names.{name_of};
 ghost use Rattle.benches.specs.Outputs.{level_now};
-ghost use Rattle.benches.specs.Hosts.{AreFirstHosts, Fits, IsFirstHost, behind, counts, is_given, is_write_taken, sets, tells, word_given};
+ghost use Rattle.benches.specs.Hosts.{AreFirstHosts, Fits, IsFirstHost, behind, code_shown, counts, is_given, is_write_taken, sets, tells, word_given};
 
 use crate::parts::{Component, Simulator, level_at};
 use av_base::{NoMemory, Val};
@@ -151,6 +151,19 @@ impl BenchHost<'_> {
         Val::new(8 * self.port.word_bytes, bits).unwrap()
     }
 
+    /// The code beside it, where it has `response`.
+    fn code(&self, sim: &Simulator) -> Option<u8>
+        requires stepped { sim.now.stepped ≡ true }
+        requires fits { Fits self.now sim.now }
+        ensures { result ≡ code_shown self.now sim.now }
+    {
+        if self.port.response {
+            Some(level_at(sim, self.ports.response, 0) as u8)
+        } else {
+            None
+        }
+    }
+
     /// The word that it is given in the present cycle, if it is given one.
     pub fn word_given(&self, sim: &Simulator) -> Option<Val>
         requires stepped { sim.now.stepped ≡ true }
@@ -197,6 +210,7 @@ impl Component for BenchHost<'_> {
             cycle,
             host: self.name,
             word: self.word(sim),
+            code: self.code(sim),
         });
         put_all(sink, line.as_slice())
     }

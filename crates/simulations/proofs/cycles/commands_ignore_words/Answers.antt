@@ -23,7 +23,7 @@ returns c = λ plan scenario netlist run k bench words others one two set all va
           let other = has bench.agents b (subst (λ (n : ℕ). b < n) (sym all.agent_count) low) in
           let first = (shown_one.agents b other.item other.is).shown in
           let second = (shown_two.agents b other.item other.is).shown in
-          (first.waitrequest ∙ sym second.waitrequest, first.readdatavalid ∙ sym second.readdatavalid, first.response ∙ sym second.response));
+          (first.waitrequest ∙ sym second.waitrequest, first.readdatavalid ∙ sym second.readdatavalid));
     })
     a (subst (λ (n : ℕ). a < n) all.agent_count below) in
     sym (shown_one.agents a agent at).commanded_is ∙ ap (λ (sees : AgentSees). sees.levels) same ∙ (shown_two.agents a agent at).commanded_is

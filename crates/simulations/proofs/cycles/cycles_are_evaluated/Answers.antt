@@ -1,6 +1,7 @@
 use Rattle.std.proofs.Common.{◌≡◌, ◌<◌, ℕ, refl, sym, ap, subst, ◌∙◌}
 use Rattle.mm_runs.specs.Beginnings.{AgentsAgree}
 use Rattle.mm_runs.specs.Views.{levels_at}
+use Rattle.mm_runs.specs.Legal.{Word as CodedWord}
 use Rattle.cycle_sim.specs.Sims.{present}
 use Rattle.histories.specs.History.{one_if}
 use Rattle.link_rules.specs.declared.plan_links.StreamLink.{StreamLink}
@@ -51,7 +52,7 @@ returns c = λ plan scenario run k bench words earlier set is answered same.
             let commands : commanded agent.item earlier ≡ levels_at view.signals agent.item.stand_in.cycle =
             same a agent.item agent.is ∙ sym is_seen.commanded_is ∙ ap (λ (d : ℕ). levels_at view.signals d) (sym time) in
             let shows = subst (λ (d : ℕ). AreShownBy view d (levels_with agent.item (words agent.item))) (sym time) is_seen.shown in
-            let answers = subst (λ (bits : ℕ). AreShownBy view agent.item.stand_in.cycle (levels_with agent.item bits)) (answered a agent.item agent.is) shows in
+            let answers = subst (λ (answer : CodedWord). AreShownBy view agent.item.stand_in.cycle (levels_with agent.item answer)) (answered a agent.item agent.is) shows in
             agent_shows view own port sound.script script agent.item.stand_in.cycle k (one_agent plan.system a own port sound.stands.of.at at) (some_same sound.script script (sym sound.script_is ∙ there)) time
             (c.agents_show.ensures.as_defined sound.script view earlier agent.item stands commands answers);
         sources = λ s link script at there.

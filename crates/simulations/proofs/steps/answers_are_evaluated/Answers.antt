@@ -3,9 +3,10 @@ use Rattle.av_base.specs.Word.{Word}
 use Rattle.netlist.specs.Netlists.{Netlist, IsInputPort}
 use Rattle.netlist.specs.Runs.{IsValuation, SameState}
 use Rattle.cycle_sim.specs.Sims.{given_to, input_widths, present}
+use Rattle.mm_runs.specs.Legal.{Word as CodedWord}
 use Rattle.mm_path.specs.Shown.{standing_still}
 use Rattle.port_rows.specs.Levels.{AllStand, set_levels}
-use Rattle.agent_stand_ins.specs.Whole.{word_now, word_shown}
+use Rattle.agent_stand_ins.specs.Whole.{word_now, word_shown, code_now, code_shown}
 use Rattle.benches.specs.Hosts as of_hosts
 use Rattle.benches.specs.Agents.{BenchAgentValue, commanded, gives_at_once, word_answered}
 use Rattle.benches.specs.Streams as of_streams
@@ -21,7 +22,7 @@ pub returns-clause-inputs : goal.returns-clause-inputs
 returns-clause-inputs c = λ plan scenario run k bench set shown.
     let netlist = bench.sim.netlist in
     let all = shown.under_way.components in
-    let words : BenchAgentValue → ℕ = λ agent. word_answered agent bench.sim in
+    let words : BenchAgentValue → CodedWord = λ agent. word_answered agent bench.sim in
     let fits = c.answers_fit.ensures plan scenario run k bench first_words set shown in
     let room = c.levels_have_room.ensures.all plan scenario netlist run k bench words bench.row set all fits shown.under_way.row in
     let is : (answered bench).row ≡ set_levels bench.row (all_levels bench words) =
@@ -34,7 +35,7 @@ pub returns-clause-evaluated : goal.returns-clause-evaluated
 returns-clause-evaluated c = λ plan scenario run k bench sim set shown step stepped.
     let netlist = bench.sim.netlist in
     let all = shown.under_way.components in
-    let words : BenchAgentValue → ℕ = λ agent. word_answered agent bench.sim in
+    let words : BenchAgentValue → CodedWord = λ agent. word_answered agent bench.sim in
     let row = (answered bench).row in
     let same = step.netlist in
     let fits = c.answers_fit.ensures plan scenario run k bench first_words set shown in
@@ -62,7 +63,14 @@ unchosen : (b : Bool) (x y : ℕ) → IsFalse b → y ≡ (if b then x else y)
 unchosen false x y h = refl
 unchosen true x y h = absurd (let e : true ≡ false = h in cc)
 
+same_answer : (word code word' code' : ℕ) → word ≡ word' → code ≡ code' →
+    let one : CodedWord = record { word = word; code = code } in
+    let other : CodedWord = record { word = word'; code = code' } in
+    one ≡ other
+same_answer word code word' code' p q = rw (p, q) refl
+
 pub returns-clause-at_once : goal.returns-clause-at_once
 returns-clause-at_once c = λ plan scenario run k bench set shown none.
     c.cycles_are_evaluated.ensures plan scenario run k bench first_words bench.sim set shown (λ a agent at.
-    unchosen (gives_at_once agent) (word_now agent.stand_in (commanded agent bench.sim)) (word_shown agent.stand_in) (none a agent at)) (λ a agent at. refl)
+    same_answer _ _ _ _ (unchosen (gives_at_once agent) (word_now agent.stand_in (commanded agent bench.sim)) (word_shown agent.stand_in) (none a agent at))
+    (unchosen (gives_at_once agent) (code_now agent.stand_in (commanded agent bench.sim)) (code_shown agent.stand_in) (none a agent at))) (λ a agent at. refl)

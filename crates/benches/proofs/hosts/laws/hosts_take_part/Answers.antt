@@ -27,4 +27,5 @@ returns-clause-seen c system netlist run cycle row sim number host of known give
       waitrequest = answered.wait system netlist run cycle port.word_bytes end given.ports ∙ level_is netlist run cycle 0 sim _ same shown ∙ ap (λ ports. level_now sim 0 ports.wait) (sym of.ports);
       readdatavalid = answered.valid system netlist run cycle port.word_bytes end given.ports ∙ level_is netlist run cycle 0 sim _ same shown ∙ ap (λ ports. level_now sim 0 ports.valid) (sym of.ports);
       readdata = answered.word system netlist run cycle port.word_bytes end given.ports ∙ level_is netlist run cycle 0 sim _ same shown ∙ ap (λ ports. level_now sim 0 ports.word) (sym of.ports);
+      response = answered.response system netlist run cycle port.word_bytes end given.ports ∙ level_is netlist run cycle 0 sim _ same shown ∙ ap (λ ports. level_now sim 0 ports.response) (sym of.ports);
     }
