@@ -10,6 +10,7 @@ agent lead the arbiter of its hosts, the pipeline stages, and the part next to i
 above, and takes the clock's edge.
 """
 import sys
+from typing import NamedTuple
 
 MOST_READS = 16
 
@@ -18,15 +19,15 @@ class Properties:
     """A host or an agent as a row writes it: `32,rw,address=10,valid`."""
 
     hexadecimal = ("at", "first")
-    as_written = ("wait", "late", "from")
+    as_written = ("wait", "late", "from", "codes")
 
     def __init__(self, word):
         bits, kinds, *properties = word.split(",")
         self.bits, self.bytes = int(bits), int(bits) // 8
         self.reads, self.writes = "r" in kinds, "w" in kinds
         self.address = self.pending = self.at = self.first = self.readwait = self.writewait = self.burst = 0
-        self.latency, self.wait, self.late, self.seats = 1, None, None, None
-        self.valid = self.fixed = self.enables = self.counts_words = self.counts_bytes = self.loose = False
+        self.latency, self.wait, self.late, self.seats, self.codes = 1, None, None, None, None
+        self.response = self.valid = self.fixed = self.enables = self.counts_words = self.counts_bytes = self.loose = False
         for each in properties:
             name, _, value = each.partition("=")
             if name in ("words", "bytes"):
@@ -61,6 +62,24 @@ class Properties:
     def joins(self, number):
         return any(host == number for host, _ in self.seats)
 
+    def code_of(self, number):
+        """The code of an agent's word, 0 where it has no `response`."""
+        return int(self.codes[number % len(self.codes)]) if self.codes else 0
+
+
+class Word(NamedTuple):
+    """A word with its code."""
+
+    bits: int
+    code: int
+
+    def part(self, bytes_, place):
+        """So many of its bytes, from one on: what is read of it has its code."""
+        return Word(self.bits >> 8 * place & (1 << 8 * bytes_) - 1, self.code)
+
+
+# what registers of words hold at first, and what the default agent gives
+NO_WORD, DEFAULT = Word(0, 0), Word(0, 3)
 
 class Access:
     """A read command or a beat of a write, behind so many cycles in which the host shows nothing. `left` are the beats of its command from it
@@ -213,7 +232,7 @@ class Route:
 
     def above(self, waits, words):
         """Whether the part above waits, and the word that it is given."""
-        word = (0 if self.owed > 0 else None) if self.owing is None else words[self.owing]
+        word = (DEFAULT if self.owed > 0 else None) if self.owing is None else words[self.owing]
         self.taken, self.came = False, word is not None
         if self.command.kind is None:
             return True, word
@@ -283,7 +302,7 @@ class Selector:
     def above(self, wait, word):
         self.taken = self.command.kind == "r" and not self.shut and not wait
         self.came = word is not None
-        given = None if word is None else word >> 8 * (self.places + [0])[0] & (1 << 8 * self.narrow) - 1
+        given = None if word is None else word.part(self.narrow, (self.places + [0])[0])
         return self.shut or wait, given
 
     def edge(self):
@@ -311,7 +330,7 @@ class Gatherer(Selector):
         self.taken = self.command.kind == "r" and not self.shut and not wait
         self.words += [] if word is None else [word]
         self.gives = bool(self.words)
-        given = self.words[0] >> 8 * self.places[0][self.done] & (1 << 8 * self.narrow) - 1 if self.gives else None
+        given = self.words[0].part(self.narrow, self.places[0][self.done]) if self.gives else None
         return self.shut or wait, given
 
     def edge(self):
@@ -324,7 +343,8 @@ class Gatherer(Selector):
 
 
 class Splitter:
-    """From wide words to narrow ones: the pieces that have a lane go one by one, and a wide word is given as the last of its pieces comes.
+    """From wide words to narrow ones: the pieces that have a lane go one by one, and a wide word is given as the last of its pieces comes, with
+    the greatest of their codes.
 
     All reads under way have the same pieces: one with others waits until no word is owed.
     """
@@ -359,7 +379,9 @@ class Splitter:
         self.accepted = self.command.kind is not None and self.opens and (not self.parts or self.gone and self.last)
         self.came, given = word, None
         if word is not None and len(self.words) + 1 >= len(self.pieces):
-            given = sum(each << 8 * number * self.narrow for number, each in zip(self.pieces, self.words + [word]))
+            words = self.words + [word]
+            bits = sum(each.bits << 8 * number * self.narrow for number, each in zip(self.pieces, words))
+            given = Word(bits, max(each.code for each in words))
         self.given = given is not None
         return not self.accepted, given
 
@@ -373,13 +395,14 @@ class Splitter:
 
 
 class Dropper:
-    """Before an agent without byte enables: a beat without a lane goes no further. A read of it is given what `bus` shows once nothing is owed.
+    """Before an agent without byte enables: a beat without a lane goes no further. A read of it is given what `bus` shows, with code 0, once
+    nothing is owed.
 
     A write that another beat of its command may follow is kept until it is known whether one with a lane does.
     """
 
     def __init__(self, room):
-        self.room, self.kept, self.reads, self.own, self.bus = room, None, 0, False, 0
+        self.room, self.kept, self.reads, self.own, self.bus = room, None, 0, False, NO_WORD
 
     def below(self, command):
         self.command, self.shown, self.acts = command, NOTHING, command.lanes != 0
@@ -407,7 +430,7 @@ class Dropper:
     def above(self, wait, word):
         self.gone = self.shown.kind is not None and not wait
         self.accepted, self.came = self.accepts(), word is not None
-        return not self.accepted, self.bus if self.own else word
+        return not self.accepted, Word(self.bus.bits, 0) if self.own else word
 
     def edge(self):
         now = self.command
@@ -504,7 +527,7 @@ class Stage:
     """A pipeline stage: two places for commands, of which the first is shown below, and a register for a word and its host."""
 
     def __init__(self):
-        self.held, self.answer, self.bus = [], None, 0
+        self.held, self.answer, self.bus = [], None, NO_WORD
 
     def shows(self):
         return self.held[0] if self.held else NOTHING
@@ -526,7 +549,7 @@ class AgentPart:
     """
 
     def __init__(self, agent):
-        self.agent, self.reads, self.row, self.word = agent, Reads(), [None] * max(agent.latency, 1), 0
+        self.agent, self.reads, self.row, self.word = agent, Reads(), [None] * max(agent.latency, 1), NO_WORD
 
     def below(self, command):
         self.command = command
@@ -542,7 +565,7 @@ class AgentPart:
         """Whether the part above waits, and the host and the word that come, from what stands at the agent's port."""
         self.taken = self.command.kind == "r" and not self.held and not wait
         self.port = port
-        self.shown = (1 << self.agent.bits) - 1 if port is None else port
+        self.shown = Word((1 << self.agent.bits) - 1, 3) if port is None else port
         self.bus = self.word if self.agent.fixed and self.agent.latency == 0 else self.shown
         if self.agent.fixed:
             tag, word = self.row[-1], self.word if self.agent.latency == 0 else port
@@ -581,7 +604,7 @@ class Memory:
     """An agent: word k is `first` and k at first, and a read's word comes so many cycles after it was accepted, or after the word before it.
     Behind the last word of its span comes the first.
 
-    With a fixed latency of 0 it is a clock: its word in each cycle is `first` and the cycle's number.
+    With a fixed latency of 0 it is a clock: its word in each cycle is `first` and the cycle's number, and its code that of this number.
     """
 
     def __init__(self, number, agent):
@@ -595,9 +618,9 @@ class Memory:
         return command.kind is not None and self.stood < (self.agent.readwait if command.kind == "r" else self.agent.writewait)
 
     def gives(self, cycle):
-        """What stands at its port: a word, or None, which is high bits where it has no readdatavalid."""
+        """What stands at its ports: a word, or None, where each bit is high."""
         if self.agent.fixed and self.agent.latency == 0:
-            return (self.agent.first + cycle) % (1 << self.agent.bits)
+            return Word((self.agent.first + cycle) % (1 << self.agent.bits), self.agent.code_of(cycle))
         late = self.agent.late and self.agent.late[cycle % len(self.agent.late)] == "1"
         return self.owed[0][1] if self.owed and self.owed[0][0] <= cycle and not late else None
 
@@ -614,7 +637,7 @@ class Memory:
     def reads_words(self, cycle, command, place):
         for _ in range(command.left):
             if not (self.agent.fixed and self.agent.latency == 0):
-                self.owed.append((cycle + self.agent.latency, self.word_at(place)))
+                self.owed.append((cycle + self.agent.latency, Word(self.word_at(place), self.agent.code_of(place))))
             place = self.next_place(place)
 
     def judges(self, command):
@@ -754,7 +777,8 @@ def step(row):
         for number, (host, each, (wait, word)) in enumerate(zip(hosts, shown, told)):
             host.sees(each, wait, word)
             if word is not None:
-                yield f"{cycle} host {number} gets {word:x}"
+                code = f" with code {word.code}" if host.host.response else ""
+                yield f"{cycle} host {number} gets {word.bits:x}{code}"
         system.edge()
     behind, unanswered = sum(len(host.accesses) for host in hosts), sum(sum(host.reads.left) for host in hosts)
     left = [f"{behind} not accepted"] if behind else []

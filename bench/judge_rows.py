@@ -6,10 +6,11 @@ Reads what crates/bus_rows prints, or bench/bus_model.py, and says of each row w
     python3 bench/bus_model.py <rows | python3 bench/judge_rows.py
 
 Each agent takes the bytes that each host reads and writes there in the host's order, and those of one command together; a host is given, in
-the order of its reads, the bytes that the writes before them have left. An agent whose words are no narrower is read once for each of its
+the order of its reads, the bytes that the writes before them have left, and with each word the greatest of its agent's codes of what is read for it,
+3 of nobody. An agent whose words are no narrower is read once for each of its
 words that a read burst touches. Bursts at an agent are whole and no longer than it takes them, no more reads are unanswered than it bears,
 and a host's read waits while another place owes it words. `judge_rows.py draw COUNT SEED` prints
-rows that were drawn at random.
+rows that were drawn at random, and with a further word `codes` rows whose hosts and agents may have `response`.
 """
 import re
 import sys
@@ -19,7 +20,7 @@ from bus_model import Row, is_refused
 
 READ = re.compile(r"(\d+) agent (\d+) reads (\w+)(?: in a burst of (\d+))?(?: in lanes (\w+))? for host (\d+)")
 WRITE = re.compile(r"(\d+) agent (\d+) writes (\w+) to (\w+)(?: in a burst of (\d+))?(?: in lanes (\w+))? for host (\d+)")
-GIVEN = re.compile(r"(\d+) host (\d+) gets (\w+)")
+GIVEN = re.compile(r"(\d+) host (\d+) gets (\w+)(?: with code (\d))?")
 
 
 class Broken(Exception):
@@ -96,6 +97,10 @@ class AgentRun:
         word = (self.agent.first + offset // self.agent.bytes) % (1 << self.agent.bits)
         return self.bytes.get(offset, byte_of(word, offset % self.agent.bytes))
 
+    def code_at(self, offset, cycle):
+        """The code of what is read at an offset, and given in a cycle."""
+        return self.agent.code_of(cycle if self.is_clock() else offset // self.agent.bytes)
+
     def is_clock(self):
         return self.agent.fixed and self.agent.latency == 0
 
@@ -149,7 +154,8 @@ class Judge:
             run.bytes[offset] = byte
             return
         self.waits_for_others(cycle, number, host, command)
-        run.answers.setdefault(host, []).append((None if run.is_clock() else run.byte_at(offset), run.gives[-1][0]))
+        at = run.gives[-1][0]
+        run.answers.setdefault(host, []).append((None if run.is_clock() else run.byte_at(offset), at, run.code_at(offset, at)))
 
     def waits_for_others(self, cycle, number, host, command):
         words = self.issued[host].words
@@ -181,22 +187,30 @@ class Judge:
         asked = kind == "r" and lanes and self.row.hosts[host].bytes <= self.agents[number].agent.bytes and done < len(todo)
         demand(not asked or todo[done][4], f"agent {number} is read twice for one of its words that host {host} reads")
 
-    def gets(self, cycle, host, word):
+    def gets(self, cycle, host, word, code):
         number, words = self.given[host], self.issued[host].words
         demand(number < len(words), f"host {host} is given a word that it didn't ask")
         place, _, lanes = words[number]
         self.given[host] += 1
+        codes = [3] if place is None else []
         for lane in lanes:
             if place is None:
                 demand(byte_of(word, lane) == 0, f"host {host} is given other than 0 by nobody")
                 continue
             answers, used = self.agents[place].answers.get(host, []), self.used[place, host]
             demand(used < len(answers), f"host {host} is given a word before its agent was read")
-            byte, at = answers[used]
+            byte, at, own = answers[used]
+            codes.append(own)
             late = 1 if self.agents[place].is_clock() else 0
             demand(cycle >= at + late + self.row.stages, f"host {host} is given a word before its agent gave it")
             demand(byte in (None, byte_of(word, lane)), f"host {host} is given a wrong byte")
             self.used[place, host] += 1
+        self.is_coded(host, code, codes)
+
+    def is_coded(self, host, code, codes):
+        """A word's code is told where the host has `response`; that of a word of an agent without an operation isn't fixed."""
+        demand(self.row.hosts[host].response == (code is not None), f"host {host} is told a code, or none, where it shouldn't be")
+        demand(code is None or not codes or code == max(codes), f"host {host} is given a wrong code")
 
     def bounds(self):
         """No more reads are unanswered after a cycle than an agent bears."""
@@ -239,7 +253,7 @@ def judge(line, told):
         else:
             match = GIVEN.fullmatch(event)
             demand(match, f"told: {event}")
-            judged.gets(int(match[1]), int(match[2]), int(match[3], 16))
+            judged.gets(int(match[1]), int(match[2]), int(match[3], 16), int(match[4]) if match[4] else None)
     judged.finish(told[-1].rsplit(",", 1)[0])
 
 
@@ -324,6 +338,17 @@ def draw_row(random):
     return " ".join(row + [word for each in words[1:] for word in each])
 
 
+def draw_codes(random, row):
+    """A drawn row whose hosts and agents may have `response`."""
+    words = row.split()
+    for k, word in enumerate(words):
+        if "from=" in word and random.random() < 0.8:
+            words[k] += ",codes=" + "".join(random.choice("0123") for _ in range(random.randrange(1, 8)))
+        elif "," in word and "from=" not in word and random.random() < 0.8:
+            words[k] += ",response"
+    return " ".join(words)
+
+
 def rows_of(lines):
     line, told = None, []
     for each in lines:
@@ -341,7 +366,8 @@ def main():
     if len(sys.argv) > 1:
         random = Random(int(sys.argv[3]))
         for _ in range(int(sys.argv[2])):
-            print(draw_row(random))
+            row = draw_row(random)
+            print(draw_codes(random, row) if "codes" in sys.argv[4:] else row)
         return
     rows = broken = unfinished = refused = 0
     for line, told in rows_of(sys.stdin):

@@ -107,8 +107,8 @@ impl Driver {
         true
     }
 
-    /// The cycle ends; gives the word that the host is given.
-    pub fn sees(&mut self, host: &Host, shown: &Command, answer: &Answer) -> Option<u128> {
+    /// The cycle ends; gives the word that the host is given, with its code.
+    pub fn sees(&mut self, host: &Host, shown: &Command, answer: &Answer) -> Option<(u128, u128)> {
         if shown.is_shown() && !answer.wait {
             self.accepted = self.accepted.saturating_add(1);
             self.waited = 0;
@@ -116,14 +116,14 @@ impl Driver {
             self.waited = self.waited.saturating_add(1);
         }
         if gets_word(host, shown, answer) {
-            Some(answer.word)
+            Some((answer.word, answer.code))
         } else {
             None
         }
     }
 
-    /// The rule that is broken in this cycle at the host, which has this number.
-    pub fn judges(
+    /// The rule on reads that is broken in this cycle at the host, which has this number.
+    fn judges_reads(
         &mut self,
         work: &HostWork,
         host: u32,
@@ -143,6 +143,22 @@ impl Driver {
             Some(Rule::HostBound { host })
         } else {
             None
+        }
+    }
+
+    /// The rule that is broken in this cycle at the host, which has this number.
+    pub fn judges(
+        &mut self,
+        work: &HostWork,
+        host: u32,
+        shown: &Command,
+        answer: &Answer,
+    ) -> Option<Rule> {
+        let broken = self.judges_reads(work, host, shown, answer);
+        if answer.code != 0 && !gets_word(&work.host, shown, answer) {
+            broken.or(Some(Rule::Quiet { host }))
+        } else {
+            broken
         }
     }
 

@@ -24,6 +24,8 @@ pub struct Host {
     pub shape: Shape,
     /// Whether there is `readdatavalid`.
     pub valid: bool,
+    /// Whether there is `response`.
+    pub response: bool,
     /// Whether address and `burstcount` aren't held behind the first beat of a write: they are 0 then.
     pub loose: bool,
 }
@@ -33,6 +35,13 @@ pub struct Host {
 pub struct Pattern {
     levels: u128,
     cycles: u32,
+}
+
+/// The codes of words, over and over; that of the first word in the highest two bits.
+#[derive(Clone, Copy)]
+pub struct Codes {
+    codes: u128,
+    count: u32,
 }
 
 /// What is declared of an agent.
@@ -55,6 +64,8 @@ pub struct Agent {
     pub wait: Option<Pattern>,
     /// In which cycles no word comes.
     pub late: Option<Pattern>,
+    /// Its words' codes, None where it has no `response`.
+    pub codes: Option<Codes>,
 }
 
 /// The address of a hexadecimal word.
@@ -138,6 +149,7 @@ impl Host {
     fn set(&mut self, property: &str) -> Option<()> {
         match property {
             "valid" => self.valid = true,
+            "response" => self.response = true,
             "loose" => self.loose = true,
             _ => self.shape.set(property)?,
         }
@@ -150,6 +162,7 @@ impl Host {
         let mut host = Host {
             shape: Shape::read(parts.next()?, parts.next()?, false)?,
             valid: false,
+            response: false,
             loose: false,
         };
         for property in parts {
@@ -172,6 +185,24 @@ impl Pattern {
         let place = cycle.checked_rem(self.cycles).unwrap_or(0);
         let below = self.cycles.saturating_sub(place).saturating_sub(1);
         self.levels.checked_shr(below).unwrap_or(0) & 1 == 1
+    }
+}
+
+impl Codes {
+    fn read(word: &str) -> Option<Codes> {
+        Some(Codes {
+            codes: u128::from_str_radix(word, 4).ok()?,
+            count: u32::try_from(word.len()).ok()?,
+        })
+    }
+
+    /// The code of the word with a number.
+    fn code_of(&self, number: u128) -> u128 {
+        let place = number.checked_rem(u128::from(self.count)).unwrap_or(0);
+        let place = u32::try_from(place).unwrap_or(0);
+        let below = self.count.saturating_sub(place).saturating_sub(1);
+        let bits = below.saturating_mul(2);
+        self.codes.checked_shr(bits).unwrap_or(0) & 3
     }
 }
 
@@ -205,6 +236,7 @@ impl Agent {
         match name {
             "at" => self.base = address_of(value)?,
             "first" => self.first = hex_number(value)?,
+            "codes" => self.codes = Some(Codes::read(value)?),
             "from" => (),
             _ if self.set_time(name, value).is_some() => (),
             _ => self.shape.set(property)?,
@@ -226,6 +258,7 @@ impl Agent {
             first: 0,
             wait: None,
             late: None,
+            codes: None,
         };
         for property in parts {
             agent.set(property)?;
@@ -246,6 +279,14 @@ impl Agent {
     /// `first` and a number.
     pub fn word_of(&self, number: u128) -> u128 {
         self.first.wrapping_add(number) & self.shape.full_word()
+    }
+
+    /// The code of the word with a number, 0 where the agent has no `response`.
+    pub fn code_of(&self, number: u128) -> u128 {
+        match self.codes {
+            Some(codes) => codes.code_of(number),
+            None => 0,
+        }
     }
 
     /// The number of the word at an address.

@@ -16,10 +16,11 @@ pub enum Event {
         enables: bool,
         bursts: bool,
     },
-    /// A host is given a word.
+    /// A host is given a word; its code is told where the host has `response`.
     Gets {
         host: u32,
         word: u128,
+        code: Option<u128>,
     },
 }
 
@@ -109,6 +110,14 @@ fn push_lanes(text: &mut String, enables: bool, command: &Command) -> Result<(),
     write!(text, " in lanes {lanes:x}")
 }
 
+/// Appends the code of a word, where it is told.
+fn push_code(text: &mut String, code: Option<u128>) -> Result<(), AllocError> {
+    match code {
+        Some(code) => write!(text, " with code {code}"),
+        None => Ok(()),
+    }
+}
+
 fn push_event(text: &mut String, event: Event) -> Result<(), AllocError> {
     match event {
         Event::Accepts {
@@ -123,7 +132,10 @@ fn push_event(text: &mut String, event: Event) -> Result<(), AllocError> {
             push_lanes(text, enables, &beat.command)?;
             write!(text, " for host {host}")
         }
-        Event::Gets { host, word } => write!(text, "host {host} gets {word:x}"),
+        Event::Gets { host, word, code } => {
+            write!(text, "host {host} gets {word:x}")?;
+            push_code(text, code)
+        }
     }
 }
 

@@ -13,7 +13,7 @@ mod signals;
 
 pub use access::Access;
 pub use driver::Driver;
-pub use ends::{Agent, Host, Pattern, Shape};
+pub use ends::{Agent, Codes, Host, Pattern, Shape};
 pub use events::{Event, Log, Tally, push_tally};
 pub use memory::Memory;
 pub use row::{Connection, HostWork, Row};

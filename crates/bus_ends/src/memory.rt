@@ -17,6 +17,7 @@ struct Written {
 struct Owed {
     cycle: u128,
     word: u128,
+    code: u128,
     /// Whether it is the last of its read.
     ends: bool,
 }
@@ -92,21 +93,25 @@ impl Memory {
         }
     }
 
-    /// What the agent gives. Where no word comes, each bit at its port is set, or it is a clock.
+    /// The word at the agent's ports, and its code. Where no word comes, each bit is set, or it is a clock.
+    fn stands(agent: &Agent, next: Option<Owed>, cycle: u32) -> (u128, u128) {
+        let cycle = u128::from(cycle);
+        match next {
+            Some(owed) => (owed.word, owed.code),
+            None if agent.is_clock() => (agent.word_of(cycle), agent.code_of(cycle)),
+            None => (agent.shape.full_word(), 3),
+        }
+    }
+
+    /// What the agent gives.
     pub fn gives(&self, agent: &Agent, cycle: u32) -> Answer {
         let next = self.comes(agent, cycle);
-        let other = if agent.is_clock() {
-            agent.word_of(u128::from(cycle))
-        } else {
-            agent.shape.full_word()
-        };
+        let (word, code) = Memory::stands(agent, next, cycle);
         Answer {
             wait: is_high_in(agent.wait, cycle),
             valid: next.is_some(),
-            word: match next {
-                Some(owed) => owed.word,
-                None => other,
-            },
+            word,
+            code,
         }
     }
 
@@ -151,9 +156,14 @@ impl Memory {
         let cycle = u128::from(cycle).saturating_add(u128::from(agent.latency));
         let count = u16::try_from(count).unwrap_or(0);
         for behind in 0..count {
-            let word = self.word_at(agent, agent.number_behind(number, u128::from(behind)));
-            let ends = behind.saturating_add(1) == count;
-            self.owed.push(Owed { cycle, word, ends })?;
+            let number = agent.number_behind(number, u128::from(behind));
+            let owed = Owed {
+                cycle,
+                word: self.word_at(agent, number),
+                code: agent.code_of(number),
+                ends: behind.saturating_add(1) == count,
+            };
+            self.owed.push(owed)?;
         }
         self.unanswered = self.unanswered.saturating_add(1);
         Ok(())

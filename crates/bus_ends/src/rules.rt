@@ -7,6 +7,8 @@ use std::alloc::AllocError;
 pub enum Rule {
     /// A word comes to a host that it hasn't asked for.
     Unasked { host: u32 },
+    /// A host is shown a code in a cycle in which no word comes.
+    Quiet { host: u32 },
     /// More than 16 reads of a host are unanswered.
     HostBound { host: u32 },
     /// A beat that waits at an agent has other levels in the next cycle.
@@ -27,6 +29,7 @@ pub enum Rule {
 pub fn push_broken(text: &mut String, rule: Rule) -> Result<(), AllocError> {
     match rule {
         Rule::Unasked { host } => write!(text, "a word for host {host} that was not asked for"),
+        Rule::Quiet { host } => write!(text, "a code for host {host} without a word"),
         Rule::HostBound { host } => write!(text, "more than 16 reads of host {host} unanswered"),
         Rule::Held { agent } => write!(text, "a beat that waits at agent {agent} changed"),
         Rule::OneKind { agent } => write!(text, "agent {agent} shown a read and a write at once"),

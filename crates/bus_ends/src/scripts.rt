@@ -53,16 +53,21 @@ fn push_ports(text: &mut String, side: &Side, shape: &Shape) -> Result<(), Alloc
     Ok(())
 }
 
-/// Appends the ports of the handshake.
+/// Appends the ports of the handshake, and `response`.
 fn push_handshake(
     text: &mut String,
     side: &Side,
     waits: bool,
     valid: bool,
+    responds: bool,
 ) -> Result<(), AllocError> {
-    let ports = [("waitrequest", waits), ("readdatavalid", valid)];
-    for (role, there) in ports {
-        push_port(text, side.interface, role, side.answer, u16::from(there))?;
+    let ports = [
+        ("waitrequest", bits_if(waits, 1)),
+        ("readdatavalid", bits_if(valid, 1)),
+        ("response", bits_if(responds, 2)),
+    ];
+    for (role, bits) in ports {
+        push_port(text, side.interface, role, side.answer, u16::from(bits))?;
     }
     Ok(())
 }
@@ -87,7 +92,7 @@ fn push_host(text: &mut String, host: &Host, number: u32) -> Result<(), AllocErr
     )?;
     push_units(text, &HOST, &host.shape)?;
     push_ports(text, &HOST, &host.shape)?;
-    push_handshake(text, &HOST, true, host.valid)
+    push_handshake(text, &HOST, true, host.valid, host.response)
 }
 
 /// Appends when the agent takes beats and gives words. With `waitrequest` and `readdatavalid` the latter three don't count.
@@ -113,7 +118,13 @@ fn push_agent(text: &mut String, agent: &Agent, number: u32) -> Result<(), Alloc
     push_units(text, &AGENT, &agent.shape)?;
     push_ports(text, &AGENT, &agent.shape)?;
     let valid = agent.shape.reads && !agent.fixed;
-    push_handshake(text, &AGENT, agent.wait.is_some(), valid)
+    push_handshake(
+        text,
+        &AGENT,
+        agent.wait.is_some(),
+        valid,
+        agent.codes.is_some(),
+    )
 }
 
 /// Appends so many instances of components, which are named alike.

@@ -18,6 +18,8 @@ pub struct Answer {
     pub wait: bool,
     pub valid: bool,
     pub word: u128,
+    /// The word's code, 0 where there is no `response`.
+    pub code: u128,
 }
 
 /// A beat that an agent accepts, with its own address.

@@ -56,7 +56,8 @@ fn set_command(inputs: &mut Inputs, host: EndId, command: &Command) -> Result<()
 fn set_answer(inputs: &mut Inputs, agent: EndId, answer: &Answer) -> Result<(), AllocError> {
     inputs.set(agent, Role::WaitRequest, u128::from(answer.wait))?;
     inputs.set(agent, Role::ReadDataValid, u128::from(answer.valid))?;
-    inputs.set(agent, Role::ReadData, answer.word)
+    inputs.set(agent, Role::ReadData, answer.word)?;
+    inputs.set(agent, Role::Response, answer.code)
 }
 
 /// What a host sees.
@@ -65,6 +66,7 @@ fn answer_at(outputs: &Outputs, host: EndId) -> Answer {
         wait: outputs.is_high(host, Role::WaitRequest),
         valid: outputs.is_high(host, Role::ReadDataValid),
         word: outputs.level(host, Role::ReadData),
+        code: outputs.level(host, Role::Response),
     }
 }
 
@@ -152,12 +154,13 @@ impl HostAt<'_> {
             cycle,
             self.driver.judges(self.work, self.number, &shown, &answer),
         );
-        let Some(word) = self.driver.sees(host, &shown, &answer) else {
+        let Some((word, code)) = self.driver.sees(host, &shown, &answer) else {
             return Ok(());
         };
         let event = Event::Gets {
             host: self.number,
             word,
+            code: if host.response { Some(code) } else { None },
         };
         log.push(cycle, event)
     }
