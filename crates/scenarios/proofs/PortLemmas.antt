@@ -11,7 +11,7 @@ use Rattle.scenario_tables.specs.Statements.{all_lanes}
 use Rattle.iface_roles.specs.declared.records.HostPort.{HostPort}
 use Rattle.iface_roles.specs.declared.records.AgentPort.{AgentPort}
 use Rattle.scenarios.specs.Hosts.{fits_address, fits_command}
-use Rattle.scenarios.specs.Agents.{CanFill, CanAnswer}
+use Rattle.scenarios.specs.Agents.{CanFill}
 
 pub word_size : (bytes : ℕ) → IsWordSize bytes → bytes ≤ 16
 word_size bytes h = let more : 2 ^ h.exponent ≤ 2 ^ 4 = pow_mono h.small in let same = h.power in omega arith
@@ -53,12 +53,6 @@ pub offset_small : (agent : AgentPort) (words : List (List ℕ)) → CanFill age
 offset_small agent words h small =
     let some = some_byte (word_at 3 words) (and_parts (is_hexadecimal (word_at 2 words)) _ h.spelled).1 in
     before_end (hexadecimal_in (word_at 2 words)) (length (word_at 3 words) / 2) (span_of agent) h.within some small
-
--- and so has that of a byte within it, and a code has two
-pub code_small : (agent : AgentPort) (words : List (List ℕ)) → CanAnswer agent words → span_of agent ≤ 2 ^ 32 → (hexadecimal_in (word_at 2 words) < 2 ^ 32) × (hexadecimal_in (word_at 3 words) ≤ 3)
-code_small agent words h small =
-    let both = and_parts (nat_lt (hexadecimal_in (word_at 2 words)) (span_of agent)) (nat_le (hexadecimal_in (word_at 3 words)) 3) h.within in
-    (grind (arith, nat_tests), grind (arith, nat_tests))
 
 pub few_bytes : (text : List ℕ) → are_bytes text ≡ true → length text / 2 ≤ 32
 unfolding are_bytes

@@ -135,7 +135,6 @@ fn code_of(agent: &AgentPort, words: &Words) -> AgentStatement
     requires fits { CanAnswer agent.now words.now }
     ensures { result ≡ code_of words.now }
 {
-    let _span = span(agent);
     AgentStatement::Code {
         offset: hexadecimal(words.word(2)) as u32,
         code: hexadecimal(words.word(3)) as u8,
@@ -144,11 +143,7 @@ fn code_of(agent: &AgentPort, words: &Words) -> AgentStatement
 
 /// Reads `code AGENT OFFSET CODE`.
 #[tactic(auto, unfolding(crate::specs::Agents::code_in))]
-pub(crate) fn code(
-    so_far: &mut SoFar,
-    agent: &NamedAgent,
-    words: &Words,
-) -> Result<(), LineFault>
+pub(crate) fn code(so_far: &mut SoFar, agent: &NamedAgent, words: &Words) -> Result<(), LineFault>
     requires port { IsBoundedAgent agent.now.port }
     requires number { agent.now.number < length so_far.old.agents }
     ensures ok { OnOk result (code_in so_far.old agent.now words.now ≡ Ok so_far.new) }

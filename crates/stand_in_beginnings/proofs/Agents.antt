@@ -1,11 +1,11 @@
 -- Agents that show the same in their first cycles.
-use Rattle.std.proofs.Common.{◌≡◌, ℕ, zero, suc, ◌+◌, ◌-◌, ◌<◌, ◌≤◌, ◌&&◌, ◌||◌, not, nat_eq, nat_le, Bool, List, ◌++◌, flat_map, inl, inr, true, false, if◌then◌else◌, refl, sym, ap, ap₂, ◌∙◌, arith}
+use Rattle.std.proofs.Common.{◌≡◌, ℕ, zero, suc, ◌+◌, ◌-◌, ◌<◌, ◌≤◌, ◌&&◌, ◌||◌, not, nat_eq, nat_le, Bool, List, ◌++◌, flat_map, inl, inr, if◌then◌else◌, refl, sym, ap, ap₂, ◌∙◌, arith}
 use Rattle.std.proofs.lemmas.Bool.{cases_Bool, leb-true}
 use Rattle.histories.specs.History.{is_raised, one_if, only_if, before}
 use Rattle.iface_roles.specs.declared.records.AgentPort.{AgentPort}
-use Rattle.mm_runs.specs.Views.{Levels, Shape, AgentSide, AgentView, levels_at}
+use Rattle.mm_runs.specs.Views.{Levels, AgentSide, AgentView, levels_at}
 use Rattle.mm_runs.specs.Operations.{memory_after, own_operations}
-use Rattle.mm_runs.specs.Commands.{Burst, Transfer, shows, stood_before, stood_after, wait_time, agent_accepts, burst_before, burst_after, transfer_of, transfer_at, accepted}
+use Rattle.mm_runs.specs.Commands.{Burst, Transfer, stood_before, agent_accepts, burst_before, burst_after, transfer_of, transfer_at, accepted}
 use Rattle.mm_runs.specs.Beginnings.{AgentsAgree}
 use Rattle.memory_sides.specs.Sides.{agent_side}
 use Rattle.scenario_tables.specs.declared.statements.AgentStatement.{AgentStatement}
