@@ -1,5 +1,5 @@
 -- A simulation with one cycle more.
-use Rattle.std.proofs.Common.{◌≡◌, ℕ, suc, ◌<◌, ◌&&◌, List, Some, slice_get, if◌then◌else◌}
+use Rattle.std.proofs.Common.{◌≡◌, ℕ, suc, ◌&&◌, List, if◌then◌else◌}
 use Rattle.histories.specs.History.{one_if}
 use Rattle.iface_roles.specs.declared.records.HostPort.{HostPort}
 use Rattle.iface_roles.specs.declared.records.AgentPort.{AgentPort}

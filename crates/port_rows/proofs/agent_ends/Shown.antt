@@ -1,5 +1,5 @@
 -- What a run shows at an agent.
-use Rattle.std.proofs.Common.{◌≡◌, ◌^◌, ◌<◌, ℕ, false, List, [], ◌∷◌, slice_get, Some, refl, arith}
+use Rattle.std.proofs.Common.{◌≡◌, ℕ, false, List, slice_get, Some, refl}
 use Rattle.std.proofs.lemmas.Nat.{pow_pos}
 use Rattle.av_base.specs.Word.{Word}
 use Rattle.iface_roles.specs.declared.records.AgentPort.{AgentPort}

@@ -1,4 +1,4 @@
-use Rattle.std.proofs.Common.{◌≡◌, ℕ, List, Bool, true, false, IsFalse, if◌then◌else◌, ◌++◌, flat_map, refl, sym, ap, subst, ◌∙◌}
+use Rattle.std.proofs.Common.{◌≡◌, ℕ, List, Bool, true, false, IsFalse, if◌then◌else◌, flat_map, refl, sym, ap, subst, ◌∙◌}
 use Rattle.av_base.specs.Word.{Word}
 use Rattle.netlist.specs.Netlists.{Netlist, IsInputPort}
 use Rattle.netlist.specs.Runs.{IsValuation, SameState}

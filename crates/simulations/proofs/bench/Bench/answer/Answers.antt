@@ -1,11 +1,11 @@
-use Rattle.std.proofs.Common.{◌≡◌, ℕ, List, ◌++◌, Some, flat_map, slice_get, refl, ap, subst}
+use Rattle.std.proofs.Common.{◌≡◌, List, ◌++◌, Some, flat_map, slice_get, refl, ap, subst}
 use Rattle.av_base.specs.Word.{Word}
 use Rattle.mm_runs.specs.Legal.{Word as CodedWord}
 use Rattle.port_rows.specs.Levels.{set_levels}
 use Rattle.benches.specs.Hosts as of_hosts
 use Rattle.benches.specs.Agents.{BenchAgentValue, word_answered}
 use Rattle.benches.specs.Streams as of_streams
-use Rattle.simulations.specs.Benches.{BenchValue, sets_with}
+use Rattle.simulations.specs.Benches.{sets_with}
 use Rattle.simulations.specs.Cycles.{first_words}
 use Rattle.simulations.specs.Value.{value_with}
 use Rattle.simulations.proofs.Answered.{fits_behind}
