@@ -1,0 +1,4 @@
+//! Plain commands go straight through the parts next to hosts and agents and through routes, and first beats are shown promptly.
+#![tactic(auto)]
+
+pub mod hosts;
