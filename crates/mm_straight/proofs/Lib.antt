@@ -1,2 +1,4 @@
 mod Shown
 mod HostStraight
+mod Lanes
+mod RouteStraight

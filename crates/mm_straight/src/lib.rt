@@ -2,3 +2,4 @@
 #![tactic(auto)]
 
 pub mod hosts;
+pub mod routes;
