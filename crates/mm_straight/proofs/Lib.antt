@@ -2,3 +2,6 @@ mod Shown
 mod HostStraight
 mod Lanes
 mod RouteStraight
+mod AgentShown
+mod AgentQueue
+mod AgentBeats
