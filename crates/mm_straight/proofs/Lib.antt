@@ -5,3 +5,4 @@ mod RouteStraight
 mod AgentShown
 mod AgentQueue
 mod AgentBeats
+mod SmallRuns

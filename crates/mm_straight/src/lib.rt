@@ -2,5 +2,6 @@
 #![tactic(auto)]
 
 pub mod agents;
+pub mod examples;
 pub mod hosts;
 pub mod routes;
