@@ -6,3 +6,4 @@ mod AgentShown
 mod AgentQueue
 mod AgentBeats
 mod SmallRuns
+mod WiredRows

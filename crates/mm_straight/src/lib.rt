@@ -5,3 +5,4 @@ pub mod agents;
 pub mod examples;
 pub mod hosts;
 pub mod routes;
+pub mod rows;
