@@ -8,6 +8,7 @@ pub mod Stages
 pub mod AgentWords
 pub mod Flush
 pub mod Wire
+pub mod Leads
 pub mod Moves
 pub mod Cuts
 pub mod Cycles

@@ -1,6 +1,6 @@
 -- A host whose beats are shown before its agent's arbiter at once: where it waits there for few cycles, its wanted command moves on.
-use Rattle.std.proofs.Common.{◌≡◌, ℕ, zero, suc, ◌+◌, ◌-◌, ◌*◌, ◌<◌, ◌≤◌, Bool, true, false, not, ◌&&◌, ◌||◌, List, length, filter, nat_eq, nat_lt, arith, refl, [], ◌∷◌, ◌++◌, sym, ap, ap₂, ◌∙◌, subst, IsTrue, IsFalse, inl, inr, ◌⊎◌, tests, append-nil, ltb-true, lt-ltb, Some}
-use Rattle.std.proofs.lemmas.Bool.{and_parts, or_parts}
+use Rattle.std.proofs.Common.{◌≡◌, ℕ, zero, suc, ◌+◌, ◌-◌, ◌*◌, ◌<◌, ◌≤◌, Bool, true, false, not, ◌&&◌, ◌||◌, List, length, filter, nat_eq, nat_lt, arith, refl, [], ◌∷◌, ◌++◌, sym, ap, ap₂, ◌∙◌, subst, IsTrue, IsFalse, inl, inr, ◌⊎◌, tests, append-nil, ltb-true, Some}
+use Rattle.std.proofs.lemmas.Bool.{and_parts, or_left, or_parts, or_right}
 use Rattle.histories.specs.History.{IsPrefix, is_raised, only_if}
 use Rattle.histories.specs.Laws.{prefix_trans, prefix_flat_map, prefix_filter, prefix_length, before_prefix}
 use Rattle.mm_runs.specs.Views.{System, Run}
@@ -12,14 +12,13 @@ use Rattle.mm_runs.specs.Awake.{owes, lacks_beats, is_accepted_now, are_taken, i
 use Rattle.mm_machines.specs.Lines.{TaggedPort, target_of, tagged_operations, groups_of, host_accepted, with_tag, word_tags, asked_tags}
 use Rattle.mm_machines.specs.Link.{Port, Marked, takes, taken_at, marked_at, read_beats, words_at, words_owed, operations_among, operations_in}
 use Rattle.mm_machines.specs.Rank.{is_owed}
-use Rattle.mm_machines.specs.Turns.{asks_at}
 use Rattle.mm_parts.specs.Steps.{IsArbiterPart}
 use Rattle.mm_awake.specs.Front.{IsFront, GivesAtOnce, is_bursting}
 use Rattle.mm_awake.specs.Onward.{is_taken_now, is_given_now, moves_on}
-use Rattle.mm_awake.specs.Steps.{WaitsItsTurn}
-use Rattle.mm_waits.specs.Waits.{WordsComeSoon, LeadsDown}
+use Rattle.mm_waits.specs.Waits.{WordsComeSoon}
+use Rattle.mm_waits.specs.Watched.{LeadsBy}
 use Rattle.mm_waits.proofs.Bits.{FirstOrNone, first_or_none, no_true, no_both, not_by, both, some_or_none, three_of}
-use Rattle.mm_waits.proofs.Flush.{shorter_front, one_word, no_word}
+use Rattle.mm_waits.proofs.Flush.{shorter_front, no_word}
 use Rattle.mm_waits.proofs.Numbers.{Outcome, Outcome.a_beat, Outcome.an_operation, Outcome.a_word, Outcome.a_given, ends_in, ends_length, taken_later, each_holds}
 use Rattle.mm_waits.proofs.Outcomes.{outcome_of, shown_burst, accepted_with_word}
 use Rattle.mm_waits.proofs.Owed.{all_asked, all_words, own_come}
@@ -52,13 +51,13 @@ same_among system agent one two e ms = same_list ms
     same_list (m ∷ ms) = ap₂ (λ (x y : List Operation). x ++ y) (same_operations (target_of system agent) one.shape two.shape m e) (same_list ms)
 
 -- what stands between a host and an agent, and what is known of its pipe: `flush` cycles empty it, and `stages` cycles bring a word up
-pub record Between (system : System) (run : Run) (agent host end : ℕ) (top : Port) (up : ℕ → Port) (down low : TaggedPort) (held : ℕ → ℕ) (most flush stages : ℕ) : Type 0 where
+pub record Between (system : System) (run : Run) (agent host end : ℕ) (top : Port) (up : ℕ → Port) (down low : TaggedPort) (waits drained : ℕ → Bool) (left : ℕ → ℕ) (most flush stages : ℕ) : Type 0 where
   pub is_host : host < system.hosts
   pub legal : IsLegalHost (system.host host) (run.at_host host) end
   pub proper : IsProperAtHost (system.host host) (run.at_host host) end
   pub front : IsFront system run host agent top end
   pub gives : GivesAtOnce system run host agent top end
-  pub leads : LeadsDown (target_of system agent) top (up host) held most end
+  pub leads : LeadsBy (target_of system agent) top (up host) waits drained left most end
   pub arbiter : IsArbiterPart system agent up down end
   pub words : (up host).shape.word_bytes ≡ down.shape.word_bytes
   pub low_words : down.shape.word_bytes ≡ low.shape.word_bytes
@@ -66,7 +65,7 @@ pub record Between (system : System) (run : Run) (agent host end : ℕ) (top : P
   pub soon : WordsComeSoon system run agent low.port end
   pub later : (c : ℕ) → length (words_at down.port (c + stages)) ≡ length (words_at low.port c)
 
-module _ (system : System) (run : Run) (agent host end : ℕ) (top : Port) (up : ℕ → Port) (down low : TaggedPort) (held : ℕ → ℕ) (most flush stages : ℕ) (between : Between system run agent host end top up down low held most flush stages) where
+module _ (system : System) (run : Run) (agent host end : ℕ) (top : Port) (up : ℕ → Port) (down low : TaggedPort) (waits drained : ℕ → Bool) (left : ℕ → ℕ) (most flush stages : ℕ) (between : Between system run agent host end top up down low waits drained left most flush stages) where
   abbrev pub Flushes : ℕ → ℕ → Type 0
   Flushes from until = (t : ℕ) → from ≤ t → t + flush ≤ until → IsPrefix (taken_at down.port t) (taken_at low.port (t + flush))
 
@@ -99,30 +98,9 @@ module _ (system : System) (run : Run) (agent host end : ℕ) (top : Port) (up :
     pub words_below_come : words_owed down.port s ≤ length (words_at down.port (suc (last_of s)))
     words_below_come = let all = prefix_length all_come in let asks = all_asked (taken_at down.port s) in let words = all_words down (suc (last_of s)) in omega (arith, all, asks, words)
 
-  -- ---- a word that is owed before the arbiter comes there
-
-  module _ (t : ℕ) (fits : t + flush + stages + 4 ≤ end) (flushed : IsPrefix (taken_at down.port (suc t)) (taken_at low.port (suc t + flush))) (answered : IsFalse (owes system run agent (suc t + flush))) (owed : IsTrue (is_owed (up host) t)) where
-    abbrev pub last : ℕ
-    last = last_of (suc t)
-
-    pub word_comes : (c : ℕ) × (suc t ≤ c) × (c ≤ last) × IsTrue (is_raised ((up host).answers.valid c))
-    word_comes = elim (some_or_none (λ j. is_raised ((up host).answers.valid (suc t + j))) (flush + stages + 2)) [
-      | inl found ↦ (suc t + found.0, omega arith, (let less = found.1 in omega (arith, less)), found.2)
-      | inr none ↦
-          let still = unchanged none (flush + stages + 2) (omega arith) in
-          let at_end : suc t + (flush + stages + 2) ≡ suc last = omega arith in
-          let same : length (words_at (up host) (suc last)) ≡ length (words_at (up host) (suc t)) = subst (λ k. length (words_at (up host) k) ≡ length (words_at (up host) (suc t))) at_end still in
-          let all = own_come system agent up down end between.arbiter host (suc t) (suc last) between.is_host (omega (arith, fits)) (omega (arith, fits)) (all_come (suc t) (omega (arith, fits)) flushed answered) in
-          let less = ltb-true (length (words_at (up host) (suc t))) (words_owed (up host) (suc t)) owed in
-          absurd (omega (arith, same, all, less))
-    ]
-      where
-        unchanged : ((j : ℕ) → j < flush + stages + 2 → IsFalse (is_raised ((up host).answers.valid (suc t + j)))) → (n : ℕ) → n ≤ flush + stages + 2 → length (words_at (up host) (suc t + n)) ≡ length (words_at (up host) (suc t))
-        unchanged none zero h = let same : suc t + 0 ≡ suc t = omega arith in ap (λ k. length (words_at (up host) k)) same
-        unchanged none (suc n) h =
-            let more = unchanged none n (omega (arith, h)) in
-            let same : suc t + suc n ≡ suc (suc t + n) = omega arith in
-            ap (λ k. length (words_at (up host) k)) same ∙ no_word (up host) (suc t + n) (none n (omega (arith, h))) ∙ more
+    -- and so do the host's own before the arbiter
+    pub own_words_come : words_owed (up host) s ≤ length (words_at (up host) (suc (last_of s)))
+    own_words_come = own_come system agent up down end between.arbiter host s (suc (last_of s)) between.is_host (omega (arith, fits)) (omega (arith, fits)) all_come
 
   -- ---- a stretch in which the command is wanted and doesn't move
 
@@ -165,44 +143,16 @@ module _ (system : System) (run : Run) (agent host end : ℕ) (top : Port) (up :
         by_outcome (a_word whole none owing) = no_both _ lacks whole
         by_outcome (a_given whole given lacking) = no_both _ lacks whole
 
-    leads : LeadsDown (target_of system agent) top (up host) held most end
+    leads : LeadsBy (target_of system agent) top (up host) waits drained left most end
     leads = between.leads
 
-    -- a word that comes before the arbiter is given to the host
-    given_here : (c : ℕ) → c < end → IsTrue (is_raised ((up host).answers.valid c)) → IsTrue (is_given_from system run (Some agent) c host)
-    given_here c fit h = between.gives c fit (leads.words c fit ∙ h)
-
-    -- a word comes within so many cycles of one in which it is owed before the arbiter
-    word_below : (t : ℕ) → from ≤ t → t + flush + stages + 3 ≤ from + size → IsTrue (is_owed (up host) t) → (c : ℕ) × (suc t ≤ c) × (c < from + size) × IsTrue (is_given_from system run (Some agent) c host)
-    word_below t first room owed =
-        let come = word_comes t (omega (arith, room, fits)) (flushes (suc t) (omega (arith, first)) (omega (arith, room))) (wanted (suc t + flush) (omega (arith, first)) (omega (arith, room))).answered owed in
-        let low = come.1 in
-        let high = come.2 in
-        let until : suc (suc t + flush) + stages < from + size = omega (arith, room) in
-        (come.0, low, omega (arith, high, until), given_here come.0 (omega (arith, high, until, fits)) come.3)
-
-    same_words : (c : ℕ) → c ≤ end → length (words_at top c) ≡ length (words_at (up host) c)
-    same_words zero fit = refl
-    same_words (suc c) fit = by_valid (is_raised ((up host).answers.valid c)) refl (same_words c (omega (arith, fit)))
-      where
-        by_valid : (b : Bool) → is_raised ((up host).answers.valid c) ≡ b → length (words_at top c) ≡ length (words_at (up host) c) → length (words_at top (suc c)) ≡ length (words_at (up host) (suc c))
-        by_valid true e more = let one = one_word top c (leads.words c fit ∙ e) in let two = one_word (up host) c e in omega (arith, one, two, more)
-        by_valid false e more = let one = no_word top c (leads.words c fit ∙ e) in let two = no_word (up host) c e in omega (arith, one, two, more)
-
-    module _ (short : ℕ) (few_cycles : (start n : ℕ) → from ≤ start → start + n ≤ from + size → WaitsItsTurn up host start n → n ≤ short) where
-      abbrev waits : ℕ → Bool
-      waits c = shows (up host).commands.signals c && not (takes (up host) c)
-
-      waits_parts : (c : ℕ) → IsTrue (waits c) → IsTrue (asks_at up c host) × IsFalse (takes (up host) c)
-      waits_parts c h = let two = and_parts (shows (up host).commands.signals c) (not (takes (up host) c)) h in (two.0, not_true _ two.1)
-
+    module _ (short : ℕ) (few_cycles : (start n : ℕ) → from ≤ start → start + n ≤ from + size → ((c : ℕ) → start ≤ c → c < start + n → IsTrue (waits c)) → n ≤ short) where
       -- before long it doesn't wait
       record StopsWaiting (start : ℕ) : Type 0 where
         cycle : ℕ
         since : start ≤ cycle
         until : cycle ≤ start + short
         stops : IsFalse (waits cycle)
-        before : (c : ℕ) → start ≤ c → c < cycle → IsTrue (waits c)
 
       stops_waiting : (start : ℕ) → from ≤ start → start + short + 1 ≤ from + size → StopsWaiting start
       stops_waiting start first room = elim (first_or_none (λ j. not (waits (start + j))) (short + 1)) [
@@ -213,81 +163,63 @@ module _ (system : System) (run : Run) (agent host end : ℕ) (top : Port) (up :
               since = omega arith;
               until = omega (arith, less);
               stops = not_true (waits (start + found.0)) found.2;
-              before = λ c low high. (let same : start + (c - start) ≡ c = omega (arith, low) in subst (λ k. IsTrue (waits k)) same (by_not (waits (start + (c - start))) (found.3 (c - start) (omega (arith, low, high)))));
             }
         | inr all ↦
-            let most_cycles = few_cycles start (short + 1) first (omega (arith, room)) (record {
-              asks = λ c low high. (waits_parts c (each start (short + 1) all c low high)).0;
-              none = λ c low high. (waits_parts c (each start (short + 1) all c low high)).1;
-            }) in
+            let most_cycles = few_cycles start (short + 1) first (omega (arith, room)) (λ c low high. each start (short + 1) all c low high) in
             absurd (omega (arith, most_cycles))
       ]
         where
           each : (start n : ℕ) → ((j : ℕ) → j < n → IsFalse (not (waits (start + j)))) → (c : ℕ) → start ≤ c → c < start + n → IsTrue (waits c)
           each start n all c low high = let same : start + (c - start) ≡ c = omega (arith, low) in subst (λ k. IsTrue (waits k)) same (by_not (waits (start + (c - start))) (all (c - start) (omega (arith, low, high))))
 
-      not_above : (c : ℕ) → c < end → IsFalse (takes (up host) c) → IsFalse (takes top c)
-      not_above c fit none = by_take (takes top c) refl
-        where
-          by_take : (b : Bool) → takes top c ≡ b → IsFalse b
-          by_take false e = refl
-          by_take true e = absurd (no_both _ (leads.taken c fit e).1 none)
-
-      -- while it waits nothing is taken above, and no more is held
-      held_no_more : (start n : ℕ) → start + n ≤ end → ((c : ℕ) → start ≤ c → c < start + n → IsTrue (waits c)) → held (start + n) ≤ held start
-      held_no_more start zero fit all = let same : start + 0 ≡ start = omega arith in rw same (omega arith)
-      held_no_more start (suc n) fit all =
-          let more = held_no_more start n (omega (arith, fit)) (λ c low high. all c low (omega (arith, high))) in
-          let waiting = (waits_parts (start + n) (all (start + n) (omega arith) (omega arith))).1 in
-          let stays = leads.stays (start + n) (omega (arith, fit)) (not_above (start + n) (omega (arith, fit)) waiting) waiting in
+      -- while nothing is taken above no more is left
+      no_more : (start n : ℕ) → start + n ≤ end → ((c : ℕ) → start ≤ c → c < start + n → IsFalse (takes top c)) → left (start + n) ≤ left start
+      no_more start zero fit none = let same : start + 0 ≡ start = omega arith in rw same (omega arith)
+      no_more start (suc n) fit none =
+          let more = no_more start n (omega (arith, fit)) (λ c low high. none c low (omega (arith, high))) in
+          let stays = leads.stays (start + n) (omega (arith, fit)) (none (start + n) (omega arith) (omega arith)) in
           let same : start + suc n ≡ suc (start + n) = omega arith in
           rw same (omega (arith, more, stays))
 
-      is_taken : (c : ℕ) → IsTrue (shows (up host).commands.signals c) → IsFalse (waits c) → IsTrue (takes (up host) c)
-      is_taken c shown stops = by_take (takes (up host) c) refl
-        where
-          by_take : (t : Bool) → takes (up host) c ≡ t → IsTrue t
-          by_take true e = refl
-          by_take false e = absurd (no_both (waits c) (both _ _ shown (not_by _ e)) stops)
-
-      none_above : (c : ℕ) → c < end → 0 < held c → IsFalse (takes top c)
-      none_above c fit some = by_take (takes top c) refl
-        where
-          by_take : (b : Bool) → takes top c ≡ b → IsFalse b
-          by_take false e = refl
-          by_take true e = let none = (leads.taken c fit e).0 in absurd (omega (arith, none, some))
-
-      -- until then no more is held
-      held_then : (start : ℕ) → start + short + 1 ≤ from + size → (stop : StopsWaiting start) → held stop.cycle ≤ held start
-      held_then start room stop =
+      -- nor where it stops waiting
+      left_then : (start : ℕ) → start + short + 1 ≤ from + size → (stop : StopsWaiting start) → ((c : ℕ) → start ≤ c → c < stop.cycle → IsFalse (takes top c)) → left stop.cycle ≤ left start
+      left_then start room stop none =
           let low = stop.since in
           let high = stop.until in
           let at : start + (stop.cycle - start) ≡ stop.cycle = omega (arith, low) in
-          subst (λ x. held x ≤ held start) at (held_no_more start (stop.cycle - start) (omega (arith, at, high, room, fits)) (λ c l h. stop.before c l (omega (arith, h, at))))
+          subst (λ x. left x ≤ left start) at (no_more start (stop.cycle - start) (omega (arith, at, high, room, fits)) (λ c l h. none c l (omega (arith, h, at))))
+
+      not_taken : (c : ℕ) → c < end → IsFalse (drained c) → IsFalse (takes top c)
+      not_taken c fit some = by_take (takes top c) refl
+        where
+          by_take : (b : Bool) → takes top c ≡ b → IsFalse b
+          by_take false e = refl
+          by_take true e = absurd (no_both _ (leads.taken c fit e) some)
 
       -- before long nothing is held, or less
       drains_some : (start : ℕ) → from ≤ start → start + short + 1 ≤ from + size →
-          ((c : ℕ) × (start ≤ c) × (c ≤ start + short) × (held c ≡ 0)) ⊎ ((c : ℕ) × (start ≤ c) × (c ≤ start + short + 1) × (held c < held start))
-      drains_some start first room = by_held (stops_waiting start first room)
+          ((c : ℕ) × (start ≤ c) × (c ≤ start + short) × IsTrue (drained c)) ⊎ ((c : ℕ) × (start ≤ c) × (c ≤ start + short + 1) × (left c < left start))
+      drains_some start first room = by_stop (stops_waiting start first room)
         where
-          by_held : (stop : StopsWaiting start) → ((c : ℕ) × (start ≤ c) × (c ≤ start + short) × (held c ≡ 0)) ⊎ ((c : ℕ) × (start ≤ c) × (c ≤ start + short + 1) × (held c < held start))
-          by_held stop = by_test (nat_eq (held stop.cycle) 0) refl
+          by_stop : (stop : StopsWaiting start) → ((c : ℕ) × (start ≤ c) × (c ≤ start + short) × IsTrue (drained c)) ⊎ ((c : ℕ) × (start ≤ c) × (c ≤ start + short + 1) × (left c < left start))
+          by_stop stop = elim (some_or_none (λ j. drained (start + j)) (suc (stop.cycle - start))) [
+            | inl found ↦ (let less = found.1 in let low = stop.since in let high = stop.until in inl (start + found.0, omega arith, omega (arith, less, low, high), found.2))
+            | inr none ↦
+                let low = stop.since in
+                let high = stop.until in
+                let fit : stop.cycle < end = omega (arith, high, room, fits) in
+                let less = left_then start room stop (λ c l h. not_taken c (omega (arith, h, fit)) (held none c l (omega (arith, h)))) in
+                let some = held none stop.cycle low (omega arith) in
+                let fewer = leads.goes stop.cycle fit (not_taken stop.cycle fit some) (or_right (shows top.commands.signals stop.cycle) _ (not_by _ some)) stop.stops in
+                inr (suc stop.cycle, omega (arith, low), omega (arith, high), omega (arith, fewer, less))
+          ]
             where
-              by_test : (b : Bool) → nat_eq (held stop.cycle) 0 ≡ b → ((c : ℕ) × (start ≤ c) × (c ≤ start + short) × (held c ≡ 0)) ⊎ ((c : ℕ) × (start ≤ c) × (c ≤ start + short + 1) × (held c < held start))
-              by_test true z = inl (stop.cycle, stop.since, stop.until, grind (arith, tests, z))
-              by_test false z =
-                  let low = stop.since in
-                  let high = stop.until in
-                  let less = held_then start room stop in
-                  let fit : stop.cycle < end = omega (arith, high, room, fits) in
-                  let some : 0 < held stop.cycle = grind (arith, tests, z) in
-                  let took = is_taken stop.cycle (leads.stands stop.cycle fit some) stop.stops in
-                  let fewer = leads.fewer stop.cycle fit (none_above stop.cycle fit some) took in
-                  inr (suc stop.cycle, omega (arith, low), omega (arith, high), omega (arith, fewer, less))
+              held : ((j : ℕ) → j < suc (stop.cycle - start) → IsFalse (drained (start + j))) → (c : ℕ) → start ≤ c → c ≤ stop.cycle → IsFalse (drained c)
+              held none c low high = let at : start + (c - start) ≡ c = omega (arith, low) in subst (λ k. IsFalse (drained k)) at (none (c - start) (omega (arith, low, high)))
 
-      drains : (k start : ℕ) → held start ≤ k → from ≤ start → start + k * (short + 1) ≤ from + size → (c : ℕ) × (start ≤ c) × (c ≤ start + k * (short + 1)) × (held c ≡ 0)
-      drains zero start none first room = (start, omega arith, omega arith, omega (arith, none))
-      drains (suc k) start most_held first room =
+      drains : (k start : ℕ) → left start ≤ k → from ≤ start → start + k * (short + 1) ≤ from + size → (c : ℕ) × (start ≤ c) × (c ≤ start + k * (short + 1)) × IsTrue (drained c)
+      drains zero start none first room = (start, omega arith, omega arith, leads.empty start (omega (arith, room, fits)) (omega (arith, none)))
+      drains (suc k) start most_left first room =
           let step : suc k * (short + 1) ≡ k * (short + 1) + short + 1 = omega arith in
           elim (drains_some start first (omega (arith, room, step))) [
             | inl now ↦ (let high = now.2 in (now.0, now.1, omega (arith, high, step), now.3))
@@ -295,7 +227,7 @@ module _ (system : System) (run : Run) (agent host end : ℕ) (top : Port) (up :
                 let low = less.1 in
                 let high = less.2 in
                 let fewer = less.3 in
-                let found = drains k less.0 (omega (arith, fewer, most_held)) (omega (arith, low, first)) (omega (arith, high, room, step)) in
+                let found = drains k less.0 (omega (arith, fewer, most_left)) (omega (arith, low, first)) (omega (arith, high, room, step)) in
                 let since = found.1 in
                 let until = found.2 in
                 (found.0, omega (arith, since, low), omega (arith, until, high, step), found.3)
@@ -308,10 +240,7 @@ module _ (system : System) (run : Run) (agent host end : ℕ) (top : Port) (up :
       word_above : (t : ℕ) → from ≤ t → t + reach + flush + stages + 4 ≤ from + size → IsTrue (is_owed top t) → (c : ℕ) × (suc t ≤ c) × (c < from + size) × IsTrue (is_given_from system run (Some agent) c host)
       word_above t first room owed =
           let found = drains most (suc t) (leads.few (suc t) (omega (arith, room, fits))) (omega (arith, first)) (omega (arith, room)) in
-          let low = found.1 in
-          let high = found.2 in
-          let at : suc t + (found.0 - suc t) ≡ found.0 = omega (arith, low) in
-          by_words found.0 low high found.3 (first_or_none (λ j. is_raised (top.answers.valid (suc t + j))) (found.0 - suc t))
+          by_drained found.0 found.1 found.2 found.3
         where
           unchanged : (n : ℕ) → ((j : ℕ) → j < n → IsFalse (is_raised (top.answers.valid (suc t + j)))) → length (words_at top (suc t + n)) ≡ length (words_at top (suc t))
           unchanged zero none = let same : suc t + 0 ≡ suc t = omega arith in ap (λ k. length (words_at top k)) same
@@ -320,23 +249,21 @@ module _ (system : System) (run : Run) (agent host end : ℕ) (top : Port) (up :
               let same : suc t + suc n ≡ suc (suc t + n) = omega arith in
               ap (λ k. length (words_at top k)) same ∙ no_word top (suc t + n) (none n (omega arith)) ∙ more
 
-          by_words : (c1 : ℕ) → suc t ≤ c1 → c1 ≤ suc t + reach → held c1 ≡ 0 → FirstOrNone (λ j. is_raised (top.answers.valid (suc t + j))) (c1 - suc t) → (c : ℕ) × (suc t ≤ c) × (c < from + size) × IsTrue (is_given_from system run (Some agent) c host)
-          by_words c1 low high none (inl found) =
-              let less = found.1 in
-              let fit : suc t + found.0 < from + size = omega (arith, less, high, room) in
-              (suc t + found.0, omega arith, fit, between.gives (suc t + found.0) (omega (arith, fit, fits)) found.2)
-          by_words c1 low high none (inr never) =
-              let at : suc t + (c1 - suc t) ≡ c1 = omega (arith, low) in
-              let still : length (words_at top c1) ≡ length (words_at top (suc t)) = subst (λ k. length (words_at top k) ≡ length (words_at top (suc t))) at (unchanged (c1 - suc t) (λ j h. never j h)) in
-              let same = same_words c1 (omega (arith, high, room, fits)) in
-              let less = ltb-true (length (words_at top (suc t))) (words_owed top (suc t)) owed in
-              let more = owed_grows top (suc t) c1 low in
-              let asked = leads.asked c1 (omega (arith, high, room, fits)) none in
-              let before : suc (c1 - 1) ≡ c1 = omega (arith, low) in
-              let here : IsTrue (is_owed (up host) (c1 - 1)) = subst (λ k. IsTrue (nat_lt (length (words_at (up host) k)) (words_owed (up host) k))) (sym before) (lt-ltb (length (words_at (up host) c1)) (words_owed (up host) c1) (omega (arith, still, same, less, more, asked))) in
-              let word = word_below (c1 - 1) (omega (arith, low, first)) (omega (arith, high, room)) here in
-              let from_here = word.1 in
-              (word.0, omega (arith, from_here, before, low), word.2, word.3)
+          by_drained : (c1 : ℕ) → suc t ≤ c1 → c1 ≤ suc t + reach → IsTrue (drained c1) → (c : ℕ) × (suc t ≤ c) × (c < from + size) × IsTrue (is_given_from system run (Some agent) c host)
+          by_drained c1 low high none = elim (some_or_none (λ j. is_raised (top.answers.valid (suc t + j))) (suc (last_of c1) - suc t)) [
+            | inl found ↦
+                let less = found.1 in
+                let fit : suc t + found.0 < from + size = omega (arith, less, high, room) in
+                (suc t + found.0, omega arith, fit, between.gives (suc t + found.0) (omega (arith, fit, fits)) found.2)
+            | inr never ↦
+                let at : suc t + (suc (last_of c1) - suc t) ≡ suc (last_of c1) = omega (arith, low) in
+                let still : length (words_at top (suc (last_of c1))) ≡ length (words_at top (suc t)) = subst (λ k. length (words_at top k) ≡ length (words_at top (suc t))) at (unchanged (suc (last_of c1) - suc t) (λ j h. never j h)) in
+                let below = own_words_come c1 (omega (arith, high, room, fits)) (flushes c1 (omega (arith, low, first)) (omega (arith, high, room))) (wanted (c1 + flush) (omega (arith, low, first)) (omega (arith, high, room))).answered in
+                let all = leads.come c1 (suc (last_of c1)) (omega arith) (omega (arith, high, room, fits)) none below in
+                let less = ltb-true (length (words_at top (suc t))) (words_owed top (suc t)) owed in
+                let more = owed_grows top (suc t) c1 low in
+                absurd (omega (arith, still, all, less, more))
+          ]
 
       -- ---- while beats lack
 
@@ -372,32 +299,31 @@ module _ (system : System) (run : Run) (agent host end : ℕ) (top : Port) (up :
       stands_above c = shows top.commands.signals c && not (takes top c)
 
       -- a beat can't stand there for long
-      less_stands : (start until : ℕ) → from ≤ start → until ≤ from + size → start + short + 1 ≤ until → ((c : ℕ) → start ≤ c → c < until → IsTrue (stands_above c)) → (c : ℕ) × (start ≤ c) × (c ≤ start + short + 1) × (held c < held start)
+      less_stands : (start until : ℕ) → from ≤ start → until ≤ from + size → start + short + 1 ≤ until → ((c : ℕ) → start ≤ c → c < until → IsTrue (stands_above c)) → (c : ℕ) × (start ≤ c) × (c ≤ start + short + 1) × (left c < left start)
       less_stands start until first low_until room all =
           let stop = stops_waiting start first (omega (arith, room, low_until)) in
           let low = stop.since in
           let high = stop.until in
           let inside : stop.cycle < until = omega (arith, high, room) in
           let fit : stop.cycle < end = omega (arith, inside, low_until, fits) in
-          let less = held_then start (omega (arith, room, low_until)) stop in
+          let less = left_then start (omega (arith, room, low_until)) stop (λ c l h. not_true _ (and_parts (shows top.commands.signals c) (not (takes top c)) (all c l (omega (arith, h, inside)))).1) in
           let here = and_parts (shows top.commands.signals stop.cycle) (not (takes top stop.cycle)) (all stop.cycle low inside) in
-          let took = is_taken stop.cycle (leads.shown stop.cycle fit here.0) stop.stops in
-          let fewer = leads.fewer stop.cycle fit (not_true _ here.1) took in
+          let fewer = leads.goes stop.cycle fit (not_true _ here.1) (or_left (shows top.commands.signals stop.cycle) _ here.0) stop.stops in
           (suc stop.cycle, omega (arith, low), omega (arith, high), omega (arith, fewer, less))
 
-      not_for_long : (k start until : ℕ) → held start ≤ k → from ≤ start → until ≤ from + size → start + (k + 1) * (short + 1) ≤ until → ((c : ℕ) → start ≤ c → c < until → IsTrue (stands_above c)) → ⊥
+      not_for_long : (k start until : ℕ) → left start ≤ k → from ≤ start → until ≤ from + size → start + (k + 1) * (short + 1) ≤ until → ((c : ℕ) → start ≤ c → c < until → IsTrue (stands_above c)) → ⊥
       not_for_long zero start until none first low_until room all =
           let step : (0 + 1) * (short + 1) ≡ short + 1 = omega arith in
           let next = less_stands start until first low_until (omega (arith, room, step)) all in
           let fewer = next.3 in
           omega (arith, fewer, none)
-      not_for_long (suc k) start until most_held first low_until room all =
+      not_for_long (suc k) start until most_left first low_until room all =
           let step : (suc k + 1) * (short + 1) ≡ (k + 1) * (short + 1) + short + 1 = omega arith in
           let next = less_stands start until first low_until (omega (arith, room, step)) all in
           let low = next.1 in
           let high = next.2 in
           let fewer = next.3 in
-          not_for_long k next.0 until (omega (arith, fewer, most_held)) (omega (arith, low, first)) low_until (omega (arith, high, room, step)) (λ c l h. all c (omega (arith, l, low)) h)
+          not_for_long k next.0 until (omega (arith, fewer, most_left)) (omega (arith, low, first)) low_until (omega (arith, high, room, step)) (λ c l h. all c (omega (arith, l, low)) h)
 
       lacks_at : IsTrue (lacks_beats system run host number from) → (c : ℕ) → from ≤ c → c ≤ from + size → IsTrue (lacks_beats system run host number c)
       lacks_at lacks c low high = let at : from + (c - from) ≡ c = omega (arith, low) in subst (λ k. IsTrue (lacks_beats system run host number k)) at (lacks_on lacks (c - from) (omega (arith, low, high)))
@@ -444,24 +370,24 @@ module _ (system : System) (run : Run) (agent host end : ℕ) (top : Port) (up :
             not_less : (n : ℕ) → number ≤ n → IsFalse (nat_lt n number)
             not_less n h = grind (arith, tests, h)
 
-        module _ (drained : ℕ) (past : from ≤ drained) (near : drained ≤ from + reach) (none : held drained ≡ 0) where
+        module _ (since : ℕ) (past : from ≤ since) (near : since ≤ from + reach) (none : IsTrue (drained since)) where
           -- by then the agent has taken all operations
-          all_there : (c : ℕ) → drained + flush ≤ c → c < from + size → IsTrue (are_taken system run host number c agent)
+          all_there : (c : ℕ) → since + flush ≤ c → c < from + size → IsTrue (are_taken system run host number c agent)
           all_there c late last =
               let there = between.front.taken from (omega (arith, fits)) in
-              let above : IsPrefix (taken_at top from) (taken_at top drained) = taken_grows top from drained past in
+              let above : IsPrefix (taken_at top from) (taken_at top since) = taken_grows top from since past in
               let grown = prefix_length (prefix_flat_map (λ m. operations_in (target_of system agent) top.shape m) above) in
-              let led = leads.through drained (omega (arith, late, last, fits)) none in
-              let own = own_taken system agent up down end between.arbiter (target_of system agent) host between.is_host between.words drained (omega (arith, late, last, fits)) in
-              let reached : IsPrefix (taken_at down.port drained) (taken_at low.port c) = prefix_trans (flushes drained past (omega (arith, late, last))) (taken_grows low.port (drained + flush) c late) in
-              let tagged : IsPrefix (with_tag host (taken_at down.port drained)) (with_tag host (taken_at low.port c)) = prefix_filter (λ (m : Marked). nat_eq m.tag host) reached in
+              let led = leads.through since (omega (arith, late, last, fits)) none in
+              let own = own_taken system agent up down end between.arbiter (target_of system agent) host between.is_host between.words since (omega (arith, late, last, fits)) in
+              let reached : IsPrefix (taken_at down.port since) (taken_at low.port c) = prefix_trans (flushes since past (omega (arith, late, last))) (taken_grows low.port (since + flush) c late) in
+              let tagged : IsPrefix (with_tag host (taken_at down.port since)) (with_tag host (taken_at low.port c)) = prefix_filter (λ (m : Marked). nat_eq m.tag host) reached in
               let less = prefix_length (prefix_flat_map (λ m. operations_in (target_of system agent) low.shape m) tagged) in
-              let same = ap (λ (l : List Operation). length l) (same_among system agent down.port low.port between.low_words (with_tag host (taken_at down.port drained))) in
+              let same = ap (λ (l : List Operation). length l) (same_among system agent down.port low.port between.low_words (with_tag host (taken_at down.port since))) in
               let takes_all = ap (λ l. length (of_host host l)) (between.operations c (omega (arith, last, fits))) ∙ tagged_of_host (target_of system agent) low.shape (taken_at low.port c) host in
               taken_later system run host end between.legal from c number agent (omega (arith, late, past)) (omega (arith, last, fits)) ended (omega (arith, there, grown, led, own, less, same, takes_all))
 
           -- so a word that comes is one that lacks
-          no_word_then : (c : ℕ) → drained + flush ≤ c → c < from + size → IsTrue (is_given_from system run (Some agent) c host) → ⊥
+          no_word_then : (c : ℕ) → since + flush ≤ c → c < from + size → IsTrue (is_given_from system run (Some agent) c host) → ⊥
           no_word_then c late last word = by_outcome (outcome_at c (omega (arith, late, past)) last)
             where
               by_outcome : Outcome system run host (Some agent) number c → ⊥
@@ -471,15 +397,15 @@ module _ (system : System) (run : Run) (agent host end : ℕ) (top : Port) (up :
               by_outcome (a_given is_whole given lacking) = no_both _ (both _ _ given (not_by _ lacking)) (few c (omega (arith, late, past)) last).2
 
           never_then : 2 * reach + 2 * flush + stages + 5 ≤ size → ⊥
-          never_then room = by_outcome (outcome_at (drained + flush) (omega (arith, past)) (omega (arith, near, room)))
+          never_then room = by_outcome (outcome_at (since + flush) (omega (arith, past)) (omega (arith, near, room)))
             where
-              by_outcome : Outcome system run host (Some agent) number (drained + flush) → ⊥
-              by_outcome (a_beat lacks shown all) = no_both _ lacks (all_whole (drained + flush) (omega (arith, past)))
-              by_outcome (an_operation is_whole b e not_taken) = let same : b ≡ agent = cc in no_both _ (all_there (drained + flush) (omega arith) (omega (arith, near, room))) (subst (λ x. IsFalse (are_taken system run host number (drained + flush) x)) same not_taken)
-              by_outcome (a_given is_whole given lacking) = no_word_then (drained + flush) (omega arith) (omega (arith, near, room)) given
+              by_outcome : Outcome system run host (Some agent) number (since + flush) → ⊥
+              by_outcome (a_beat lacks shown all) = no_both _ lacks (all_whole (since + flush) (omega (arith, past)))
+              by_outcome (an_operation is_whole b e not_taken) = let same : b ≡ agent = cc in no_both _ (all_there (since + flush) (omega arith) (omega (arith, near, room))) (subst (λ x. IsFalse (are_taken system run host number (since + flush) x)) same not_taken)
+              by_outcome (a_given is_whole given lacking) = no_word_then (since + flush) (omega arith) (omega (arith, near, room)) given
               by_outcome (a_word is_whole none owing) =
-                  let owed = between.front.owed (drained + flush) (omega (arith, near, room, fits)) owing in
-                  let word = word_above (drained + flush) (omega (arith, past)) (omega (arith, near, room)) owed in
+                  let owed = between.front.owed (since + flush) (omega (arith, near, room, fits)) owing in
+                  let word = word_above (since + flush) (omega (arith, past)) (omega (arith, near, room)) owed in
                   let low = word.1 in
                   no_word_then word.0 (omega (arith, low)) word.2 word.3
 

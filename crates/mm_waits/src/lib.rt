@@ -1,7 +1,7 @@
 //! No host hangs beside its neighbours, behind a pipe of stages and at any agent: a wanted command moves on itself.
 #![tactic(auto)]
 
-ghost use Rattle.std.specs.Prelude.{◌≡◌, ℕ, suc, ◌+◌, ◌<◌, ◌≤◌, IsTrue};
+ghost use Rattle.std.specs.Prelude.{◌≡◌, ℕ, Bool, suc, ◌+◌, ◌<◌, ◌≤◌, IsTrue};
 ghost use Rattle.mm_runs.specs.Views.{System, Run, Responses};
 ghost use Rattle.mm_runs.specs.Whole.{IsLegalRun};
 ghost use Rattle.mm_runs.specs.Order.{is_joined};
@@ -16,6 +16,7 @@ ghost use Rattle.mm_awake.specs.RowSystem.{RowPorts, AreRows, boundaries_of};
 ghost use Rattle.mm_awake.specs.Onward.{MovesWithin, NoHostHangs, round_by, round_of_others, is_good};
 ghost use Rattle.mm_awake.specs.Steps.{HasStepsLeft};
 ghost use Rattle.mm_machines.specs.Lines.{target_of};
+ghost use Rattle.mm_waits.specs.Watched.{LeadsBy, stands_or_owes, waits_for_words};
 ghost use Rattle.mm_waits.specs.Waits.{WordsComeSoon, LeadsDown, waits_by, waits_quietly, waiting_window, cut_window, fitted_window, is_quiet, SelectsOrSplits};
 
 /// Where an agent, with readdatavalid or at any fixed latency, owes nothing by the end of a cycle, all words that were asked above the part next to it have come by the end of the next one.
@@ -28,7 +29,7 @@ pub fn words_come_soon()
     mm_awake::hosts::words_go_up()
 }
 
-/// In a system of machines, a host whose beats are shown before an agent's arbiter at once doesn't hang, for any agent and any number of stages, whatever links its neighbours have, as long as the commands of each of these come to few steps there: in good cycles, or at least in those in which no word is owed behind the arbiter.
+/// In a system of machines, a host whose beats are shown before an agent's arbiter at once doesn't hang, for any agent and any number of stages, whatever links its neighbours have, as long as the commands of each of these come to few steps there: in good cycles, or at least in those in which no word is owed behind the arbiter. Nor does one whose beats may wait for its words there.
 pub fn hosts_beside_links_move()
     ensures good { (responses : Responses) (system : System) (run : Run) (inside : Boundaries) (states : States) (ranks : LinkRanks) (end agent host most : ℕ) (held : ℕ → ℕ) (steps : ℕ → ℕ) (rest : ℕ → ℕ → ℕ)
         → IsBuilt responses system run inside states ranks (end + 2) → IsLegalRun system run (end + 2) → agent < system.agents
@@ -42,6 +43,12 @@ pub fn hosts_beside_links_move()
         → ((other : ℕ) → HasStepsLeft (inside.upper other agent 0) (is_quiet system run agent (inside.lower agent system.stages).port) (steps other) (rest other) (end + 1))
         → IsTrue (is_joined system agent host) → host < system.hosts
         → MovesWithin (waits_quietly most (round_by steps system agent host) system agent) system run agent host end }
+    ensures words { (responses : Responses) (system : System) (run : Run) (inside : Boundaries) (states : States) (ranks : LinkRanks) (end agent host most : ℕ) (drained : ℕ → Bool) (left : ℕ → ℕ) (steps : ℕ → ℕ) (rest : ℕ → ℕ → ℕ)
+        → IsBuilt responses system run inside states ranks (end + 2) → IsLegalRun system run (end + 2) → agent < system.agents
+        → LeadsBy (target_of system agent) (inside.upper host agent (inside.links host agent)) (inside.upper host agent 0) (stands_or_owes (inside.upper host agent 0)) drained left most (end + 2)
+        → ((other : ℕ) → HasStepsLeft (inside.upper other agent 0) (is_quiet system run agent (inside.lower agent system.stages).port) (steps other) (rest other) (end + 1))
+        → IsTrue (is_joined system agent host) → host < system.hosts
+        → MovesWithin (waits_for_words most (round_by steps system agent host) system agent) system run agent host end }
 {
     words_come_soon();
     mm_awake::machines_are_awake();

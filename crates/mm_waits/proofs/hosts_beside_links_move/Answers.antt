@@ -1,7 +1,7 @@
 use Rattle.std.proofs.lemmas.Bool.{or_left, or_right, and_parts}
-use Rattle.std.proofs.Common.{append-nil, length, nat_lt, ℕ, zero, suc, ◌≡◌, ◌+◌, ◌*◌, ◌<◌, ◌≤◌, ◌||◌, ◌&&◌, not, ◌⊎◌, inl, inr, refl, sym, ap, ◌∙◌, tests, if◌then◌else◌, true, false, Bool, arith, subst, IsTrue, IsFalse, ◌-◌}
-use Rattle.histories.specs.History.{is_raised, IsPrefix, one_if}
-use Rattle.histories.specs.Laws.{prefix_trans, before_prefix, before_extends}
+use Rattle.std.proofs.Common.{append-nil, length, nat_eq, nat_lt, ltb-true, ltb-false, ℕ, zero, suc, ◌≡◌, ◌+◌, ◌*◌, ◌<◌, ◌≤◌, ◌||◌, ◌&&◌, not, ◌⊎◌, inl, inr, refl, sym, ap, ◌∙◌, tests, if◌then◌else◌, true, false, Bool, arith, subst, IsTrue, IsFalse, ◌-◌}
+use Rattle.histories.specs.History.{is_raised, IsPrefix, one_if, only_if}
+use Rattle.histories.specs.Laws.{prefix_trans, prefix_length, before_prefix, before_extends}
 use Rattle.mm_runs.specs.Views.{System, Run, Responses}
 use Rattle.mm_runs.specs.Commands.{shows}
 use Rattle.mm_runs.specs.Awake.{longest_wait}
@@ -17,16 +17,28 @@ use Rattle.mm_awake.specs.Onward.{is_good, moves_on, round_by, standing_by}
 use Rattle.mm_awake.specs.Steps.{HasStepsLeft, WaitsItsTurn}
 use Rattle.mm_awake.specs.Theorem.{Boundaries, States, LinkRanks, IsBuilt, approach_of}
 use Rattle.mm_awake.specs.Ways.{count_in}
-use Rattle.mm_waits.specs.Waits.{LeadsDown, agent_pipe_time, waits_by, waits_quietly, standing_quietly, word_time, is_quiet}
-use Rattle.mm_waits.proofs.Bits.{no_true, none_taken, some_or_none}
+use Rattle.mm_waits.specs.Watched.{LeadsBy, stands_or_owes, waits_for_words}
+use Rattle.mm_waits.specs.Waits.{agent_pipe_time, waits_by, waits_quietly, standing_quietly, word_time, is_quiet}
+use Rattle.mm_waits.proofs.Bits.{no_both, no_true, none_taken, some_or_none}
 use Rattle.mm_waits.proofs.Flush.{pipe_flushes, pipe_words, shorter_front}
 use Rattle.mm_waits.proofs.Cuts.{times_more}
 use Rattle.mm_waits.proofs.Cycles.{all_cycles}
-use Rattle.mm_waits.proofs.Moves.{Between, never_stuck, words_below_come}
+use Rattle.mm_waits.proofs.Leads.{leads_at_once, stands_there}
+use Rattle.mm_waits.proofs.Moves.{Between, never_stuck, own_words_come, words_below_come}
 use Rattle.mm_waits.proofs.Shorter.{shorter_arbiter}
 use Rattle.mm_waits.proofs.Stages.{IsPaced, agent_is_paced, pipe_is_paced}
 use Rattle.mm_waits.proofs.hosts_beside_links_move.Goals.{After-agent_machine_is_a_part}
 use Rattle.mm_waits.proofs.hosts_beside_links_move.Goals as goal
+
+good_parts : (a b c : Bool) → IsTrue (a && not b && not c) → IsTrue a × IsFalse b × IsFalse c
+good_parts true false false h = (refl, refl, refl)
+good_parts true true c h = absurd (no_true h)
+good_parts true false true h = absurd (no_true h)
+good_parts false b c h = absurd (no_true h)
+
+not_true : (b : Bool) → IsTrue (not b) → IsFalse b
+not_true true h = absurd (no_true h)
+not_true false h = refl
 
 module _ (c : After-agent_machine_is_a_part) (responses : Responses) (system : System) (run : Run) (inside : Boundaries) (states : States) (ranks : LinkRanks) (end agent : ℕ) (built : IsBuilt responses system run inside states ranks end) (legal : IsLegalRun system run end) (there : agent < system.agents) where
   way : IsApproach system run agent (approach_of system run inside states ranks agent) end
@@ -99,9 +111,9 @@ module _ (c : After-agent_machine_is_a_part) (responses : Responses) (system : S
       let is = built.machines.stage agent i there low in
       ap (λ (p : Port). p.shape.word_bytes) (sym is.up_is) ∙ ap (λ (p : Port). p.shape.word_bytes) is.down_is ∙ same_words i (omega (arith, low))
 
-  between : (host : ℕ) (held : ℕ → ℕ) (most : ℕ) → host < system.hosts → LeadsDown (target_of system agent) (inside.upper host agent (inside.links host agent)) (inside.upper host agent 0) held most end →
-      Between system run agent host end (inside.upper host agent (inside.links host agent)) (λ h. inside.upper h agent 0) (inside.lower agent system.stages) (inside.lower agent 0) held most (agent_pipe_time system agent) system.stages
-  between host held most low leads = record {
+  between : (host : ℕ) (waits drained : ℕ → Bool) (left : ℕ → ℕ) (most : ℕ) → host < system.hosts → LeadsBy (target_of system agent) (inside.upper host agent (inside.links host agent)) (inside.upper host agent 0) waits drained left most end →
+      Between system run agent host end (inside.upper host agent (inside.links host agent)) (λ h. inside.upper h agent 0) (inside.lower agent system.stages) (inside.lower agent 0) waits drained left most (agent_pipe_time system agent) system.stages
+  between host waits drained left most low leads = record {
     is_host = low;
     legal = legal.hosts host low;
     proper = (c.machines_are_awake.ensures.safe responses system run inside states ranks end built legal).at_hosts host low;
@@ -141,7 +153,7 @@ module _ (c : After-agent_machine_is_a_part) (responses : Responses) (system : S
 
   -- and so it is where some of them aren't quiet
   module _ (before : ℕ) (below_end : before < end) (steps : ℕ → ℕ) (rest : ℕ → ℕ → ℕ) (have : (other : ℕ) → HasStepsLeft (inside.upper other agent 0) (is_quiet system run agent (inside.lower agent system.stages).port) (steps other) (rest other) before) (host : ℕ) (joined : IsTrue (is_joined system agent host)) (low : host < system.hosts)
-      (held : ℕ → ℕ) (most : ℕ) (leads : LeadsDown (target_of system agent) (inside.upper host agent (inside.links host agent)) (inside.upper host agent 0) held most end) where
+      (blocked drained : ℕ → Bool) (left : ℕ → ℕ) (most : ℕ) (leads : LeadsBy (target_of system agent) (inside.upper host agent (inside.links host agent)) (inside.upper host agent 0) blocked drained left most end) where
     abbrev behind : Port
     behind = (inside.lower agent system.stages).port
 
@@ -188,7 +200,7 @@ module _ (c : After-agent_machine_is_a_part) (responses : Responses) (system : S
         answers s first inside_window none =
             let flushed = flushes from (from + n) (omega (arith, until, below_end)) fine s first (omega (arith, inside_window)) in
             let owing = (good_parts _ _ _ (fine (s + agent_pipe_time system agent) (omega (arith, first)) (omega (arith, inside_window)))).2 in
-            let come = words_below_come system run agent host end (inside.upper host agent (inside.links host agent)) (λ h. inside.upper h agent 0) (inside.lower agent system.stages) (inside.lower agent 0) held most (agent_pipe_time system agent) system.stages (between host held most low leads)
+            let come = words_below_come system run agent host end (inside.upper host agent (inside.links host agent)) (λ h. inside.upper h agent 0) (inside.lower agent system.stages) (inside.lower agent 0) blocked drained left most (agent_pipe_time system agent) system.stages (between host blocked drained left most low leads)
             s (omega (arith, inside_window, until, below_end)) flushed owing in
             let when : suc (suc (s + agent_pipe_time system agent) + system.stages) ≡ s + word_time system agent - 1 = omega arith in
             let here : words_owed behind s ≤ length (words_at behind (s + word_time system agent - 1)) = subst (λ k. words_owed behind s ≤ length (words_at behind k)) when come in
@@ -200,14 +212,67 @@ module _ (c : After-agent_machine_is_a_part) (responses : Responses) (system : S
             not_less : (a b : ℕ) → b ≤ a → nat_lt a b ≡ false
             not_less a b h = grind (arith, tests, h)
 
-            good_parts : (a b c : Bool) → IsTrue (a && not b && not c) → IsTrue a × IsFalse b × IsFalse c
-            good_parts true false false h = (refl, refl, refl)
-            good_parts true true c h = absurd (no_true h)
-            good_parts true false true h = absurd (no_true h)
-            good_parts false b c h = absurd (no_true h)
+    abbrev port : Port
+    port = inside.upper host agent 0
+
+    -- where a beat stands there or a word is owed, and none is taken, the words come first
+    few_cycles_with_words : (from n : ℕ) → from + n ≤ before → ((k : ℕ) → from ≤ k → k < from + n → IsTrue (is_good system run agent k)) → ((k : ℕ) → from ≤ k → k < from + n → IsTrue (stands_or_owes port k)) →
+        n ≤ standing_quietly (round_by steps system agent host) system agent + word_time system agent
+    few_cycles_with_words from n until fine waits = by_size (nat_lt n (word_time system agent)) refl
+      where
+        none_taken_here : (k : ℕ) → from ≤ k → k < from + n → IsFalse (takes port k)
+        none_taken_here k first last = not_true _ (and_parts (shows port.commands.signals k || is_gone port k) _ (waits k first last)).1
+
+        still : (m : ℕ) → m ≤ n → words_owed port (from + m) ≡ words_owed port from
+        still zero fit = let same : from + 0 ≡ from = omega arith in ap (λ k. words_owed port k) same
+        still (suc m) fit =
+            let more = still m (omega (arith, fit)) in
+            let same : from + suc m ≡ suc (from + m) = omega arith in
+            ap (λ k. words_owed port k) same ∙ ap (λ l. length (read_beats l)) (none_taken port (from + m) (none_taken_here (from + m) (omega arith) (omega (arith, fit)))) ∙ more
+
+        by_size : (b : Bool) → nat_lt n (word_time system agent) ≡ b → n ≤ standing_quietly (round_by steps system agent host) system agent + word_time system agent
+        by_size true e = let less = ltb-true n (word_time system agent) e in omega (arith, less)
+        by_size false e =
+            let enough : word_time system agent ≤ n = ltb-false n (word_time system agent) e in
+            let when : from + (word_time system agent - 1) ≡ suc (suc (from + agent_pipe_time system agent) + system.stages) = omega arith in
+            let late : from + (word_time system agent - 1) + (n - (word_time system agent - 1)) ≡ from + n = omega (arith, enough) in
+            let flushed = flushes from (from + n) (omega (arith, until, below_end)) fine from (omega arith) (omega (arith, enough)) in
+            let owing = (good_parts _ _ _ (fine (from + agent_pipe_time system agent) (omega arith) (omega (arith, enough)))).2 in
+            let come = own_words_come system run agent host end (inside.upper host agent (inside.links host agent)) (λ h. inside.upper h agent 0) (inside.lower agent system.stages) (inside.lower agent 0) blocked drained left most (agent_pipe_time system agent) system.stages (between host blocked drained left most low leads)
+            from (omega (arith, enough, until, below_end)) flushed owing in
+            let few = few_quiet_cycles (from + (word_time system agent - 1)) (n - (word_time system agent - 1)) (omega (arith, late, until)) (λ k first last. fine k (omega (arith, first)) (omega (arith, last, late)))
+            (record {
+              asks = λ k first last. shown k (omega (arith, first)) (omega (arith, last, late)) (all_come k (subst (λ x. words_owed port from ≤ length (words_at port x)) (sym when) come) first (omega (arith, last, late)));
+              none = λ k first last. none_taken_here k (omega (arith, first)) (omega (arith, last, late));
+            }) in
+            omega (arith, few, enough)
+          where
+            not_less : (a b : ℕ) → b ≤ a → nat_lt a b ≡ false
+            not_less a b h = grind (arith, tests, h)
+
+            all_come : (k : ℕ) → words_owed port from ≤ length (words_at port (from + (word_time system agent - 1))) → from + (word_time system agent - 1) ≤ k → k < from + n → IsFalse (is_gone port k)
+            all_come k here first last =
+                let grown : length (words_at port (from + (word_time system agent - 1))) ≤ length (words_at port k) = prefix_length (before_prefix (λ j. only_if (is_raised (port.answers.valid j)) (record { word = port.answers.word j; code = port.answers.code j })) (from + (word_time system agent - 1)) k first) in
+                let at : from + (k - from) ≡ k = omega (arith, first) in
+                let same : words_owed port k ≡ words_owed port from = subst (λ x. words_owed port x ≡ words_owed port from) at (still (k - from) (omega (arith, at, last))) in
+                not_less (length (words_at port k)) (words_owed port k) (omega (arith, here, grown, same))
+
+            shown : (k : ℕ) → from ≤ k → k < from + n → IsFalse (is_gone port k) → IsTrue (shows port.commands.signals k)
+            shown k first last none = by_gone (shows port.commands.signals k) (is_gone port k) (and_parts (shows port.commands.signals k || is_gone port k) _ (waits k first last)).0 none
+              where
+                by_gone : (s g : Bool) → IsTrue (s || g) → IsFalse g → IsTrue s
+                by_gone true g h f = refl
+                by_gone false g h f = absurd (no_both g h f)
 
 all_so : (a b c : Bool) → IsTrue a → IsFalse b → IsFalse c → IsTrue (a && not b && not c)
 all_so a b c x y z = grind (arith, tests)
+
+-- a beat that stands there waits its turn
+turn_waits : (up : ℕ → Port) (host from n : ℕ) → ((k : ℕ) → from ≤ k → k < from + n → IsTrue (stands_there (up host) k)) → WaitsItsTurn up host from n
+turn_waits up host from n all = record {
+  asks = λ k first last. (and_parts (shows (up host).commands.signals k) _ (all k first last)).0;
+  none = λ k first last. not_true _ (and_parts (shows (up host).commands.signals k) _ (all k first last)).1;
+}
 
 pub returns-clause-good : goal.returns-clause-good
 returns-clause-good c = λ responses system run inside states ranks end agent host most held steps rest built legal there leads have joined low from number fits wanted.
@@ -217,13 +282,13 @@ returns-clause-good c = λ responses system run inside states ranks end agent ho
       | inl found ↦ (from + found.0, omega arith, omega (arith, found.1), found.2)
       | inr none ↦
           let d = (goal.at.returns-clause-good c).After-agent_machine_is_a_part in
-          absurd (never_stuck system run agent host (end + 2) (inside.upper host agent (inside.links host agent)) (λ h. inside.upper h agent 0) (inside.lower agent system.stages) (inside.lower agent 0) held most (agent_pipe_time system agent) system.stages
-          (between d responses system run inside states ranks (end + 2) agent built legal there host held most low leads)
+          absurd (never_stuck system run agent host (end + 2) (inside.upper host agent (inside.links host agent)) (λ h. inside.upper h agent 0) (inside.lower agent system.stages) (inside.lower agent 0) (stands_there (inside.upper host agent 0)) (λ k. nat_eq (held k) 0) held most (agent_pipe_time system agent) system.stages
+          (between d responses system run inside states ranks (end + 2) agent built legal there host (stands_there (inside.upper host agent 0)) (λ k. nat_eq (held k) 0) held most low (leads_at_once (target_of system agent) (inside.upper host agent (inside.links host agent)) (inside.upper host agent 0) held most (end + 2) leads))
           from size number (omega (arith, fits)) wanted
           (λ k first last. (let same : from + (k - from) ≡ k = omega (arith, first) in subst (λ x. IsFalse (moves_on system run agent host number x)) same (none (k - from) (omega (arith, first, last)))))
           (flushes d responses system run inside states ranks (end + 2) agent built legal there from (from + size) (omega (arith, fits)) good)
           (standing_by (round_by steps system agent host) system agent)
-          (λ start n first few waits. few_cycles d responses system run inside states ranks (end + 2) agent built legal there steps rest have host joined low start n (omega (arith, few, fits)) (λ k low high. good k (omega (arith, first, low)) (omega (arith, few, high))) waits)
+          (λ start n first few waits. few_cycles d responses system run inside states ranks (end + 2) agent built legal there steps rest have host joined low start n (omega (arith, few, fits)) (λ k low high. good k (omega (arith, first, low)) (omega (arith, few, high))) (turn_waits (λ h. inside.upper h agent 0) host start n waits))
           (omega arith))
     ]
 
@@ -235,12 +300,30 @@ returns-clause-quiet c = λ responses system run inside states ranks end agent h
       | inl found ↦ (from + found.0, omega arith, omega (arith, found.1), found.2)
       | inr none ↦
           let d = (goal.at.returns-clause-quiet c).After-agent_machine_is_a_part in
-          absurd (never_stuck system run agent host (end + 2) (inside.upper host agent (inside.links host agent)) (λ h. inside.upper h agent 0) (inside.lower agent system.stages) (inside.lower agent 0) held most (agent_pipe_time system agent) system.stages
-          (between d responses system run inside states ranks (end + 2) agent built legal there host held most low leads)
+          absurd (never_stuck system run agent host (end + 2) (inside.upper host agent (inside.links host agent)) (λ h. inside.upper h agent 0) (inside.lower agent system.stages) (inside.lower agent 0) (stands_there (inside.upper host agent 0)) (λ k. nat_eq (held k) 0) held most (agent_pipe_time system agent) system.stages
+          (between d responses system run inside states ranks (end + 2) agent built legal there host (stands_there (inside.upper host agent 0)) (λ k. nat_eq (held k) 0) held most low (leads_at_once (target_of system agent) (inside.upper host agent (inside.links host agent)) (inside.upper host agent 0) held most (end + 2) leads))
           from size number (omega (arith, fits)) wanted
           (λ k first last. (let same : from + (k - from) ≡ k = omega (arith, first) in subst (λ x. IsFalse (moves_on system run agent host number x)) same (none (k - from) (omega (arith, first, last)))))
           (flushes d responses system run inside states ranks (end + 2) agent built legal there from (from + size) (omega (arith, fits)) good)
           (standing_quietly (round_by steps system agent host) system agent)
-          (λ start n first few waits. few_quiet_cycles d responses system run inside states ranks (end + 2) agent built legal there (end + 1) (omega arith) steps rest have host joined low held most leads start n (omega (arith, few, fits)) (λ k low high. good k (omega (arith, first, low)) (omega (arith, few, high))) waits)
+          (λ start n first few waits. few_quiet_cycles d responses system run inside states ranks (end + 2) agent built legal there (end + 1) (omega arith) steps rest have host joined low (stands_there (inside.upper host agent 0)) (λ k. nat_eq (held k) 0) held most (leads_at_once (target_of system agent) (inside.upper host agent (inside.links host agent)) (inside.upper host agent 0) held most (end + 2) leads) start n (omega (arith, few, fits)) (λ k low high. good k (omega (arith, first, low)) (omega (arith, few, high))) (turn_waits (λ h. inside.upper h agent 0) host start n waits))
+          (omega arith))
+    ]
+
+pub returns-clause-words : goal.returns-clause-words
+returns-clause-words c = λ responses system run inside states ranks end agent host most drained left steps rest built legal there leads have joined low from number fits wanted.
+    let size = waits_for_words most (round_by steps system agent host) system agent in
+    let good : (k : ℕ) → from ≤ k → k < from + size → IsTrue (is_good system run agent k) = λ k first last. all_so _ _ _ (wanted k first last).bursts (wanted k first last).ready (wanted k first last).answered in
+    elim (some_or_none (λ j. moves_on system run agent host number (from + j)) size) [
+      | inl found ↦ (from + found.0, omega arith, omega (arith, found.1), found.2)
+      | inr none ↦
+          let d = (goal.at.returns-clause-words c).After-agent_machine_is_a_part in
+          absurd (never_stuck system run agent host (end + 2) (inside.upper host agent (inside.links host agent)) (λ h. inside.upper h agent 0) (inside.lower agent system.stages) (inside.lower agent 0) (stands_or_owes (inside.upper host agent 0)) drained left most (agent_pipe_time system agent) system.stages
+          (between d responses system run inside states ranks (end + 2) agent built legal there host (stands_or_owes (inside.upper host agent 0)) drained left most low leads)
+          from size number (omega (arith, fits)) wanted
+          (λ k first last. (let same : from + (k - from) ≡ k = omega (arith, first) in subst (λ x. IsFalse (moves_on system run agent host number x)) same (none (k - from) (omega (arith, first, last)))))
+          (flushes d responses system run inside states ranks (end + 2) agent built legal there from (from + size) (omega (arith, fits)) good)
+          (standing_quietly (round_by steps system agent host) system agent + word_time system agent)
+          (λ start n first few waits. few_cycles_with_words d responses system run inside states ranks (end + 2) agent built legal there (end + 1) (omega arith) steps rest have host joined low (stands_or_owes (inside.upper host agent 0)) drained left most leads start n (omega (arith, few, fits)) (λ k low high. good k (omega (arith, first, low)) (omega (arith, few, high))) waits)
           (omega arith))
     ]
