@@ -25,12 +25,23 @@ none_left n h = grind (arith, tests, h)
 pub some_left : (n : ℕ) → IsFalse (nat_eq n 0) → 0 < n
 some_left n h = grind (arith, tests, h)
 
+pub shorter_lead : {target : Target} {top bottom : Port} {waits drained : ℕ → Bool} {left : ℕ → ℕ} {most : ℕ} (end less : ℕ) → less ≤ end → LeadsBy target top bottom waits drained left most end → LeadsBy target top bottom waits drained left most less
+shorter_lead end less h leads = record {
+  few = λ c fit. leads.few c (omega (arith, fit, h));
+  stays = λ c fit. leads.stays c (omega (arith, fit, h));
+  goes = λ c fit. leads.goes c (omega (arith, fit, h));
+  empty = λ c fit. leads.empty c (omega (arith, fit, h));
+  taken = λ c fit. leads.taken c (omega (arith, fit, h));
+  through = λ c fit. leads.through c (omega (arith, fit, h));
+  come = λ c d near fit. leads.come c d near (omega (arith, fit, h));
+}
+
 -- where a beat is shown or held above, it is shown below, or what waits here does so for another reason
 module _ (target : Target) (top bottom : Port) (held : ℕ → ℕ) (most end : ℕ) (leads : LeadsDown target top bottom held most end) where
   abbrev drained : ℕ → Bool
   drained c = nat_eq (held c) 0
 
-  shown_below : (c : ℕ) → c < end → IsTrue (shows top.commands.signals c || not (drained c)) → IsTrue (shows bottom.commands.signals c)
+  pub shown_below : (c : ℕ) → c < end → IsTrue (shows top.commands.signals c || not (drained c)) → IsTrue (shows bottom.commands.signals c)
   shown_below c fit h = by_shown (shows top.commands.signals c) refl (drained c) refl h
     where
       by_shown : (s : Bool) → shows top.commands.signals c ≡ s → (d : Bool) → drained c ≡ d → IsTrue (s || not d) → IsTrue (shows bottom.commands.signals c)

@@ -17,3 +17,7 @@ pub mod Joined
 pub mod SplitCounts
 pub mod Splits
 pub mod Shorter
+pub mod Fitted
+pub mod OneBeat
+pub mod SelectFits
+pub mod SplitFits

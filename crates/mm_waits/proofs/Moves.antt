@@ -57,7 +57,7 @@ pub record Between (system : System) (run : Run) (agent host end : ℕ) (top : P
   pub proper : IsProperAtHost (system.host host) (run.at_host host) end
   pub front : IsFront system run host agent top end
   pub gives : GivesAtOnce system run host agent top end
-  pub leads : LeadsBy (target_of system agent) top (up host) waits drained left most end
+  pub leads : LeadsBy (target_of system agent) top (up host) waits drained left most (end - 1)
   pub arbiter : IsArbiterPart system agent up down end
   pub words : (up host).shape.word_bytes ≡ down.shape.word_bytes
   pub low_words : down.shape.word_bytes ≡ low.shape.word_bytes
@@ -143,7 +143,7 @@ module _ (system : System) (run : Run) (agent host end : ℕ) (top : Port) (up :
         by_outcome (a_word whole none owing) = no_both _ lacks whole
         by_outcome (a_given whole given lacking) = no_both _ lacks whole
 
-    leads : LeadsBy (target_of system agent) top (up host) waits drained left most end
+    leads : LeadsBy (target_of system agent) top (up host) waits drained left most (end - 1)
     leads = between.leads
 
     module _ (short : ℕ) (few_cycles : (start n : ℕ) → from ≤ start → start + n ≤ from + size → ((c : ℕ) → start ≤ c → c < start + n → IsTrue (waits c)) → n ≤ short) where
@@ -173,7 +173,7 @@ module _ (system : System) (run : Run) (agent host end : ℕ) (top : Port) (up :
           each start n all c low high = let same : start + (c - start) ≡ c = omega (arith, low) in subst (λ k. IsTrue (waits k)) same (by_not (waits (start + (c - start))) (all (c - start) (omega (arith, low, high))))
 
       -- while nothing is taken above no more is left
-      no_more : (start n : ℕ) → start + n ≤ end → ((c : ℕ) → start ≤ c → c < start + n → IsFalse (takes top c)) → left (start + n) ≤ left start
+      no_more : (start n : ℕ) → start + n ≤ end - 1 → ((c : ℕ) → start ≤ c → c < start + n → IsFalse (takes top c)) → left (start + n) ≤ left start
       no_more start zero fit none = let same : start + 0 ≡ start = omega arith in rw same (omega arith)
       no_more start (suc n) fit none =
           let more = no_more start n (omega (arith, fit)) (λ c low high. none c low (omega (arith, high))) in
@@ -189,7 +189,7 @@ module _ (system : System) (run : Run) (agent host end : ℕ) (top : Port) (up :
           let at : start + (stop.cycle - start) ≡ stop.cycle = omega (arith, low) in
           subst (λ x. left x ≤ left start) at (no_more start (stop.cycle - start) (omega (arith, at, high, room, fits)) (λ c l h. none c l (omega (arith, h, at))))
 
-      not_taken : (c : ℕ) → c < end → IsFalse (drained c) → IsFalse (takes top c)
+      not_taken : (c : ℕ) → c < end - 1 → IsFalse (drained c) → IsFalse (takes top c)
       not_taken c fit some = by_take (takes top c) refl
         where
           by_take : (b : Bool) → takes top c ≡ b → IsFalse b
@@ -207,7 +207,7 @@ module _ (system : System) (run : Run) (agent host end : ℕ) (top : Port) (up :
             | inr none ↦
                 let low = stop.since in
                 let high = stop.until in
-                let fit : stop.cycle < end = omega (arith, high, room, fits) in
+                let fit : stop.cycle < end - 1 = omega (arith, high, room, fits) in
                 let less = left_then start room stop (λ c l h. not_taken c (omega (arith, h, fit)) (held none c l (omega (arith, h)))) in
                 let some = held none stop.cycle low (omega arith) in
                 let fewer = leads.goes stop.cycle fit (not_taken stop.cycle fit some) (or_right (shows top.commands.signals stop.cycle) _ (not_by _ some)) stop.stops in
@@ -305,7 +305,7 @@ module _ (system : System) (run : Run) (agent host end : ℕ) (top : Port) (up :
           let low = stop.since in
           let high = stop.until in
           let inside : stop.cycle < until = omega (arith, high, room) in
-          let fit : stop.cycle < end = omega (arith, inside, low_until, fits) in
+          let fit : stop.cycle < end - 1 = omega (arith, inside, low_until, fits) in
           let less = left_then start (omega (arith, room, low_until)) stop (λ c l h. not_true _ (and_parts (shows top.commands.signals c) (not (takes top c)) (all c l (omega (arith, h, inside)))).1) in
           let here = and_parts (shows top.commands.signals stop.cycle) (not (takes top stop.cycle)) (all stop.cycle low inside) in
           let fewer = leads.goes stop.cycle fit (not_true _ here.1) (or_left (shows top.commands.signals stop.cycle) _ here.0) stop.stops in

@@ -15,20 +15,20 @@ drop_one [] = omega arith
 drop_one (x ∷ xs) = let same : drop 0 xs ≡ xs = refl in omega arith
 
 module _ (target : Target) (room : ℕ) (up down : Port) (offsets : ℕ → List ℕ) (runs : RunsAsSelect room up down offsets) (deep : 1 < room) (end : ℕ) (owed : (c : ℕ) → c < end → length (words_at down (suc c)) ≤ words_owed down c) where
-  shown_is : (c : ℕ) → shows down.commands.signals c ≡ (is_raised (if is_shut room up offsets c then 0 else up.commands.read c) || is_raised (up.commands.write c))
+  pub shown_is : (c : ℕ) → shows down.commands.signals c ≡ (is_raised (if is_shut room up offsets c then 0 else up.commands.read c) || is_raised (up.commands.write c))
   shown_is c = ap (λ (l : Levels). is_raised l.read || is_raised l.write) (runs.levels c)
 
-  write_is : (c : ℕ) → is_raised (down.commands.write c) ≡ is_raised (up.commands.write c)
+  pub write_is : (c : ℕ) → is_raised (down.commands.write c) ≡ is_raised (up.commands.write c)
   write_is c = ap (λ (l : Levels). is_raised l.write) (runs.levels c)
 
-  one_beat : (c : ℕ) → down.commands.count c ≡ 1
+  pub one_beat : (c : ℕ) → down.commands.count c ≡ 1
   one_beat c = ap (λ (l : Levels). l.count) (runs.levels c)
 
   no_write : (w r : Bool) → IsTrue (not w && not r) → IsFalse w
   no_write false r h = refl
   no_write true r h = absurd (no_true h)
 
-  same_takes : (c : ℕ) → takes up c ≡ takes down c
+  pub same_takes : (c : ℕ) → takes up c ≡ takes down c
   same_takes c = by_shut (is_shut room up offsets c) refl
     where
       waiting : (s w : Bool) → w ≡ true → (s && not w) ≡ false

@@ -156,7 +156,7 @@ module _ (room : ℕ) (up down : Port) (state : SplitState) (run : RunsAsSplit r
   pub there : (c : ℕ) → IsTrue (takes down c) → IsTrue (shows up.commands.signals c && opens room up down state c)
   there c taken = (and_parts (shows up.commands.signals c && opens room up down state c) _ (sym (run.shown c) ∙ takes_shows down c taken)).0
 
-  in_size : (c : ℕ) → IsTrue (takes down c) → state.place c < size c
+  pub in_size : (c : ℕ) → IsTrue (takes down c) → state.place c < size c
   in_size c taken = ltb-true (state.place c) (size c) (and_parts (shows up.commands.signals c && opens room up down state c) _ (sym (run.shown c) ∙ takes_shows down c taken)).1
 
   read_size : (c : ℕ) → IsFalse (is_raised (up.commands.write c)) → size c ≡ length (asked_at up down c)
@@ -184,7 +184,7 @@ module _ (room : ℕ) (up down : Port) (state : SplitState) (run : RunsAsSplit r
           let is = ap₂ (λ t w. one_if (t && not w)) e f in
           omega (arith, more, one, is)
 
-  came_next : (c : ℕ) → length (words_at down (suc c)) ≡ length (words_at down c) + one_if (is_raised (down.answers.valid c))
+  pub came_next : (c : ℕ) → length (words_at down (suc c)) ≡ length (words_at down c) + one_if (is_raised (down.answers.valid c))
   came_next c = one_word_more (is_raised (down.answers.valid c)) (record { word = down.answers.word c; code = down.answers.code c }) (words_at down c)
 
   -- no word comes that wasn't asked
@@ -392,7 +392,7 @@ module _ (room : ℕ) (up down : Port) (state : SplitState) (run : RunsAsSplit r
               by_zero (suc n) e = absurd (no_true (sym k ∙ now.stands (omega (arith, e))))
 
   -- the pieces that are asked stay the same, or none was under way
-  record IsFresh (c : ℕ) : Type 0 where
+  pub record IsFresh (c : ℕ) : Type 0 where
     pub reads : state.reads c ≡ 0
     pub place : state.place c ≡ 0
     pub read : takes_read down c ≡ true
@@ -400,7 +400,7 @@ module _ (room : ℕ) (up down : Port) (state : SplitState) (run : RunsAsSplit r
   set_is : (c : ℕ) → takes_read down c ≡ true → state.set (suc c) ≡ asked_at up down c
   set_is c e = run.set_next c ∙ ap (λ b. if b then asked_at up down c else state.set c) e
 
-  set_stays : (c : ℕ) → Now c → (state.set (suc c) ≡ state.set c) ⊎ IsFresh c
+  pub set_stays : (c : ℕ) → Now c → (state.set (suc c) ≡ state.set c) ⊎ IsFresh c
   set_stays c now = by_read (takes_read down c) refl
     where
       by_read : (b : Bool) → takes_read down c ≡ b → (state.set (suc c) ≡ state.set c) ⊎ IsFresh c
@@ -473,14 +473,14 @@ module _ (room : ℕ) (up down : Port) (state : SplitState) (run : RunsAsSplit r
           by_size (suc l) f = omega (arith, few, f)
 
   -- how the words come
-  record Coming (c : ℕ) : Type 0 where
+  pub record Coming (c : ℕ) : Type 0 where
     pub completed : Bool
     pub given : is_raised (up.answers.valid c) ≡ completed
     pub sum : state.come (suc c) + (if completed then set_size c else 0) ≡ state.come c + one_if (is_raised (down.answers.valid c))
     pub few : state.come (suc c) ≤ set_size c - 1
     pub some : IsTrue completed → 0 < state.reads c
 
-  coming : (c : ℕ) → c < end → Now c → Coming c
+  pub coming : (c : ℕ) → c < end → Now c → Coming c
   coming c h now = by_valid (is_raised (down.answers.valid c)) refl (completes state c) refl
     where
       next : (v d : Bool) → is_raised (down.answers.valid c) ≡ v → completes state c ≡ d → state.come (suc c) ≡ (if v then (if d then 0 else suc (state.come c)) else state.come c)

@@ -49,7 +49,7 @@ module _ (room : ℕ) (up down : Port) (state : SplitState) (run : RunsAsSplit r
           by_need false t = absurd (no_true t)
 
   -- while a read is under way some piece of it is asked
-  some_asked : (c : ℕ) → 0 < state.reads c → 0 < length (state.set c)
+  pub some_asked : (c : ℕ) → 0 < state.reads c → 0 < length (state.set c)
   some_asked zero some = let none = run.reads_begin in absurd (omega (arith, none, some))
   some_asked (suc c) some = by_read (takes_read down c) refl (some_asked c)
     where

@@ -32,10 +32,10 @@ module _ (up down : Port) (wire : IsWire up down) where
   pub wire_operations : (target : Target) (c : ℕ) → length (operations_among target down.shape (taken_at down c)) ≡ length (operations_among target up.shape (taken_at up c))
   wire_operations target c = subst (λ p. length (operations_among target p.shape (taken_at p c)) ≡ length (operations_among target up.shape (taken_at up c))) wire.same (ap (λ l. length (operations_among target up.shape l)) (taken_same bits_below up c))
 
-  wire_takes : (c : ℕ) → takes down c ≡ takes up c
+  pub wire_takes : (c : ℕ) → takes down c ≡ takes up c
   wire_takes c = wire_stays (λ p. takes p c ≡ takes up c) refl
 
-  wire_shows : (c : ℕ) → shows down.commands.signals c ≡ shows up.commands.signals c
+  pub wire_shows : (c : ℕ) → shows down.commands.signals c ≡ shows up.commands.signals c
   wire_shows c = wire_stays (λ p. shows p.commands.signals c ≡ shows up.commands.signals c) refl
 
   pub wire_asked : (c : ℕ) → words_owed down c ≡ words_owed up c

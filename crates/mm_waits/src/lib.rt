@@ -1,6 +1,8 @@
 //! No host hangs beside its neighbours, behind a pipe of stages and at any agent: a wanted command moves on itself.
 #![tactic(auto)]
 
+pub mod watched;
+
 ghost use Rattle.std.specs.Prelude.{◌≡◌, ℕ, Bool, suc, ◌+◌, ◌<◌, ◌≤◌, IsTrue};
 ghost use Rattle.mm_runs.specs.Views.{System, Run, Responses};
 ghost use Rattle.mm_runs.specs.Whole.{IsLegalRun};
@@ -45,7 +47,7 @@ pub fn hosts_beside_links_move()
         → MovesWithin (waits_quietly most (round_by steps system agent host) system agent) system run agent host end }
     ensures words { (responses : Responses) (system : System) (run : Run) (inside : Boundaries) (states : States) (ranks : LinkRanks) (end agent host most : ℕ) (drained : ℕ → Bool) (left : ℕ → ℕ) (steps : ℕ → ℕ) (rest : ℕ → ℕ → ℕ)
         → IsBuilt responses system run inside states ranks (end + 2) → IsLegalRun system run (end + 2) → agent < system.agents
-        → LeadsBy (target_of system agent) (inside.upper host agent (inside.links host agent)) (inside.upper host agent 0) (stands_or_owes (inside.upper host agent 0)) drained left most (end + 2)
+        → LeadsBy (target_of system agent) (inside.upper host agent (inside.links host agent)) (inside.upper host agent 0) (stands_or_owes (inside.upper host agent 0)) drained left most (end + 1)
         → ((other : ℕ) → HasStepsLeft (inside.upper other agent 0) (is_quiet system run agent (inside.lower agent system.stages).port) (steps other) (rest other) (end + 1))
         → IsTrue (is_joined system agent host) → host < system.hosts
         → MovesWithin (waits_for_words most (round_by steps system agent host) system agent) system run agent host end }

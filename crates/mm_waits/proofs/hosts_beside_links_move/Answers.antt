@@ -23,7 +23,7 @@ use Rattle.mm_waits.proofs.Bits.{no_both, no_true, none_taken, some_or_none}
 use Rattle.mm_waits.proofs.Flush.{pipe_flushes, pipe_words, shorter_front}
 use Rattle.mm_waits.proofs.Cuts.{times_more}
 use Rattle.mm_waits.proofs.Cycles.{all_cycles}
-use Rattle.mm_waits.proofs.Leads.{leads_at_once, stands_there}
+use Rattle.mm_waits.proofs.Leads.{leads_at_once, shorter_lead, stands_there}
 use Rattle.mm_waits.proofs.Moves.{Between, never_stuck, own_words_come, words_below_come}
 use Rattle.mm_waits.proofs.Shorter.{shorter_arbiter}
 use Rattle.mm_waits.proofs.Stages.{IsPaced, agent_is_paced, pipe_is_paced}
@@ -111,7 +111,7 @@ module _ (c : After-agent_machine_is_a_part) (responses : Responses) (system : S
       let is = built.machines.stage agent i there low in
       ap (λ (p : Port). p.shape.word_bytes) (sym is.up_is) ∙ ap (λ (p : Port). p.shape.word_bytes) is.down_is ∙ same_words i (omega (arith, low))
 
-  between : (host : ℕ) (waits drained : ℕ → Bool) (left : ℕ → ℕ) (most : ℕ) → host < system.hosts → LeadsBy (target_of system agent) (inside.upper host agent (inside.links host agent)) (inside.upper host agent 0) waits drained left most end →
+  between : (host : ℕ) (waits drained : ℕ → Bool) (left : ℕ → ℕ) (most : ℕ) → host < system.hosts → LeadsBy (target_of system agent) (inside.upper host agent (inside.links host agent)) (inside.upper host agent 0) waits drained left most (end - 1) →
       Between system run agent host end (inside.upper host agent (inside.links host agent)) (λ h. inside.upper h agent 0) (inside.lower agent system.stages) (inside.lower agent 0) waits drained left most (agent_pipe_time system agent) system.stages
   between host waits drained left most low leads = record {
     is_host = low;
@@ -153,7 +153,7 @@ module _ (c : After-agent_machine_is_a_part) (responses : Responses) (system : S
 
   -- and so it is where some of them aren't quiet
   module _ (before : ℕ) (below_end : before < end) (steps : ℕ → ℕ) (rest : ℕ → ℕ → ℕ) (have : (other : ℕ) → HasStepsLeft (inside.upper other agent 0) (is_quiet system run agent (inside.lower agent system.stages).port) (steps other) (rest other) before) (host : ℕ) (joined : IsTrue (is_joined system agent host)) (low : host < system.hosts)
-      (blocked drained : ℕ → Bool) (left : ℕ → ℕ) (most : ℕ) (leads : LeadsBy (target_of system agent) (inside.upper host agent (inside.links host agent)) (inside.upper host agent 0) blocked drained left most end) where
+      (blocked drained : ℕ → Bool) (left : ℕ → ℕ) (most : ℕ) (leads : LeadsBy (target_of system agent) (inside.upper host agent (inside.links host agent)) (inside.upper host agent 0) blocked drained left most (end - 1)) where
     abbrev behind : Port
     behind = (inside.lower agent system.stages).port
 
@@ -283,7 +283,7 @@ returns-clause-good c = λ responses system run inside states ranks end agent ho
       | inr none ↦
           let d = (goal.at.returns-clause-good c).After-agent_machine_is_a_part in
           absurd (never_stuck system run agent host (end + 2) (inside.upper host agent (inside.links host agent)) (λ h. inside.upper h agent 0) (inside.lower agent system.stages) (inside.lower agent 0) (stands_there (inside.upper host agent 0)) (λ k. nat_eq (held k) 0) held most (agent_pipe_time system agent) system.stages
-          (between d responses system run inside states ranks (end + 2) agent built legal there host (stands_there (inside.upper host agent 0)) (λ k. nat_eq (held k) 0) held most low (leads_at_once (target_of system agent) (inside.upper host agent (inside.links host agent)) (inside.upper host agent 0) held most (end + 2) leads))
+          (between d responses system run inside states ranks (end + 2) agent built legal there host (stands_there (inside.upper host agent 0)) (λ k. nat_eq (held k) 0) held most low (shorter_lead (end + 2) (end + 2 - 1) (omega arith) (leads_at_once (target_of system agent) (inside.upper host agent (inside.links host agent)) (inside.upper host agent 0) held most (end + 2) leads)))
           from size number (omega (arith, fits)) wanted
           (λ k first last. (let same : from + (k - from) ≡ k = omega (arith, first) in subst (λ x. IsFalse (moves_on system run agent host number x)) same (none (k - from) (omega (arith, first, last)))))
           (flushes d responses system run inside states ranks (end + 2) agent built legal there from (from + size) (omega (arith, fits)) good)
@@ -301,12 +301,12 @@ returns-clause-quiet c = λ responses system run inside states ranks end agent h
       | inr none ↦
           let d = (goal.at.returns-clause-quiet c).After-agent_machine_is_a_part in
           absurd (never_stuck system run agent host (end + 2) (inside.upper host agent (inside.links host agent)) (λ h. inside.upper h agent 0) (inside.lower agent system.stages) (inside.lower agent 0) (stands_there (inside.upper host agent 0)) (λ k. nat_eq (held k) 0) held most (agent_pipe_time system agent) system.stages
-          (between d responses system run inside states ranks (end + 2) agent built legal there host (stands_there (inside.upper host agent 0)) (λ k. nat_eq (held k) 0) held most low (leads_at_once (target_of system agent) (inside.upper host agent (inside.links host agent)) (inside.upper host agent 0) held most (end + 2) leads))
+          (between d responses system run inside states ranks (end + 2) agent built legal there host (stands_there (inside.upper host agent 0)) (λ k. nat_eq (held k) 0) held most low (shorter_lead (end + 2) (end + 2 - 1) (omega arith) (leads_at_once (target_of system agent) (inside.upper host agent (inside.links host agent)) (inside.upper host agent 0) held most (end + 2) leads)))
           from size number (omega (arith, fits)) wanted
           (λ k first last. (let same : from + (k - from) ≡ k = omega (arith, first) in subst (λ x. IsFalse (moves_on system run agent host number x)) same (none (k - from) (omega (arith, first, last)))))
           (flushes d responses system run inside states ranks (end + 2) agent built legal there from (from + size) (omega (arith, fits)) good)
           (standing_quietly (round_by steps system agent host) system agent)
-          (λ start n first few waits. few_quiet_cycles d responses system run inside states ranks (end + 2) agent built legal there (end + 1) (omega arith) steps rest have host joined low (stands_there (inside.upper host agent 0)) (λ k. nat_eq (held k) 0) held most (leads_at_once (target_of system agent) (inside.upper host agent (inside.links host agent)) (inside.upper host agent 0) held most (end + 2) leads) start n (omega (arith, few, fits)) (λ k low high. good k (omega (arith, first, low)) (omega (arith, few, high))) (turn_waits (λ h. inside.upper h agent 0) host start n waits))
+          (λ start n first few waits. few_quiet_cycles d responses system run inside states ranks (end + 2) agent built legal there (end + 1) (omega arith) steps rest have host joined low (stands_there (inside.upper host agent 0)) (λ k. nat_eq (held k) 0) held most (shorter_lead (end + 2) (end + 2 - 1) (omega arith) (leads_at_once (target_of system agent) (inside.upper host agent (inside.links host agent)) (inside.upper host agent 0) held most (end + 2) leads)) start n (omega (arith, few, fits)) (λ k low high. good k (omega (arith, first, low)) (omega (arith, few, high))) (turn_waits (λ h. inside.upper h agent 0) host start n waits))
           (omega arith))
     ]
 
@@ -319,11 +319,11 @@ returns-clause-words c = λ responses system run inside states ranks end agent h
       | inr none ↦
           let d = (goal.at.returns-clause-words c).After-agent_machine_is_a_part in
           absurd (never_stuck system run agent host (end + 2) (inside.upper host agent (inside.links host agent)) (λ h. inside.upper h agent 0) (inside.lower agent system.stages) (inside.lower agent 0) (stands_or_owes (inside.upper host agent 0)) drained left most (agent_pipe_time system agent) system.stages
-          (between d responses system run inside states ranks (end + 2) agent built legal there host (stands_or_owes (inside.upper host agent 0)) drained left most low leads)
+          (between d responses system run inside states ranks (end + 2) agent built legal there host (stands_or_owes (inside.upper host agent 0)) drained left most low (shorter_lead (end + 1) (end + 2 - 1) (omega arith) leads))
           from size number (omega (arith, fits)) wanted
           (λ k first last. (let same : from + (k - from) ≡ k = omega (arith, first) in subst (λ x. IsFalse (moves_on system run agent host number x)) same (none (k - from) (omega (arith, first, last)))))
           (flushes d responses system run inside states ranks (end + 2) agent built legal there from (from + size) (omega (arith, fits)) good)
           (standing_quietly (round_by steps system agent host) system agent + word_time system agent)
-          (λ start n first few waits. few_cycles_with_words d responses system run inside states ranks (end + 2) agent built legal there (end + 1) (omega arith) steps rest have host joined low (stands_or_owes (inside.upper host agent 0)) drained left most leads start n (omega (arith, few, fits)) (λ k low high. good k (omega (arith, first, low)) (omega (arith, few, high))) waits)
+          (λ start n first few waits. few_cycles_with_words d responses system run inside states ranks (end + 2) agent built legal there (end + 1) (omega arith) steps rest have host joined low (stands_or_owes (inside.upper host agent 0)) drained left most (shorter_lead (end + 1) (end + 2 - 1) (omega arith) leads) start n (omega (arith, few, fits)) (λ k low high. good k (omega (arith, first, low)) (omega (arith, few, high))) waits)
           (omega arith))
     ]
