@@ -5,6 +5,7 @@ use Rattle.mm_runs.specs.Commands.{shows}
 use Rattle.mm_machines.specs.Link.{Target, Port, takes, taken_at, operations_among, words_at, words_owed}
 use Rattle.mm_parts.specs.Steps.{is_gone}
 use Rattle.mm_runs.specs.Operations.{pieces}
+use Rattle.mm_awake.specs.Onward.{round_by}
 use Rattle.mm_awake.specs.Rows.{FitsWords, FitsWords.selector, FitsWords.gatherer, FitsWords.splitter, FitsWords.no_width}
 use Rattle.mm_waits.specs.Waits.{agent_pipe_time, word_time, standing_quietly, steps_of}
 
@@ -38,3 +39,7 @@ gathers_some (no_width wired) = false
 -- of a host whose bursts are cut and whose words are made those of the agent: each beat that is still to be sent has as many steps as it has pieces
 abbrev pub watched_window : ℕ → System → ℕ → ℕ → ℕ
 watched_window round system agent host = waits_for_words (steps_of system agent host + max 1 (pieces (system.host host).shape (system.agent agent).shape)) round system agent
+
+-- beside others whose words are made those of the agent so
+abbrev pub fitted_rows_window : System → ℕ → ℕ → ℕ
+fitted_rows_window system agent host = watched_window (round_by (steps_of system agent) system agent host) system agent host

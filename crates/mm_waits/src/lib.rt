@@ -115,9 +115,8 @@ pub fn hosts_beside_fitted_ones_move()
         → MovesWithin (fitted_window system agent host) system run agent host end }
 {
     hosts_beside_links_move();
-    mm_awake::built::machines_keep_their_records();
+    crate::watched::fitted_hosts_take_few_steps();
     mm_awake::hosts::routes_take_few_steps();
-    mm_awake::hosts::links_take_few_steps();
     mm_awake::rows::machines_with_links_are_built()
 }
 
