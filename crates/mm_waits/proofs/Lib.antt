@@ -21,3 +21,4 @@ pub mod Fitted
 pub mod OneBeat
 pub mod SelectFits
 pub mod SplitFits
+pub mod Drops
