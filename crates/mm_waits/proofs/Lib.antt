@@ -22,3 +22,5 @@ pub mod OneBeat
 pub mod SelectFits
 pub mod SplitFits
 pub mod Drops
+pub mod Gathers
+pub mod Rows

@@ -16,7 +16,7 @@ burst_same bits shape signals accepts zero = refl
 burst_same bits shape signals accepts (suc c) = ap (burst_after shape (levels_at signals c) (accepts c)) (burst_same bits shape signals accepts c)
 
 module _ (bits : ℕ) (port : Port) where
-  bursts : burst_before (shape_with bits port.shape) port.commands.signals (takes port) ≡ burst_before port.shape port.commands.signals (takes port)
+  pub bursts : burst_before (shape_with bits port.shape) port.commands.signals (takes port) ≡ burst_before port.shape port.commands.signals (takes port)
   bursts = fun_ext (burst_same bits port.shape port.commands.signals (takes port))
 
   taken_same : (c : ℕ) → taken_at (with_bursts bits port) c ≡ taken_at port c

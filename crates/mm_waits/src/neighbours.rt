@@ -1,11 +1,22 @@
 //! No host hangs beside neighbours whose beats are dropped before the arbiter, and whose reads are gathered.
 
 ghost use Rattle.std.specs.Prelude.{◌≡◌, ℕ, suc, ◌+◌, ◌*◌, ◌<◌, ◌≤◌, not, Bool, ◌&&◌, false, IsTrue, IsFalse};
+ghost use Rattle.mm_runs.specs.Views.{System, Run, Responses};
+ghost use Rattle.mm_runs.specs.Whole.{IsLegalRun};
+ghost use Rattle.mm_runs.specs.Order.{is_joined};
 ghost use Rattle.mm_machines.specs.Link.{Target, Port, AreLegalAt, AnswersAreOwed};
 ghost use Rattle.mm_machines.specs.PartRanks.{JoinsAlike};
 ghost use Rattle.mm_parts.specs.Steps.{is_gone};
+ghost use Rattle.mm_runs.specs.Commands.{shows};
+ghost use Rattle.histories.specs.History.{is_raised};
+ghost use Rattle.mm_links.specs.Gathers.{GatherState, RunsAsGather};
 ghost use Rattle.mm_links.specs.Drops.{DropState, RunsAsDrop, IsDropPlan};
 ghost use Rattle.mm_awake.specs.Steps.{HasStepsLeft};
+ghost use Rattle.mm_awake.specs.Wires.{IsWire};
+ghost use Rattle.mm_awake.specs.Theorem.{States, ArePlanned, AreMachines};
+ghost use Rattle.mm_awake.specs.RowSystem.{RowPorts, AreRows, boundaries_of};
+ghost use Rattle.mm_awake.specs.Onward.{MovesWithin};
+ghost use Rattle.mm_waits.specs.Neighbours.{row_window};
 
 /// Where beats without a lane are dropped a command comes to at most two steps for each of its own and two more: one beat is kept, and a word that it owes by itself may hold back what stands above.
 /// While no word is owed below, none is owed above but such a one.
@@ -20,4 +31,32 @@ pub fn droppers_take_few_steps()
 {
     mm_links::drops::drop_brings_lanes();
     mm_links::drops::drop_owes_its_words()
+}
+
+/// Where reads are gathered each step above is followed by as many cycles as a wide word has words there: a read may be held back while they are given out.
+pub fn gatherers_take_few_steps()
+    ensures { (room many : ℕ) (up down : Port) (state : GatherState) (good : ℕ → Bool) (longest : ℕ) (rest : ℕ → ℕ) (end : ℕ) → RunsAsGather room up down state
+        → 1 < room → 1 ≤ many → AreLegalAt down end → AnswersAreOwed down end
+        → ((c : ℕ) → c < end → IsTrue (shows up.commands.signals c) → IsFalse (is_raised (up.commands.write c)) → up.commands.count c ≤ many)
+        → ((c : ℕ) → c < end → IsTrue (good c) → IsFalse (is_gone down c))
+        → HasStepsLeft up good longest rest end → (below : ℕ → ℕ) × HasStepsLeft down good (longest * (many + 1) + many) below end }
+{}
+
+/// So beside neighbours behind any rows of links, whatever words, bursts and byte enables these have, no host hangs whose bursts alone are cut, or which is wired: any agent, and any number of stages.
+pub fn hosts_beside_rows_move()
+    ensures { (responses : Responses) (system : System) (run : Run) (ports : RowPorts) (states : States) (end agent host : ℕ)
+        → ArePlanned system (boundaries_of ports) states → AreMachines responses system run (boundaries_of ports) states (end + 2) → AreRows system run ports (end + 2) → IsLegalRun system run (end + 2) → agent < system.agents
+        → IsWire (ports.below_cutter host agent) (ports.before_arbiter host agent) → IsTrue (is_joined system agent host) → host < system.hosts
+        → MovesWithin (row_window system agent host) system run agent host end }
+{
+    crate::hosts_beside_links_move();
+    mm_awake::built::machines_keep_their_records();
+    mm_awake::hosts::routes_take_few_steps();
+    mm_awake::hosts::links_take_few_steps();
+    mm_links::bursts::cut_is_a_link();
+    mm_links::widths::split_is_a_link();
+    mm_links::drops::drop_owes_its_words();
+    droppers_take_few_steps();
+    gatherers_take_few_steps();
+    mm_awake::rows::machines_with_links_are_built()
 }
