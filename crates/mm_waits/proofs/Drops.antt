@@ -6,19 +6,19 @@ use Rattle.histories.specs.History.{is_raised, one_if, numbers}
 use Rattle.mm_runs.specs.Views.{Shape, Levels, levels_at}
 use Rattle.mm_runs.specs.Laws.{same_pieces}
 use Rattle.mm_runs.specs.Operations.{filled_lanes, filled_of_piece, operation_at, is_enabled, pieces}
-use Rattle.mm_runs.specs.Commands.{shows, is_held, is_of_reads, read_beat, presents, longest_burst, words_before}
+use Rattle.mm_runs.specs.Commands.{shows, is_held, is_of_reads, read_beat, presents, longest_burst}
 use Rattle.mm_runs.specs.Legal.{is_under_way}
 use Rattle.mm_machines.specs.Link.{Target, Port, Marked, AreLegalAt, AnswersAreOwed, takes, taken_at, marked_at, closes, is_last_joined, is_nonempty, operations_in, words_at, words_owed}
 use Rattle.mm_machines.specs.Machines.{Raw, raw_at}
 use Rattle.mm_machines.specs.PartRanks.{JoinsAlike, are_joined_alike, goes_on_alike, is_same}
-use Rattle.mm_machines.specs.SideLaws.{taken_is_shown, same_counts}
+use Rattle.mm_machines.specs.SideLaws.{taken_is_shown}
 use Rattle.mm_links.specs.Selects.{takes_read}
 use Rattle.mm_links.specs.Drops.{DropState, RunsAsDrop, IsDropPlan, Standing, any_lane, sends, accepted, keeps, owes_itself, standing_at, sent_beat}
 use Rattle.mm_awake.specs.Steps.{HasStepsLeft}
 use Rattle.mm_parts.specs.Steps.{is_gone}
 use Rattle.mm_waits.proofs.Bits.{no_true, no_both, takes_shows, not_shown, none_taken, one_taken}
 use Rattle.mm_waits.proofs.Cuts.{read_asks, write_asks, took_asks, still_asks}
-use Rattle.mm_waits.proofs.Flush.{one_word, no_word}
+use Rattle.mm_waits.proofs.Rows.{few_words, joins_more, not_closed, last_joined_end, words_by}
 
 -- ---- one cycle, by what stands above
 
@@ -113,11 +113,6 @@ unfolding ends_in_lanes
 lanes_end target shape [] m = refl
 lanes_end target shape (x ∷ []) m = refl
 lanes_end target shape (x ∷ y ∷ xs) m = lanes_end target shape (y ∷ xs) m
-
-last_joined_end : (xs : List Marked) (m : Marked) → is_last_joined (xs ++ m ∷ []) ≡ m.more
-last_joined_end [] m = refl
-last_joined_end (x ∷ []) m = refl
-last_joined_end (x ∷ y ∷ xs) m = last_joined_end (y ∷ xs) m
 
 module _ (target : Target) (port : Port) where
   abbrev HasLanesToo : Marked → Type 0
@@ -389,11 +384,6 @@ module _ (target : Target) (room : ℕ) (up down : Port) (state : DropState) (en
 
       goes_on : (c : ℕ) → c < end → takes up c ≡ true → more c ≡ true → rest (suc c) + 1 ≤ rest c
       goes_on c fit took joins = above.fewer c fit took (not_closed (marked_at up c).transfer.ends (more c) joins)
-        where
-          not_closed : (e m : Bool) → m ≡ true → IsFalse (e && not m)
-          not_closed true true h = refl
-          not_closed false m h = refl
-          not_closed e false h = absurd cc
 
       sent_less : (c : ℕ) → c < end → takes down c ≡ true → is_raised (down.commands.more c) ≡ true → value (suc c) + 1 ≤ 2 * rest c + one_if (kept c)
       sent_less c fit took joins = by_sent (hands_at c took joins)
@@ -460,11 +450,6 @@ module _ (target : Target) (room : ℕ) (up down : Port) (state : DropState) (en
           fewer : (c : ℕ) → c < end → IsTrue (takes down c) → IsFalse (closes (marked_at down c)) → steps_below (suc c) + 1 ≤ steps_below c
           fewer c fit took goes = by_open (is_last_joined (taken_at down c)) refl
             where
-              joins_more : (e m : Bool) → IsTrue (e || m) → IsFalse (e && not m) → m ≡ true
-              joins_more e true h k = refl
-              joins_more true false h k = absurd cc
-              joins_more false false h k = absurd (no_true h)
-
               joins : is_raised (down.commands.more c) ≡ true
               joins = joins_more (marked_at down c).transfer.ends (is_raised (down.commands.more c)) (legal_down.joined c fit (takes_shows down c took)) goes
 
@@ -611,16 +596,6 @@ module _ (target : Target) (room : ℕ) (up down : Port) (state : DropState) (en
           let writes = writes_below c took ∙ ap (λ q. if is_nonempty q then true else is_raised (up.commands.write c)) e in
           absurd (no_both (is_raised (down.commands.write c)) writes kind)
 
-  words_by : (port : Port) (c : ℕ) → length (words_at port (suc c)) ≡ length (words_at port c) + one_if (is_raised (port.answers.valid c))
-  words_by port c = by_valid (is_raised (port.answers.valid c)) refl
-    where
-      by_valid : (v : Bool) → is_raised (port.answers.valid c) ≡ v → length (words_at port (suc c)) ≡ length (words_at port c) + one_if v
-      by_valid true e = one_word port c e
-      by_valid false e = let none = no_word port c e in omega (arith, none)
-
-  few_words : (c : ℕ) → c < end → length (words_at down (suc c)) ≤ words_owed down c
-  few_words c fit = let same : length (words_at down (suc c)) ≡ words_before down.answers.valid (suc c) = same_counts (λ k. is_raised (down.answers.valid k)) _ (λ k. k) (suc c) in let few = owed c fit in omega (arith, same, few)
-
   reads_are : (c : ℕ) → c ≤ end → state.reads c + length (words_at down c) ≡ words_owed down c
   reads_are zero fit = let none = runs.reads_begin in omega (arith, none)
   reads_are (suc c) fit =
@@ -628,7 +603,7 @@ module _ (target : Target) (room : ℕ) (up down : Port) (state : DropState) (en
       let next = runs.reads_next c in
       let asked = asks_below c fit in
       let words = words_by down c in
-      let few = few_words c fit in
+      let few = few_words down end owed c fit in
       omega (arith, before, next, asked, words, few)
 
   -- what is owed above is owed below, or by itself

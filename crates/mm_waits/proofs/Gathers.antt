@@ -11,12 +11,7 @@ use Rattle.mm_parts.specs.Steps.{is_gone}
 use Rattle.mm_awake.specs.Steps.{HasStepsLeft}
 use Rattle.mm_waits.proofs.Bits.{no_true, no_both, takes_shows, not_shown, none_taken, one_taken}
 use Rattle.mm_waits.proofs.Cuts.{read_asks, write_asks, took_asks, still_asks}
-use Rattle.mm_waits.proofs.Flush.{one_word, no_word}
-
-last_joined_end : (xs : List _) (m : _) → is_last_joined (xs ++ m ∷ []) ≡ m.more
-last_joined_end [] m = refl
-last_joined_end (x ∷ []) m = refl
-last_joined_end (x ∷ y ∷ xs) m = last_joined_end (y ∷ xs) m
+use Rattle.mm_waits.proofs.Rows.{joins_more, not_closed, last_joined_end, words_by}
 
 module _ (target : Target) (room many : ℕ) (up down : Port) (state : GatherState) (runs : RunsAsGather room up down state) (end : ℕ) where
   abbrev shut : ℕ → Bool
@@ -140,13 +135,6 @@ module _ (target : Target) (room many : ℕ) (up down : Port) (state : GatherSta
           let read : one_if (takes_read up c) ≡ 1 = ap₂ (λ t w. one_if (t && not w)) (same_takes c ∙ et) (sym (write_is c) ∙ ew) in
           omega (arith, took, one, count, read)
 
-  words_by : (c : ℕ) → length (words_at down (suc c)) ≡ length (words_at down c) + one_if (is_raised (down.answers.valid c))
-  words_by c = by_valid (is_raised (down.answers.valid c)) refl
-    where
-      by_valid : (v : Bool) → is_raised (down.answers.valid c) ≡ v → length (words_at down (suc c)) ≡ length (words_at down c) + one_if v
-      by_valid true e = one_word down c e
-      by_valid false e = let none = no_word down c e in omega (arith, none)
-
   -- a last word is a word
   last_some : (c : ℕ) → one_if (is_last down state c) ≤ length (held down state c)
   last_some c = by_held (held down state c) (not (nat_lt (suc (state.given c)) (first_entry (state.entries c)).count))
@@ -166,7 +154,7 @@ module _ (target : Target) (room many : ℕ) (up down : Port) (state : GatherSta
         let words = words_size c in
         let all = held_size c in
         let asked = asks c in
-        let came = words_by c in
+        let came = words_by down c in
         let few = owed c fit in
         let last = last_some c in
         let come = by_valid (is_raised (down.answers.valid c)) refl before came few in
@@ -361,18 +349,8 @@ module _ (target : Target) (room many : ℕ) (up down : Port) (state : GatherSta
           fewer : (c : ℕ) → c < end → IsTrue (takes down c) → IsFalse (closes (marked_at down c)) → gathered_left (suc c) + 1 ≤ gathered_left c
           fewer c fit took goes = less_by (rest (suc c)) (rest c) many (rest_of (suc c)) (rest_of c) (above.fewer c fit (same_takes c ∙ took) (not_closed (marked_at up c).transfer.ends (is_raised (up.commands.more c)) (ap is_raised (sym (runs.more c)) ∙ joins))) (rest_few (suc c) fit)
             where
-              joins_more : (e m : Bool) → IsTrue (e || m) → IsFalse (e && not m) → m ≡ true
-              joins_more e true h k = refl
-              joins_more true false h k = absurd cc
-              joins_more false false h k = absurd (no_true h)
-
               joins : is_raised (down.commands.more c) ≡ true
               joins = joins_more (marked_at down c).transfer.ends (is_raised (down.commands.more c)) (legal_down.joined c fit (takes_shows down c took)) goes
-
-              not_closed : (e m : Bool) → m ≡ true → IsFalse (e && not m)
-              not_closed true true h = refl
-              not_closed false m h = refl
-              not_closed e false h = absurd cc
 
           gaps : (c : ℕ) → c < end → IsTrue (is_last_joined (taken_at down c)) → IsFalse (shows down.commands.signals c) → IsTrue (good c) → gathered_left (suc c) + 1 ≤ gathered_left c
           gaps c fit opened quiet well = by_shown (shows up.commands.signals c) refl

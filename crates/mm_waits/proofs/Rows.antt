@@ -1,8 +1,8 @@
 -- What the links of a row do to steps, words and joins, for links of any kind.
-use Rattle.std.proofs.Common.{◌≡◌, ℕ, suc, ◌-◌, ◌/◌, ◌%◌, ◌<◌, ◌≤◌, min, Bool, true, false, length, nat_eq, nat_lt, if◌then◌else◌, arith, refl, sym, ap, ap₂, ◌∙◌, IsTrue, IsFalse}
-use Rattle.histories.specs.History.{is_raised}
+use Rattle.std.proofs.Common.{not, ◌≡◌, ℕ, suc, ◌-◌, ◌/◌, ◌%◌, ◌<◌, ◌≤◌, min, Bool, true, false, length, nat_eq, nat_lt, if◌then◌else◌, arith, refl, sym, ap, ap₂, ◌∙◌, IsTrue, IsFalse, ◌||◌, List, [], ◌∷◌, ◌++◌, ◌&&◌, ◌+◌}
+use Rattle.histories.specs.History.{is_raised, one_if}
 use Rattle.mm_runs.specs.Commands.{shows, words_before}
-use Rattle.mm_machines.specs.Link.{Target, Port, AnswersAreOwed, words_at, words_owed}
+use Rattle.mm_machines.specs.Link.{Target, Port, Marked, AnswersAreOwed, is_last_joined, words_at, words_owed}
 use Rattle.mm_machines.specs.Machines.{Raw, raw_at}
 use Rattle.mm_machines.specs.PartRanks.{JoinsAlike}
 use Rattle.mm_machines.specs.SideLaws.{same_counts}
@@ -11,7 +11,8 @@ use Rattle.mm_links.specs.Cutters.{Reach, is_sending, read_burst_of, write_of_bu
 use Rattle.mm_awake.specs.Rows.{CutsBursts, CutsBursts.cutter, CutsBursts.no_cutter, CutsAtWords}
 use Rattle.mm_awake.specs.Steps.{HasStepsLeft}
 use Rattle.mm_awake.specs.Wires.{IsWire}
-use Rattle.mm_waits.proofs.Bits.{no_both}
+use Rattle.mm_waits.proofs.Bits.{no_true, no_both}
+use Rattle.mm_waits.proofs.Flush.{one_word, no_word}
 use Rattle.mm_waits.proofs.Wire.{wire_stays, wire_asked, bursts}
 
 -- ---- steps
@@ -52,6 +53,31 @@ module _ (up down : Port) (wire : IsWire up down) where
 
   pub wire_alike : (target : Target) (end : ℕ) → JoinsAlike target up end → JoinsAlike target down end
   wire_alike target end alike = wire_stays up down wire (λ p. JoinsAlike target p end) (λ c fit. rw (bursts down.shape.burst_bits up) (alike c fit))
+
+-- ---- any port
+
+pub last_joined_end : (xs : List Marked) (m : Marked) → is_last_joined (xs ++ m ∷ []) ≡ m.more
+last_joined_end [] m = refl
+last_joined_end (x ∷ []) m = refl
+last_joined_end (x ∷ y ∷ xs) m = last_joined_end (y ∷ xs) m
+
+-- a beat that doesn't close its command ends a burst that joins the next one
+pub joins_more : (ends more : Bool) → IsTrue (ends || more) → IsFalse (ends && not more) → more ≡ true
+joins_more ends true h k = refl
+joins_more true false h k = absurd cc
+joins_more false false h k = absurd (no_true h)
+
+pub not_closed : (ends more : Bool) → more ≡ true → IsFalse (ends && not more)
+not_closed true true h = refl
+not_closed false more h = refl
+not_closed ends false h = absurd cc
+
+pub words_by : (port : Port) (c : ℕ) → length (words_at port (suc c)) ≡ length (words_at port c) + one_if (is_raised (port.answers.valid c))
+words_by port c = by_valid (is_raised (port.answers.valid c)) refl
+  where
+    by_valid : (v : Bool) → is_raised (port.answers.valid c) ≡ v → length (words_at port (suc c)) ≡ length (words_at port c) + one_if v
+    by_valid true e = one_word port c e
+    by_valid false e = let none = no_word port c e in omega (arith, none)
 
 -- a word comes only where it is owed
 pub few_words : (port : Port) (end : ℕ) → AnswersAreOwed port end → (c : ℕ) → c < end → length (words_at port (suc c)) ≤ words_owed port c

@@ -16,7 +16,8 @@ ghost use Rattle.mm_awake.specs.Wires.{IsWire};
 ghost use Rattle.mm_awake.specs.Theorem.{States, ArePlanned, AreMachines};
 ghost use Rattle.mm_awake.specs.RowSystem.{RowPorts, AreRows, boundaries_of};
 ghost use Rattle.mm_awake.specs.Onward.{MovesWithin};
-ghost use Rattle.mm_waits.specs.Neighbours.{row_window};
+ghost use Rattle.mm_waits.specs.Waits.{is_quiet};
+ghost use Rattle.mm_waits.specs.Neighbours.{row_steps, row_window};
 
 /// Where beats without a lane are dropped a command comes to at most two steps for each of its own and two more: one beat is kept, and a word that it owes by itself may hold back what stands above.
 /// While no word is owed below, none is owed above but such a one.
@@ -42,14 +43,12 @@ pub fn gatherers_take_few_steps()
         → HasStepsLeft up good longest rest end → (below : ℕ → ℕ) × HasStepsLeft down good (longest * (many + 1) + many) below end }
 {}
 
-/// So beside neighbours behind any rows of links, whatever words, bursts and byte enables these have, no host hangs whose bursts alone are cut, or which is wired: any agent, and any number of stages.
-pub fn hosts_beside_rows_move()
-    ensures { (responses : Responses) (system : System) (run : Run) (ports : RowPorts) (states : States) (end agent host : ℕ)
-        → ArePlanned system (boundaries_of ports) states → AreMachines responses system run (boundaries_of ports) states (end + 2) → AreRows system run ports (end + 2) → IsLegalRun system run (end + 2) → agent < system.agents
-        → IsWire (ports.below_cutter host agent) (ports.before_arbiter host agent) → IsTrue (is_joined system agent host) → host < system.hosts
-        → MovesWithin (row_window system agent host) system run agent host end }
+/// So behind any row of links, whatever words, bursts and byte enables its host and the agent have, a command comes to few steps before the arbiter.
+pub fn rows_take_few_steps()
+    ensures { (responses : Responses) (system : System) (run : Run) (ports : RowPorts) (states : States) (end agent : ℕ)
+        → ArePlanned system (boundaries_of ports) states → AreMachines responses system run (boundaries_of ports) states (end + 1) → AreRows system run ports (end + 1) → IsLegalRun system run (end + 1) → agent < system.agents
+        → (rest : ℕ → ℕ → ℕ) × ((other : ℕ) → HasStepsLeft (ports.before_arbiter other agent) (is_quiet system run agent (ports.lower agent system.stages).port) (row_steps system agent other) (rest other) end) }
 {
-    crate::hosts_beside_links_move();
     mm_awake::built::machines_keep_their_records();
     mm_awake::hosts::routes_take_few_steps();
     mm_awake::hosts::links_take_few_steps();
@@ -58,5 +57,18 @@ pub fn hosts_beside_rows_move()
     mm_links::drops::drop_owes_its_words();
     droppers_take_few_steps();
     gatherers_take_few_steps();
+    mm_awake::rows::machines_with_links_are_built()
+}
+
+/// Beside such neighbours no host hangs whose bursts alone are cut, or which is wired: at any agent, and behind any number of stages.
+pub fn hosts_beside_rows_move()
+    ensures { (responses : Responses) (system : System) (run : Run) (ports : RowPorts) (states : States) (end agent host : ℕ)
+        → ArePlanned system (boundaries_of ports) states → AreMachines responses system run (boundaries_of ports) states (end + 2) → AreRows system run ports (end + 2) → IsLegalRun system run (end + 2) → agent < system.agents
+        → IsWire (ports.below_cutter host agent) (ports.before_arbiter host agent) → IsTrue (is_joined system agent host) → host < system.hosts
+        → MovesWithin (row_window system agent host) system run agent host end }
+{
+    crate::hosts_beside_links_move();
+    mm_awake::hosts::routes_take_few_steps();
+    rows_take_few_steps();
     mm_awake::rows::machines_with_links_are_built()
 }
