@@ -12,6 +12,7 @@ ghost use Rattle.mm_awake.specs.Steps.{HasStepsLeft};
 ghost use Rattle.mm_awake.specs.Theorem.{States, ArePlanned, AreMachines};
 ghost use Rattle.mm_awake.specs.Wires.{IsWire};
 ghost use Rattle.mm_waits.specs.Waits.{is_quiet, steps_of, SelectsOrSplits};
+ghost use Rattle.mm_waits.specs.Neighbours.{row_steps};
 ghost use Rattle.mm_waits.specs.Watched.{gathers_some, watched_window, fitted_rows_window};
 
 /// In a system of machines whose links are machines too, a host whose bursts are cut, or not, and whose words are selected or split, or not, moves on, where before the arbiter no beats of it are dropped and the commands of its neighbours come to few steps.
@@ -54,4 +55,16 @@ pub fn no_fitted_host_hangs()
 {
     fitted_hosts_move();
     fitted_hosts_take_few_steps()
+}
+
+/// And beside neighbours behind any row of links, where no reads of the host itself are gathered and no beats of it are dropped.
+pub fn fitted_hosts_beside_rows_move()
+    ensures { (responses : Responses) (system : System) (run : Run) (ports : RowPorts) (states : States) (end agent host : ℕ)
+        → ArePlanned system (boundaries_of ports) states → AreMachines responses system run (boundaries_of ports) states (end + 2) → AreRows system run ports (end + 2) → IsLegalRun system run (end + 2) → agent < system.agents
+        → (fits : FitsWords (target_of system agent) (ports.below_cutter host agent) (ports.above_dropper host agent)) → IsFalse (gathers_some fits)
+        → IsWire (ports.above_dropper host agent) (ports.before_arbiter host agent) → IsTrue (is_joined system agent host) → host < system.hosts
+        → MovesWithin (watched_window (round_by (row_steps system agent) system agent host) system agent host) system run agent host end }
+{
+    fitted_hosts_move();
+    crate::neighbours::rows_take_few_steps()
 }
