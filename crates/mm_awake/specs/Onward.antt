@@ -1,4 +1,4 @@
--- No host hangs: where nothing but the module can hold a command up, the command itself moves on.
+-- How long a beat may stand at its host, and within how many cycles a command moves on beside its neighbours.
 use Rattle.std.specs.Prelude.{ℕ, suc, ◌+◌, ◌-◌, ◌*◌, ◌<◌, ◌≤◌, Bool, not, ◌&&◌, ◌||◌, nat_eq, IsTrue, IsFalse, Some}
 use Rattle.std.specs.List.{list_all}
 use Rattle.histories.specs.History.{is_raised, numbers}
@@ -13,20 +13,6 @@ use Rattle.mm_machines.specs.Turns.{seats_of}
 use Rattle.mm_awake.specs.Ways.{count_in}
 use Rattle.mm_awake.specs.Steps.{beats_of_others}
 
--- the agent takes a beat with the host's tag while operations of the command lack there
-abbrev pub is_taken_now : System → Run → ℕ → ℕ → ℕ → ℕ → Bool
-is_taken_now system run agent host number cycle =
-    agent_accepts (system.agent agent) (run.at_agent agent) cycle && nat_eq ((run.at_agent agent).grant cycle) host && not (are_taken system run host number cycle agent)
-
--- the host is given a word from the agent while words of the command lack
-abbrev pub is_given_now : System → Run → ℕ → ℕ → ℕ → ℕ → Bool
-is_given_now system run agent host number cycle = is_given_from system run (Some agent) cycle host && not (are_given system run host number cycle)
-
--- the oldest command of a host, which is for the agent, moves on
-abbrev pub moves_on : System → Run → ℕ → ℕ → ℕ → ℕ → Bool
-moves_on system run agent host number cycle =
-    is_accepted_now system run host number cycle || is_taken_now system run agent host number cycle || is_given_now system run agent host number cycle
-
 -- each host with a write burst for the agent under way shows a beat
 abbrev pub bursts_go_on : System → Run → ℕ → ℕ → Bool
 bursts_go_on system run agent cycle = list_all (shows_its_burst system run (Some agent) cycle) (numbers 0 system.hosts)
@@ -34,16 +20,6 @@ bursts_go_on system run agent cycle = list_all (shows_its_burst system run (Some
 -- the agent neither stalls nor owes an answer, and no burst for it lacks a beat
 abbrev pub is_good : System → Run → ℕ → ℕ → Bool
 is_good system run agent cycle = bursts_go_on system run agent cycle && not (is_raised ((run.at_agent agent).waitrequest cycle)) && not (owes system run agent cycle)
-
--- throughout a window of so many cycles the command is the oldest unfinished one of its host, and it is for the agent, which neither stalls nor owes an answer, and each host with a write burst for the agent under way shows a beat: then the command moves on in it
-abbrev pub MovesWithin : ℕ → System → Run → ℕ → ℕ → ℕ → Type 0
-MovesWithin size system run agent host end =
-    (from number : ℕ) → from + size ≤ end → Throughout from size (IsWanted system run agent host number) →
-    Sometime from size (λ c. IsTrue (moves_on system run agent host number c))
-
--- the longest burst of a host, in beats
-abbrev pub longest_of : System → ℕ → ℕ
-longest_of system host = longest_burst (system.host host).burst_bits
 
 -- one round of the others at an agent: each host's share of its longest bursts
 abbrev pub round_of_others : System → ℕ → ℕ → ℕ
@@ -59,10 +35,6 @@ moves_by round system agent = (round + 1) * (longest_wait (system.agent agent) +
 
 abbrev pub wired_window : System → ℕ → ℕ → ℕ
 wired_window system agent host = moves_by (round_of_others system agent host) system agent
-
--- each host that is joined to an agent
-pub record NoHostHangs (window : ℕ → ℕ → ℕ) (system : System) (run : Run) (end : ℕ) : Type 0 where
-  pub moves : (a h : ℕ) → a < system.agents → h < system.hosts → IsTrue (is_joined system a h) → MovesWithin (window a h) system run a h end
 
 -- where an agent owes nothing by the end of a cycle, no word is owed above the part next to it. So it is but at read latency 0, where a word goes up one cycle later
 abbrev pub SendsWordsUp : System → Run → ℕ → Port → ℕ → Type 0

@@ -6,7 +6,7 @@ use Rattle.mm_runs.specs.Views.{System, Run}
 use Rattle.mm_runs.specs.Order.{Owner}
 use Rattle.mm_runs.specs.Awake.{IsWanted, serves, ServesWithin, Throughout, Sometime, IsPassedByFew, begun, begun_by_others, is_oldest, are_finished_before, commands_begun, ServesDefaultWithin, is_wanted_at_default, is_given_from, is_written_to, moves_on_at_default, MovesAtDefaultWithin}
 use Rattle.mm_examples.proofs.EmptyRead.{no_true}
-use Rattle.mm_awake.specs.Onward.{moves_on, MovesWithin}
+use Rattle.mm_runs.specs.Onward.{moves_on, MovesWithin}
 use Rattle.mm_examples.specs.HostRuns.{shared, turns_run, hanging_run, forgetful_run, crowded_run, nowhere, silent_run}
 
 six : (P : ℕ → Type 0) → P 0 → P 1 → P 2 → P 3 → P 4 → P 5 → (c : ℕ) → c < 6 → P c

@@ -2,7 +2,8 @@
 
 ghost use Rattle.std.specs.Prelude.{◌≡◌};
 ghost use Rattle.mm_runs.specs.Awake.{ServesWithin, ServesDefaultWithin, MovesAtDefaultWithin, IsPassedByFew};
-ghost use Rattle.mm_awake.specs.Onward.{MovesWithin, wired_window};
+ghost use Rattle.mm_runs.specs.Onward.{MovesWithin};
+ghost use Rattle.mm_awake.specs.Onward.{wired_window};
 ghost use Rattle.mm_examples.specs.HostRuns.{shared, turns_run, hanging_run, forgetful_run, crowded_run, nowhere, silent_run};
 
 /// Two hosts that write in each cycle and take turns: each command moves on within two cycles, and one is too few.

@@ -1,7 +1,9 @@
 -- The runs that recursion on the cycle gives are runs of the machines.
-use Rattle.std.proofs.Common.{ℕ, zero, suc, ◌<◌, ◌≡◌, ◌+◌, ◌-◌, ◌*◌, Bool, true, false, not, ◌&&◌, ◌||◌, List, [], ◌∷◌, ◌++◌, if◌then◌else◌, arith, refl, sym, ap, ap₂, ◌∙◌, length, drop, nat_lt, Some, slice_get, lt-ltb, tests}
+use Rattle.std.proofs.Common.{ℕ, zero, suc, ◌<◌, ◌≡◌, ◌+◌, ◌-◌, ◌*◌, ◌%◌, ◌^◌, Bool, true, false, not, ◌&&◌, ◌||◌, List, [], ◌∷◌, ◌++◌, if◌then◌else◌, arith, refl, sym, ap, ap₂, subst, ◌∙◌, length, drop, nat_lt, Some, slice_get, lt-ltb, tests}
 use Rattle.std.proofs.lemmas.Bool.{and_parts, not-true, ltb-true}
+use Rattle.std.proofs.Math.Nat.{mod-lt, one-le-pow}
 use Rattle.histories.specs.History.{is_raised, one_if, only_if}
+use Rattle.mm_runs.specs.Legal.{Word}
 use Rattle.mm_runs.specs.Operations.{Beat}
 use Rattle.mm_runs.specs.Views.{levels_at}
 use Rattle.mm_runs.specs.Commands.{Burst, shows, is_of_reads, burst_before, burst_after}
@@ -9,12 +11,13 @@ use Rattle.mm_machines.specs.Link.{takes, is_nonempty}
 use Rattle.mm_machines.specs.Machines.{Raw, ShowsHead, IsStageRun, single, joined}
 use Rattle.mm_links.specs.Pipes.{RunsAsPipe, side_of}
 use Rattle.mm_links.specs.Selects.{RunsAsSelect}
-use Rattle.mm_links.specs.Splits.{RunsAsSplit}
+use Rattle.mm_links.specs.Splits.{RunsAsSplit, AddsTo, nothing}
 use Rattle.mm_links.specs.Cutters.{RunsAsCutter, read_burst_of, first_burst, write_of_burst, whole_read}
 use Rattle.mm_links.specs.Gathers.{RunsAsGather}
 use Rattle.mm_links.specs.DrivenGather.{GatherInputs, gather_above, gather_below, gather_state, gather_registers, gather_shuts, gather_held}
 use Rattle.mm_links.specs.Driven.{CutInputs, CutRegisters, place_in, cut_raw, cut_sends, cut_beat, cut_shows, cut_part, cut_takes, cut_registers, cut_state, cut_above, cut_below}
-use Rattle.mm_links.specs.Driven.{SelectInputs, PipeInputs, select_above, select_below, select_queue, shuts, pipe_run, pipe_queues, raw_there, waits_there, takes_there, shows_raw, head_of, late_by, SplitInputs, split_registers, split_above, split_below, split_state, split_list, split_shows, split_part, split_opens, split_completes, part_at, silent_raw}
+use Rattle.mm_links.specs.Driven.{SelectInputs, PipeInputs, select_above, select_below, select_queue, shuts, pipe_run, pipe_queues, raw_there, waits_there, takes_there, shows_raw, head_of, late_by, SplitInputs, split_registers, split_above, split_below, split_state, split_list, split_shows, split_part, split_opens, split_completes, split_added, part_at, silent_raw}
+use Rattle.mm_links.proofs.Gather.{piece_is_put}
 use Rattle.mm_links.specs.Drops.{RunsAsDrop, sends, sent_beat}
 use Rattle.mm_links.specs.Driven.{DropInputs, DropRegisters, drop_raw, drop_stands, drop_part, drop_registers, drop_state, drop_above, drop_below}
 
@@ -157,6 +160,17 @@ module _ (given : SplitInputs) where
       part_there (split_list given c) (split_registers given c).place low
       ∙ ap (λ b. Some (if b then part_at (split_list given c) (split_registers given c).place else silent_raw)) (sym there)
 
+  abbrev gathered_by : ℕ → Bool → Bool → Word
+  gathered_by c v k = if v then (if k then nothing else split_added given (split_registers given c) c) else (split_registers given c).gathered
+
+  adds : (c : ℕ) → AddsTo (split_below given) (split_state given) c (split_added given (split_registers given c) c)
+  adds c =
+      let bytes = given.narrow.word_bytes in
+      record {
+        word = piece_is_put bytes (drop (split_registers given c).come (split_registers given c).set) (split_registers given c).gathered.word (given.inputs.answers.word c % 256 ^ bytes) (mod-lt (given.inputs.answers.word c) (one-le-pow bytes 256 (omega arith)));
+        code = refl;
+      }
+
   pub split_runs : RunsAsSplit given.room (split_above given) (split_below given) (split_state given)
   split_runs = record {
     shown = λ c. shown_there c;
@@ -170,10 +184,11 @@ module _ (given : SplitInputs) where
     come_begins = refl;
     come_next = λ c. refl;
     gathered_begins = refl;
-    gathered_next = λ c. refl;
+    gathered_stays = λ c e. ap (λ v. gathered_by c v (split_completes (split_registers given c))) e;
+    gathered_more = λ c e f. subst (AddsTo (split_below given) (split_state given) c) (sym (ap₂ (gathered_by c) e f)) (adds c);
+    gathered_anew = λ c e f. ap₂ (λ v k. (gathered_by c v k).code) e f;
     valid = λ c. raised_one (is_raised (given.inputs.answers.valid c) && split_completes (split_registers given c));
-    word = λ c. refl;
-    code = λ c. refl;
+    given = λ c e. adds c;
   }
 
 -- ---- a cutter of bursts

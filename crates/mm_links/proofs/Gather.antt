@@ -1,10 +1,10 @@
 -- Words that are gathered from the pieces of a wide word, each at its place: their bytes and their codes.
-use Rattle.std.proofs.Common.{ℕ, zero, suc, ◌<◌, ◌≤◌, ◌≡◌, ◌+◌, ◌-◌, ◌*◌, ◌/◌, ◌%◌, ◌^◌, max, Bool, true, false, not, ◌||◌, List, [], ◌∷◌, ◌++◌, if◌then◌else◌, arith, tests, refl, sym, ap, ap₂, subst, ◌∙◌, length, map, filter, flat_map, zip, drop, min, nat_eq, append-nil, mul_assoc, add-mul, mul-le-mul_right, one-mul, div-one, le_refl, zero-mul, mul-div_cancel}
+use Rattle.std.proofs.Common.{ℕ, zero, suc, ◌<◌, ◌≤◌, ◌≡◌, ◌+◌, ◌-◌, ◌*◌, ◌/◌, ◌%◌, ◌^◌, Bool, true, false, not, ◌||◌, List, [], ◌∷◌, ◌++◌, if◌then◌else◌, arith, tests, refl, sym, ap, ap₂, subst, ◌∙◌, length, map, filter, flat_map, zip, drop, min, nat_eq, append-nil, mul_assoc, add-mul, mul-le-mul_right, one-mul, div-one, le_refl, zero-mul, mul-div_cancel}
 use Rattle.std.specs.List.{list_any}
 use Rattle.std.proofs.lemmas.List.{map-append}
 use Rattle.std.proofs.lemmas.Nat.{pow-add, div-mul-add}
 use Rattle.std.proofs.Math.Arith.{mod-mul}
-use Rattle.std.proofs.Math.Nat.{mod-lt, mod-mod, mod-one, mod-eq_of_lt, pow-suc, one-le-pow, div-div-eq-div-mul, add-mul-div_right, add-mul-mod_self_right}
+use Rattle.std.proofs.Math.Nat.{mod-lt, mod-mod, mod-one, mod-eq_of_lt, pow-suc, one-le-pow, div-div-eq-div-mul, add-mul-div_right, add-mul-mod_self_right, mod-add-div'}
 use Rattle.histories.specs.History.{numbers}
 use Rattle.mm_runs.specs.Views.{Shape}
 use Rattle.mm_runs.specs.Views.Kind.{Reads}
@@ -15,39 +15,10 @@ use Rattle.mm_runs.specs.Operations.Operation.{Read}
 use Rattle.mm_runs.specs.Order.{Answer}
 use Rattle.mm_machines.specs.Link.{is_nonempty}
 use Rattle.mm_machines.specs.Machines.{operations_of_pieces, piece_of}
-use Rattle.mm_links.specs.Selects.{first_of}
-use Rattle.mm_links.specs.Splits.{or_first_piece, put_piece}
+use Rattle.mm_links.specs.Splits.{or_first_piece, put_piece, piece_at, IsPut}
 use Rattle.mm_links.proofs.Lanes.{offset_of, offsets_read, none_added, byte_of_cut, AllBelow, numbers_below, same_where, map_twice}
 
--- ---- words in pieces
-
--- with one word more, at the place of its piece
-abbrev pub added_at : ℕ → ℕ → Word → Word → Word
-added_at bytes piece given so_far = record {
-  word = so_far.word + (given.word % 256 ^ bytes) * 256 ^ (piece * bytes);
-  code = max so_far.code given.code;
-}
-
--- what words at these places come to
-abbrev pub gather : ℕ → Word → List ℕ → List Word → Word
-gather bytes so_far [] ws = so_far
-gather bytes so_far (p ∷ ps) [] = so_far
-gather bytes so_far (p ∷ ps) (w ∷ ws) = gather bytes (added_at bytes p w so_far) ps ws
-
-pub gather_none : (bytes : ℕ) (so_far : Word) (ps : List ℕ) → gather bytes so_far ps [] ≡ so_far
-gather_none bytes so_far [] = refl
-gather_none bytes so_far (p ∷ ps) = refl
-
-pub gather_push : (bytes : ℕ) (so_far : Word) (ps : List ℕ) (ws : List Word) (w : Word) → length ws < length ps →
-    gather bytes so_far ps (ws ++ w ∷ []) ≡ added_at bytes (first_of (drop (length ws) ps)) w (gather bytes so_far ps ws)
-gather_push bytes so_far [] ws w h = absurd (omega arith)
-gather_push bytes so_far (p ∷ ps) [] w h = gather_none bytes (added_at bytes p w so_far) ps
-gather_push bytes so_far (p ∷ ps) (v ∷ ws) w h = gather_push bytes (added_at bytes p v so_far) ps ws w (omega arith)
-
 -- ---- digits of so many bytes
-
-abbrev digit_at : ℕ → ℕ → ℕ → ℕ
-digit_at bytes word place = (word / 256 ^ (place * bytes)) % 256 ^ bytes
 
 -- each number is above the ones before it
 abbrev pub AreRising : ℕ → List ℕ → Type 0
@@ -76,7 +47,7 @@ power_of bytes p q h =
     ap (λ n. 256 ^ n) same ∙ pow-add 256 ((p - q - 1) * bytes + bytes) (q * bytes) ∙ ap (λ n. n * 256 ^ (q * bytes)) (pow-add 256 ((p - q - 1) * bytes) bytes)
 
 -- a higher digit leaves the lower ones as they are
-higher_digit : (bytes x d p q : ℕ) → q < p → digit_at bytes (x + d * 256 ^ (p * bytes)) q ≡ digit_at bytes x q
+higher_digit : (bytes x d p q : ℕ) → q < p → piece_at bytes (x + d * 256 ^ (p * bytes)) q ≡ piece_at bytes x q
 higher_digit bytes x d p q h =
     let high = 256 ^ ((p - q - 1) * bytes) in
     let unit = 256 ^ bytes in
@@ -87,72 +58,48 @@ higher_digit bytes x d p q h =
     ∙ ap (λ n. n % unit) (add-mul-div_right x ((d * high) * unit) (one-le-pow (q * bytes) 256 (omega arith)))
     ∙ add-mul-mod_self_right (x / low) (d * high) unit
 
-own_digit : (bytes x d p : ℕ) → x < 256 ^ (p * bytes) → d < 256 ^ bytes → digit_at bytes (x + d * 256 ^ (p * bytes)) p ≡ d
+own_digit : (bytes x d p : ℕ) → x < 256 ^ (p * bytes) → d < 256 ^ bytes → piece_at bytes (x + d * 256 ^ (p * bytes)) p ≡ d
 own_digit bytes x d p small digit =
     let place = 256 ^ (p * bytes) in
     let turned : x + d * place ≡ d * place + x = omega arith in
     ap (λ n. (n / place) % 256 ^ bytes) turned ∙ ap (λ n. n % 256 ^ bytes) (div-mul-add d place x small) ∙ mod-eq_of_lt digit
 
--- a word below the place of a digit stays below it, and with that digit it is below the next place
-below_later : (bytes x from p : ℕ) → from ≤ p → x < 256 ^ (from * bytes) → x < 256 ^ (p * bytes)
-below_later bytes x from p h small =
-    let whole : (p - from) + from ≡ p = omega (arith, h) in
-    let same : 256 ^ (p * bytes) ≡ 256 ^ ((p - from) * bytes) * 256 ^ (from * bytes) =
-    ap (λ n. 256 ^ (n * bytes)) (sym whole) ∙ ap (λ n. 256 ^ n) (add-mul (p - from) from bytes) ∙ pow-add 256 ((p - from) * bytes) (from * bytes) in
-    let more : 1 * 256 ^ (from * bytes) ≤ 256 ^ ((p - from) * bytes) * 256 ^ (from * bytes) = mul-le-mul_right (256 ^ (from * bytes)) (one-le-pow ((p - from) * bytes) 256 (omega arith)) in
-    let one = one-mul (256 ^ (from * bytes)) in
-    omega (arith, same, more, one, small)
-
-below_next : (bytes x d p : ℕ) → x < 256 ^ (p * bytes) → d < 256 ^ bytes → x + d * 256 ^ (p * bytes) < 256 ^ (suc p * bytes)
-below_next bytes x d p small digit =
-    let place = 256 ^ (p * bytes) in
-    let next : suc p ≡ 1 + p = omega arith in
-    let size : suc p * bytes ≡ bytes + p * bytes = ap (λ n. n * bytes) next ∙ add-mul 1 p bytes ∙ ap (λ n. n + p * bytes) (one-mul bytes) in
-    let same : 256 ^ (suc p * bytes) ≡ 256 ^ bytes * place = ap (λ n. 256 ^ n) size ∙ pow-add 256 bytes (p * bytes) in
-    let more : (d + 1) * place ≤ 256 ^ bytes * place = mul-le-mul_right place (omega (arith, digit)) in
-    let last = add-mul d 1 place in
-    let one = one-mul place in
-    omega (arith, same, more, last, one, small)
-
 abbrev pub AllDigits : ℕ → ℕ → List ℕ → List Word → Type 0
 AllDigits bytes whole [] ws = Unit {0}
 AllDigits bytes whole (p ∷ ps) [] = Unit {0}
-AllDigits bytes whole (p ∷ ps) (w ∷ ws) = (digit_at bytes whole p ≡ w.word % 256 ^ bytes) × AllDigits bytes whole ps ws
+AllDigits bytes whole (p ∷ ps) (w ∷ ws) = (piece_at bytes whole p ≡ w.word % 256 ^ bytes) × AllDigits bytes whole ps ws
 
-kept_digit : (bytes q : ℕ) (so_far : Word) (ps : List ℕ) (ws : List Word) → AreRising (suc q) ps → digit_at bytes (gather bytes so_far ps ws).word q ≡ digit_at bytes so_far.word q
-kept_digit bytes q so_far [] ws rising = refl
-kept_digit bytes q so_far (p ∷ ps) [] rising = refl
-kept_digit bytes q so_far (p ∷ ps) (w ∷ ws) rising =
+pub none_digits : (bytes whole : ℕ) (ps : List ℕ) → AllDigits bytes whole ps []
+none_digits bytes whole [] = tt
+none_digits bytes whole (p ∷ ps) = tt
+
+-- a piece that is put at one of these places leaves a lower one as it is
+put_leaves : (bytes q before piece after : ℕ) (ps : List ℕ) (n : ℕ) → AreRising (suc q) ps → n < length ps → IsPut bytes (drop n ps) before piece after → piece_at bytes after q ≡ piece_at bytes before q
+put_leaves bytes q before piece after [] n rising h put = absurd (omega (arith, h))
+put_leaves bytes q before piece after (p ∷ ps) zero rising h put = let low = rising.0 in put.1 q (omega (arith, low))
+put_leaves bytes q before piece after (p ∷ ps) (suc n) rising h put =
     let above = rising.0 in
-    kept_digit bytes q (added_at bytes p w so_far) ps ws (rising_from (suc q) (suc p) ps (omega (arith, above)) rising.1)
-    ∙ higher_digit bytes so_far.word (w.word % 256 ^ bytes) p q (omega (arith, above))
+    put_leaves bytes q before piece after ps n (rising_from (suc q) (suc p) ps (omega (arith, above)) rising.1) (omega (arith, h)) put
 
-pub all_digits : (bytes from : ℕ) (so_far : Word) (ps : List ℕ) (ws : List Word) → AreRising from ps → so_far.word < 256 ^ (from * bytes) → AllDigits bytes (gather bytes so_far ps ws).word ps ws
-all_digits bytes from so_far [] ws rising small = tt
-all_digits bytes from so_far (p ∷ ps) [] rising small = tt
-all_digits bytes from so_far (p ∷ ps) (w ∷ ws) rising small =
-    let lower = below_later bytes so_far.word from p rising.0 small in
-    let digit : w.word % 256 ^ bytes < 256 ^ bytes = mod-lt w.word (one-le-pow bytes 256 (omega arith)) in (
-      kept_digit bytes p (added_at bytes p w so_far) ps ws rising.1 ∙ own_digit bytes so_far.word (w.word % 256 ^ bytes) p lower digit,
-      all_digits bytes (suc p) (added_at bytes p w so_far) ps ws rising.1 (below_next bytes so_far.word (w.word % 256 ^ bytes) p lower digit),
+-- with one word more, at the place of its piece
+pub digits_push : (bytes from before after : ℕ) (ps : List ℕ) (ws : List Word) (w : Word) → AreRising from ps → length ws < length ps → AllDigits bytes before ps ws →
+    IsPut bytes (drop (length ws) ps) before (w.word % 256 ^ bytes) after → AllDigits bytes after ps (ws ++ w ∷ [])
+digits_push bytes from before after [] ws w rising h digits put = absurd (omega (arith, h))
+digits_push bytes from before after (p ∷ ps) [] w rising h digits put = (put.0, none_digits bytes after ps)
+digits_push bytes from before after (p ∷ ps) (v ∷ ws) w rising h digits put = (
+  put_leaves bytes p before (w.word % 256 ^ bytes) after ps (length ws) rising.1 (omega (arith, h)) put ∙ digits.0,
+  digits_push bytes (suc p) before after ps ws w rising.1 (omega (arith, h)) digits.1 put,
+)
+
+-- a piece over what lies below its place is put there
+pub piece_is_put : (bytes : ℕ) (ps : List ℕ) (before piece : ℕ) → piece < 256 ^ bytes → IsPut bytes ps before piece (put_piece bytes ps before piece)
+piece_is_put bytes [] before piece small = tt
+piece_is_put bytes (p ∷ ps) before piece small =
+    let place = 256 ^ (p * bytes) in
+    let parts : before % place + before / place * place ≡ before = mod-add-div' before place in (
+      own_digit bytes (before % place) piece p (mod-lt before (one-le-pow (p * bytes) 256 (omega arith))) small,
+      λ q less. higher_digit bytes (before % place) piece p q less ∙ sym (higher_digit bytes (before % place) (before / place) p q less) ∙ ap (λ n. piece_at bytes n q) parts,
     )
-
--- what is gathered lies below the place of the next word
-pub gather_below : (bytes from : ℕ) (so_far : Word) (ps : List ℕ) (ws : List Word) → AreRising from ps → so_far.word < 256 ^ (from * bytes) → length ws < length ps →
-    (gather bytes so_far ps ws).word < 256 ^ (first_of (drop (length ws) ps) * bytes)
-gather_below bytes from so_far [] ws rising small h = absurd (omega arith)
-gather_below bytes from so_far (p ∷ ps) [] rising small h = below_later bytes so_far.word from p rising.0 small
-gather_below bytes from so_far (p ∷ ps) (w ∷ ws) rising small h =
-    let lower = below_later bytes so_far.word from p rising.0 small in
-    let digit : w.word % 256 ^ bytes < 256 ^ bytes = mod-lt w.word (one-le-pow bytes 256 (omega arith)) in
-    gather_below bytes (suc p) (added_at bytes p w so_far) ps ws rising.1 (below_next bytes so_far.word (w.word % 256 ^ bytes) p lower digit) (omega arith)
-
--- a piece over what lies below its place is added to it
-pub put_is_sum : (bytes : ℕ) (ps : List ℕ) (n gathered piece : ℕ) → n < length ps → gathered < 256 ^ (first_of (drop n ps) * bytes) →
-    put_piece bytes (drop n ps) gathered piece ≡ gathered + piece * 256 ^ (first_of (drop n ps) * bytes)
-put_is_sum bytes [] n gathered piece h small = absurd (omega arith)
-put_is_sum bytes (p ∷ ps) zero gathered piece h small = ap (λ k. k + piece * 256 ^ (p * bytes)) (mod-eq_of_lt small)
-put_is_sum bytes (p ∷ ps) (suc n) gathered piece h small = put_is_sum bytes ps n gathered piece (omega arith) small
 
 -- ---- bytes by lanes
 
@@ -160,7 +107,7 @@ put_is_sum bytes (p ∷ ps) (suc n) gathered piece h small = put_is_sum bytes ps
 abbrev pub spread : ℕ → (ℕ → List ℕ) → List ℕ → List ℕ
 spread bytes lanes ps = flat_map (λ p. map (λ lane. p * bytes + lane) (lanes p)) ps
 
-one_byte : (bytes whole word p lane : ℕ) → lane < bytes → digit_at bytes whole p ≡ word % 256 ^ bytes → byte_at whole (p * bytes + lane) ≡ byte_at word lane
+one_byte : (bytes whole word p lane : ℕ) → lane < bytes → piece_at bytes whole p ≡ word % 256 ^ bytes → byte_at whole (p * bytes + lane) ≡ byte_at word lane
 one_byte bytes whole word p lane h digit =
     let none : 0 + lane ≡ lane = omega arith in
     sym (byte_of_cut whole (p * bytes) bytes lane h) ∙ ap (λ n. byte_at n lane) (digit ∙ ap (λ n. n % 256 ^ bytes) (sym (div-one word)))

@@ -1,7 +1,6 @@
 -- The answers in gathered words: each wide word has the bytes of the words of its pieces, and the greatest of their codes.
-use Rattle.std.proofs.Common.{ℕ, ◌<◌, ◌≤◌, ◌≡◌, ◌*◌, max, Bool, true, false, List, [], ◌∷◌, ◌++◌, if◌then◌else◌, arith, refl, sym, ap, ap₂, subst, ◌∙◌, length, map, flat_map, zip, take, drop, nat_lt, append_assoc, length-append, ltb-false}
+use Rattle.std.proofs.Common.{ℕ, ◌<◌, ◌≡◌, ◌*◌, max, Bool, true, false, List, [], ◌∷◌, ◌++◌, if◌then◌else◌, arith, refl, sym, ap, ap₂, subst, ◌∙◌, length, map, flat_map, zip, take, drop, nat_lt, append_assoc, length-append, ltb-false}
 use Rattle.std.proofs.lemmas.List.{map-append, length-map}
-use Rattle.std.proofs.Math.Nat.{one-le-pow}
 use Rattle.mm_runs.specs.Views.{Shape}
 use Rattle.mm_runs.specs.Legal.{Word}
 use Rattle.mm_runs.specs.Operations.{filled_lanes, byte_at}
@@ -9,8 +8,7 @@ use Rattle.mm_runs.specs.Order.{Answer}
 use Rattle.mm_machines.specs.Blocks.{Block, highest, codes_of, worded, AreGreatest}
 use Rattle.mm_machines.specs.Lines.{bytes_of}
 use Rattle.mm_machines.specs.Link.{is_nonempty}
-use Rattle.mm_links.specs.Splits.{nothing}
-use Rattle.mm_links.proofs.Gather.{HasPieces, gather, added_at, all_digits, AllDigits, lane_bytes, cut_of, asked_of, pieces_by, answer_by, answers_by, HaveLanes, wide_lanes, asked_rise, asked_have, lanes_below}
+use Rattle.mm_links.proofs.Gather.{HasPieces, AllDigits, lane_bytes, cut_of, asked_of, pieces_by, answer_by, answers_by, HaveLanes, wide_lanes, asked_have, lanes_below}
 
 -- ---- lists of answers
 
@@ -18,7 +16,7 @@ bytes_given : (given : Word) (lanes : List ℕ) → bytes_of (map (answer_by giv
 bytes_given given [] = refl
 bytes_given given (lane ∷ lanes) = ap (λ l. byte_at given.word lane ∷ l) (bytes_given given lanes)
 
-highest_append : (xs ys : List ℕ) → highest (xs ++ ys) ≡ max (highest xs) (highest ys)
+pub highest_append : (xs ys : List ℕ) → highest (xs ++ ys) ≡ max (highest xs) (highest ys)
 highest_append [] ys = omega arith
 highest_append (x ∷ xs) ys = let rest = highest_append xs ys in omega (arith, rest)
 
@@ -35,11 +33,11 @@ answers_append shape target (x ∷ xs) ys (w ∷ ws) vs h =
     ap (λ l. map (answer_by w) (filled_lanes shape target x) ++ l) (answers_append shape target xs ys ws vs (omega (arith, h)))
     ∙ sym (append_assoc (map (answer_by w) (filled_lanes shape target x)) (answers_by shape target xs ws) (answers_by shape target ys vs))
 
-gather_code : (bytes : ℕ) (so_far : Word) (ps : List ℕ) (ws : List Word) → length ws ≤ length ps → (gather bytes so_far ps ws).code ≡ max so_far.code (highest (map (λ (w : Word). w.code) ws))
-gather_code bytes so_far [] [] h = omega arith
-gather_code bytes so_far [] (w ∷ ws) h = absurd (omega (arith, h))
-gather_code bytes so_far (p ∷ ps) [] h = omega arith
-gather_code bytes so_far (p ∷ ps) (w ∷ ws) h = let rest = gather_code bytes (added_at bytes p w so_far) ps ws (omega (arith, h)) in omega (arith, rest)
+abbrev pub codes_in : List Word → List ℕ
+codes_in ws = map (λ (w : Word). w.code) ws
+
+pub codes_push : (ws : List Word) (w : Word) → highest (codes_in (ws ++ w ∷ [])) ≡ max (highest (codes_in ws)) w.code
+codes_push ws w = ap highest (map-append (λ (w : Word). w.code) ws (w ∷ [])) ∙ highest_append (codes_in ws) (w.code ∷ []) ∙ ap (max (highest (codes_in ws))) (omega arith)
 
 -- ---- whole groups
 
@@ -50,7 +48,8 @@ pub record Group : Type 0 where
   pub words : List Word
 
 abbrev pub IsWhole : Shape → Shape → Group → Type 0
-IsWhole wide narrow g = (length g.words ≡ length (asked_of wide narrow g.enables)) × (g.given ≡ gather narrow.word_bytes nothing (asked_of wide narrow g.enables) g.words)
+IsWhole wide narrow g =
+    (length g.words ≡ length (asked_of wide narrow g.enables)) × AllDigits narrow.word_bytes g.given.word (asked_of wide narrow g.enables) g.words × (g.given.code ≡ highest (codes_in g.words))
 
 abbrev pub AllWhole : Shape → Shape → List Group → Type 0
 AllWhole wide narrow [] = Unit {0}
@@ -136,11 +135,8 @@ module _ (law : HasPieces) (wide narrow target : Shape) (some : 0 < narrow.word_
   whole_bytes : (g : Group) → IsWhole wide narrow g → map (byte_at g.given.word) (filled_lanes wide target g.enables) ≡ bytes_of (answers_by narrow target (pieces_by wide narrow g.enables) g.words)
   whole_bytes g is =
       let ps = asked_of wide narrow g.enables in
-      let digits : AllDigits narrow.word_bytes g.given.word ps g.words =
-      subst (λ (w : Word). AllDigits narrow.word_bytes w.word ps g.words) (sym is.1)
-      (all_digits narrow.word_bytes 0 nothing ps g.words (asked_rise law wide narrow target some same count one whole g.enables) (one-le-pow (0 * narrow.word_bytes) 256 (omega arith))) in
       ap (map (byte_at g.given.word)) (wide_lanes law wide narrow target some same count one whole g.enables)
-      ∙ lane_bytes narrow.word_bytes g.given.word (λ p. filled_lanes narrow target (cut_of narrow.word_bytes g.enables p)) (λ p. lanes_below law wide narrow target some same count one whole g.enables p) ps g.words is.0 digits
+      ∙ lane_bytes narrow.word_bytes g.given.word (λ p. filled_lanes narrow target (cut_of narrow.word_bytes g.enables p)) (λ p. lanes_below law wide narrow target some same count one whole g.enables p) ps g.words is.0 is.1
       ∙ zip_bytes g.enables ps g.words
 
   whole_size : (g : Group) → IsWhole wide narrow g → length (codes_of (answers_by narrow target (pieces_by wide narrow g.enables) g.words)) ≡ length (filled_lanes wide target g.enables)
@@ -151,9 +147,7 @@ module _ (law : HasPieces) (wide narrow target : Shape) (some : 0 < narrow.word_
   whole_code : (g : Group) → IsWhole wide narrow g → 0 < length (filled_lanes wide target g.enables) → g.given.code ≡ highest (codes_of (answers_by narrow target (pieces_by wide narrow g.enables) g.words))
   whole_code g is h =
       let ps = asked_of wide narrow g.enables in
-      let size = is.0 in
-      let most = gather_code narrow.word_bytes nothing ps g.words (omega (arith, size)) in
-      ap (λ (w : Word). w.code) is.1 ∙ (omega (arith, most)) ∙ sym (group_codes g.enables ps g.words (asked_have law wide narrow target some same count one whole g.enables h) is.0)
+      is.2 ∙ sym (group_codes g.enables ps g.words (asked_have law wide narrow target some same count one whole g.enables h) is.0)
 
   pub all_bytes : (gs : List Group) → AllWhole wide narrow gs → bytes_of (answers_by wide target (enables_of gs) (given_of gs)) ≡ bytes_of (answers_by narrow target (pieces_of_all wide narrow (enables_of gs)) (words_of gs))
   all_bytes [] all = refl

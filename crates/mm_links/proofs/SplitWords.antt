@@ -1,9 +1,8 @@
 -- The words of a splitter: those that came below are whole groups, and a front of the next one.
-use Rattle.std.proofs.Common.{ℕ, zero, suc, ◌<◌, ◌≤◌, ◌≡◌, ◌+◌, ◌-◌, ◌*◌, ◌%◌, ◌^◌, max, ◌⊎◌, inl, inr, Bool, true, false, not, ◌&&◌, ◌||◌, List, [], ◌∷◌, ◌++◌, if◌then◌else◌, arith, refl, sym, ap, ap₂, subst, ◌∙◌, length, map, flat_map, zip, drop, nat_lt, nat_eq, append-nil, append_assoc, length-append, ltb-true, ltb-false, lt-ltb}
+use Rattle.std.proofs.Common.{ℕ, zero, suc, ◌<◌, ◌≤◌, ◌≡◌, ◌+◌, ◌-◌, ◌%◌, ◌^◌, max, ◌⊎◌, inl, inr, Bool, true, false, not, ◌&&◌, ◌||◌, List, [], ◌∷◌, ◌++◌, if◌then◌else◌, arith, refl, sym, ap, ap₂, subst, ◌∙◌, length, map, flat_map, zip, drop, nat_lt, nat_eq, append-nil, append_assoc, length-append, ltb-true, ltb-false, lt-ltb}
 use Rattle.std.proofs.lemmas.Bool.{and_parts}
 use Rattle.std.proofs.lemmas.List.{map-append, length-map}
 use Rattle.std.proofs.lemmas.Grind.{flat_map-append}
-use Rattle.std.proofs.Math.Nat.{one-le-pow}
 use Rattle.histories.specs.History.{is_raised, only_if, one_if}
 use Rattle.mm_runs.specs.Views.{Shape}
 use Rattle.mm_runs.specs.Legal.{Word}
@@ -11,14 +10,14 @@ use Rattle.mm_runs.specs.Operations.{Beat, filled_lanes}
 use Rattle.mm_runs.specs.Order.{Answer}
 use Rattle.mm_runs.specs.Commands.{shows, words_before}
 use Rattle.mm_machines.specs.Link.{Target, Port, AreLegalAt, AnswersAreOwed, takes, taken_at, read_beats, words_at, words_owed, answers_at, bytes_in}
-use Rattle.mm_machines.specs.Blocks.{block, blocks_at, worded, codes_of, AreGreatest}
+use Rattle.mm_machines.specs.Blocks.{block, blocks_at, worded, codes_of, highest, AreGreatest}
 use Rattle.mm_machines.specs.Lines.{bytes_of, BringsBack}
 use Rattle.mm_machines.specs.Machines.{MaySplit, piece_of, beat_of, raw_at}
 use Rattle.mm_machines.specs.SideLaws.{same_counts, zip_front}
-use Rattle.mm_links.specs.Selects.{takes_read, first_of}
-use Rattle.mm_links.specs.Splits.{SplitState, RunsAsSplit, split_at, asked_at, are_same, completes, nothing, added, opens}
-use Rattle.mm_links.proofs.Gather.{HasPieces, gather, gather_none, gather_push, gather_below, put_is_sum, added_at, AreRising, asked_of, asked_rise, pieces_by, answer_by, answers_by, asks_some, cut_of}
-use Rattle.mm_links.proofs.Groups.{Group, IsWhole, AllWhole, whole_push, enables_of, given_of, words_of, pieces_of_all, words_whole, blocks_by, answers_append, all_bytes, all_codes}
+use Rattle.mm_links.specs.Selects.{takes_read}
+use Rattle.mm_links.specs.Splits.{SplitState, RunsAsSplit, split_at, asked_at, are_same, completes, IsPut, IsAdded, opens}
+use Rattle.mm_links.proofs.Gather.{HasPieces, AllDigits, none_digits, digits_push, AreRising, asked_of, asked_rise, pieces_by, answer_by, answers_by, asks_some, cut_of}
+use Rattle.mm_links.proofs.Groups.{Group, IsWhole, AllWhole, whole_push, codes_in, codes_push, enables_of, given_of, words_of, pieces_of_all, words_whole, blocks_by, answers_append, all_bytes, all_codes}
 use Rattle.mm_links.proofs.OneBeat.{enables_in, enables_asked, count_is_one}
 use Rattle.mm_links.proofs.Splitting.{shown_above, shown_taken, opened_read, same_true, either_of}
 use Rattle.mm_links.proofs.SplitTags.{bears_shown}
@@ -46,7 +45,8 @@ pub record Words (wide narrow : Shape) (es : List ℕ) (us ws : List Word) (many
   pub came : ws ≡ words_of groups ++ front
   pub count : many ≡ length open_reads
   pub place : come ≡ length front
-  pub gathers : gathered ≡ gather narrow.word_bytes nothing set front
+  pub digits : AllDigits narrow.word_bytes gathered.word set front
+  pub codes : gathered.code ≡ highest (codes_in front)
   pub few : length front ≤ length set - 1
   pub same : AllAsk wide narrow set open_reads
 
@@ -62,7 +62,8 @@ module _ (wide narrow : Shape) (es : List ℕ) (us ws : List Word) (many come : 
     came = c ∙ now.came;
     count = d ∙ now.count;
     place = e ∙ now.place;
-    gathers = f ∙ now.gathers;
+    digits = subst (λ (g : Word). AllDigits narrow.word_bytes g.word set now.front) (sym f) now.digits;
+    codes = ap (λ (g : Word). g.code) f ∙ now.codes;
     few = now.few;
     same = now.same;
   }
@@ -79,7 +80,8 @@ module _ (wide narrow : Shape) (es : List ℕ) (us ws : List Word) (many come : 
     came = now.came;
     count = (let size = length-append now.open_reads (e ∷ []) in let before = now.count in omega (arith, size, before));
     place = now.place;
-    gathers = now.gathers;
+    digits = now.digits;
+    codes = now.codes;
     few = now.few;
     same = ask_push wide narrow set now.open_reads e now.same is;
   }
@@ -99,16 +101,27 @@ module _ (wide narrow : Shape) (es : List ℕ) (us ws : List Word) (many come : 
         came = now.came ∙ ap (λ l. words_of now.groups ++ l) g;
         count = none;
         place = first;
-        gathers = now.gathers ∙ ap (gather narrow.word_bytes nothing set) g ∙ gather_none narrow.word_bytes nothing set ∙ sym (gather_none narrow.word_bytes nothing set');
+        digits = none_digits narrow.word_bytes gathered.word set';
+        codes = now.codes ∙ ap (λ l. highest (codes_in l)) g;
         few = omega arith;
         same = tt;
       }
       by_lists (x ∷ o) e f g = let size = ap length e in let count = now.count in absurd (omega (arith, size, count, none))
       by_lists [] e (x ∷ f) g = let size = ap length g in let place = now.place in absurd (omega (arith, size, place, first))
 
+  -- what holds of the words with one more
+  all_there : (w after : Word) → AreRising 0 set → come < length set → IsAdded narrow.word_bytes (drop come set) gathered w after → AllDigits narrow.word_bytes after.word set (now.front ++ w ∷ [])
+  all_there w after rising low put =
+      let place = now.place in
+      digits_push narrow.word_bytes 0 gathered.word after.word set now.front w rising (omega (arith, low, place)) now.digits
+      (subst (λ n. IsPut narrow.word_bytes (drop n set) gathered.word (w.word % 256 ^ narrow.word_bytes) after.word) place put.word)
+
+  all_codes_there : (w after : Word) → IsAdded narrow.word_bytes (drop come set) gathered w after → after.code ≡ highest (codes_in (now.front ++ w ∷ []))
+  all_codes_there w after put = put.code ∙ ap (λ n. max n w.code) now.codes ∙ sym (codes_push now.front w)
+
   -- a word that doesn't complete the next one
-  pub more_word : (w : Word) → suc come < length set → Words wide narrow es us (ws ++ w ∷ []) many (suc come) (added_at narrow.word_bytes (first_of (drop come set)) w gathered) set
-  more_word w low =
+  pub more_word : (w after : Word) → suc come < length set → AreRising 0 set → IsAdded narrow.word_bytes (drop come set) gathered w after → Words wide narrow es us (ws ++ w ∷ []) many (suc come) after set
+  more_word w after low rising put =
       let place = now.place in
       record {
         groups = now.groups;
@@ -120,28 +133,26 @@ module _ (wide narrow : Shape) (es : List ℕ) (us ws : List Word) (many come : 
         came = ap (λ l. l ++ w ∷ []) now.came ∙ append_assoc (words_of now.groups) now.front (w ∷ []);
         count = now.count;
         place = (let size = length-append now.front (w ∷ []) in omega (arith, size, place));
-        gathers = ap₂ (λ n g. added_at narrow.word_bytes (first_of (drop n set)) w g) place now.gathers ∙ sym (gather_push narrow.word_bytes nothing set now.front w (omega (arith, low, place)));
+        digits = all_there w after rising (omega (arith, low)) put;
+        codes = all_codes_there w after put;
         few = (let size = length-append now.front (w ∷ []) in omega (arith, size, place, low));
         same = now.same;
       }
 
   -- the word that completes it
-  pub last_word : (w : Word) → suc come ≡ length set → 0 < many →
-      Words wide narrow es (us ++ added_at narrow.word_bytes (first_of (drop come set)) w gathered ∷ []) (ws ++ w ∷ []) (many - 1) 0 nothing set
-  last_word w last some = by_list now.open_reads refl now.same
+  pub last_word : (w whole_word after : Word) → suc come ≡ length set → 0 < many → AreRising 0 set → IsAdded narrow.word_bytes (drop come set) gathered w whole_word → after.code ≡ 0 →
+      Words wide narrow es (us ++ whole_word ∷ []) (ws ++ w ∷ []) (many - 1) 0 after set
+  last_word w whole_word after last some rising put anew = by_list now.open_reads refl now.same
     where
-      by_list : (o : List ℕ) → now.open_reads ≡ o → AllAsk wide narrow set o →
-          Words wide narrow es (us ++ added_at narrow.word_bytes (first_of (drop come set)) w gathered ∷ []) (ws ++ w ∷ []) (many - 1) 0 nothing set
+      by_list : (o : List ℕ) → now.open_reads ≡ o → AllAsk wide narrow set o → Words wide narrow es (us ++ whole_word ∷ []) (ws ++ w ∷ []) (many - 1) 0 after set
       by_list [] e same = let size = ap length e in let count = now.count in absurd (omega (arith, size, count, some))
       by_list (x ∷ o) e same =
           let place = now.place in
-          let whole_word = added_at narrow.word_bytes (first_of (drop come set)) w gathered in
           let g : Group = record { enables = x; given = whole_word; words = now.front ++ w ∷ [] } in
-          let all : whole_word ≡ gather narrow.word_bytes nothing set (now.front ++ w ∷ []) =
-          ap₂ (λ n k. added_at narrow.word_bytes (first_of (drop n set)) w k) place now.gathers ∙ sym (gather_push narrow.word_bytes nothing set now.front w (omega (arith, last, place))) in
           let is : IsWhole wide narrow g = (
             length-append now.front (w ∷ []) ∙ (omega (arith, place, last)) ∙ ap length (sym same.0),
-            all ∙ ap (λ s. gather narrow.word_bytes nothing s (now.front ++ w ∷ [])) (sym same.0),
+            subst (λ s. AllDigits narrow.word_bytes whole_word.word s (now.front ++ w ∷ [])) (sym same.0) (all_there w whole_word rising (omega (arith, last)) put),
+            all_codes_there w whole_word put,
           ) in
           record {
             groups = now.groups ++ g ∷ [];
@@ -154,7 +165,8 @@ module _ (wide narrow : Shape) (es : List ℕ) (us ws : List Word) (many come : 
                 ∙ ap (λ l. words_of now.groups ++ l) (sym (append-nil (now.front ++ w ∷ []))) ∙ sym (flat_map-append (λ (g : Group). g.words) now.groups (g ∷ [])) ∙ sym (append-nil (words_of (now.groups ++ g ∷ [])));
             count = (let size = ap length e in let count = now.count in omega (arith, size, count));
             place = refl;
-            gathers = sym (gather_none narrow.word_bytes nothing set);
+            digits = none_digits narrow.word_bytes after.word set;
+            codes = anew;
             few = omega arith;
             same = same.1;
           }
@@ -178,9 +190,6 @@ same_lists [] [] h = refl
 same_lists [] (y ∷ ys) h = cc
 same_lists (x ∷ xs) [] h = cc
 same_lists (x ∷ xs) (y ∷ ys) h = let parts = and_parts (nat_eq x y) (are_same xs ys) h in ap₂ (λ a l. a ∷ l) (same_true x y parts.0) (same_lists xs ys parts.1)
-
-abbrev word_by : ℕ → ℕ → Word
-word_by word code = record { word = word; code = code }
 
 -- ---- the machine
 
@@ -373,25 +382,8 @@ module _ (law : HasPieces) (target : Target) (count : ℕ) (room : ℕ) (up down
   abbrev word_below : ℕ → Word
   word_below c = record { word = down.answers.word c; code = down.answers.code c }
 
-  abbrev summed : ℕ → Word
-  summed c = added_at down.shape.word_bytes (first_of (drop (state.come c) (state.set c))) (word_below c) (state.gathered c)
-
-  -- what is gathered lies below the place of such a word, which so is added to it
-  added_is_sum : (c : ℕ) (es : List ℕ) (many : ℕ) → Words up.shape down.shape es (words_at up c) (words_at down c) many (state.come c) (state.gathered c) (state.set c) → HasPlace c → added down state c ≡ summed c
-  added_is_sum c es many now place =
-      ap (λ n. word_by n (max (state.gathered c).code (down.answers.code c)))
-      (put_is_sum bytes (state.set c) (state.come c) (state.gathered c).word (down.answers.word c % 256 ^ bytes) place.low small)
-    where
-      bytes : ℕ
-      bytes = down.shape.word_bytes
-
-      below : (gather bytes nothing (state.set c) now.front).word < 256 ^ (first_of (drop (length now.front) (state.set c)) * bytes)
-      below = gather_below bytes 0 nothing (state.set c) now.front place.rising (one-le-pow (0 * bytes) 256 (omega arith)) (let low = place.low in let come = now.place in omega (arith, low, come))
-
-      small : (state.gathered c).word < 256 ^ (first_of (drop (state.come c) (state.set c)) * bytes)
-      small =
-          subst (λ n. (state.gathered c).word < 256 ^ (first_of (drop n (state.set c)) * bytes)) (sym now.place)
-          (subst (λ (w : Word). w.word < 256 ^ (first_of (drop (length now.front) (state.set c)) * bytes)) (sym now.gathers) below)
+  abbrev word_above : ℕ → Word
+  word_above c = record { word = up.answers.word c; code = up.answers.code c }
 
   -- the word that comes in it
   with_word : (c : ℕ) (es : List ℕ) (many : ℕ) → Words up.shape down.shape es (words_at up c) (words_at down c) many (state.come c) (state.gathered c) (state.set c) → state.reads c ≤ many →
@@ -411,30 +403,27 @@ module _ (law : HasPieces) (target : Target) (count : ℕ) (room : ℕ) (up down
       come_is : (v k : Bool) → is_raised (down.answers.valid c) ≡ v → completes state c ≡ k → state.come (suc c) ≡ (if v then (if k then 0 else suc (state.come c)) else state.come c)
       come_is v k e f = run.come_next c ∙ ap₂ (λ v k. if v then (if k then 0 else suc (state.come c)) else state.come c) e f
 
-      gathered_is : (v k : Bool) → is_raised (down.answers.valid c) ≡ v → completes state c ≡ k → state.gathered (suc c) ≡ (if v then (if k then nothing else added down state c) else state.gathered c)
-      gathered_is v k e f = run.gathered_next c ∙ ap₂ (λ v k. if v then (if k then nothing else added down state c) else state.gathered c) e f
-
       by_valid : (v : Bool) → is_raised (down.answers.valid c) ≡ v → (k : Bool) → completes state c ≡ k →
           Words up.shape down.shape es (words_at up (suc c)) (words_at down (suc c)) (many - one_if (is_raised (up.answers.valid c))) (state.come (suc c)) (state.gathered (suc c)) (state.set c)
       by_valid false e k f =
           let quiet = up_is false k e f in
           told_as up.shape down.shape es (words_at up c) (words_at down c) many (state.come c) (state.gathered c) (state.set c) now _ _ _ _ _ _
-          refl (none_up quiet) (ap (λ b. words_at down c ++ only_if b (record { word = down.answers.word c; code = down.answers.code c })) e ∙ append-nil (words_at down c)) (fewer quiet) (come_is false k e f) (gathered_is false k e f)
+          refl (none_up quiet) (ap (λ b. words_at down c ++ only_if b (record { word = down.answers.word c; code = down.answers.code c })) e ∙ append-nil (words_at down c)) (fewer quiet) (come_is false k e f) (run.gathered_stays c e)
       by_valid true e false f =
           let quiet = up_is true false e f in
           let left = ltb-false (length (state.set c)) (suc (suc (state.come c))) f in
-          let more = more_word up.shape down.shape es (words_at up c) (words_at down c) many (state.come c) (state.gathered c) (state.set c) now (word_below c) left in
-          told_as up.shape down.shape es (words_at up c) (words_at down c ++ word_below c ∷ []) many (suc (state.come c)) (summed c) (state.set c) more _ _ _ _ _ _
-          refl (none_up quiet) (ap (λ b. words_at down c ++ only_if b (word_below c)) e) (fewer quiet) (come_is true false e f) (gathered_is true false e f ∙ added_is_sum c es many now (place e))
+          let more = more_word up.shape down.shape es (words_at up c) (words_at down c) many (state.come c) (state.gathered c) (state.set c) now (word_below c) (state.gathered (suc c)) left (place e).rising (run.gathered_more c e f) in
+          told_as up.shape down.shape es (words_at up c) (words_at down c ++ word_below c ∷ []) many (suc (state.come c)) (state.gathered (suc c)) (state.set c) more _ _ _ _ _ _
+          refl (none_up quiet) (ap (λ b. words_at down c ++ only_if b (word_below c)) e) (fewer quiet) (come_is true false e f) refl
       by_valid true e true f =
           let last = is_last c (place e) f in
           let some = (place e).last last in
           let gives = up_is true true e f in
-          let given : record { word = up.answers.word c; code = up.answers.code c } ≡ summed c = ap₂ (λ x y. word_by x y) (run.word c) (run.code c) ∙ added_is_sum c es many now (place e) in
-          let more = last_word up.shape down.shape es (words_at up c) (words_at down c) many (state.come c) (state.gathered c) (state.set c) now (word_below c) last (omega (arith, some, most)) in
-          told_as up.shape down.shape es (words_at up c ++ summed c ∷ []) (words_at down c ++ word_below c ∷ []) (many - 1) 0 nothing (state.set c) more _ _ _ _ _ _
-          refl (ap (λ b. words_at up c ++ only_if b (record { word = up.answers.word c; code = up.answers.code c })) gives ∙ ap (λ x. words_at up c ++ x ∷ []) given)
-          (ap (λ b. words_at down c ++ only_if b (record { word = down.answers.word c; code = down.answers.code c })) e) (ap (λ b. many - one_if b) gives) (come_is true true e f) (gathered_is true true e f)
+          let more = last_word up.shape down.shape es (words_at up c) (words_at down c) many (state.come c) (state.gathered c) (state.set c) now (word_below c) (word_above c) (state.gathered (suc c)) last (omega (arith, some, most))
+          (place e).rising (run.given c gives) (run.gathered_anew c e f) in
+          told_as up.shape down.shape es (words_at up c ++ word_above c ∷ []) (words_at down c ++ word_below c ∷ []) (many - 1) 0 (state.gathered (suc c)) (state.set c) more _ _ _ _ _ _
+          refl (ap (λ b. words_at up c ++ only_if b (word_above c)) gives)
+          (ap (λ b. words_at down c ++ only_if b (word_below c)) e) (ap (λ b. many - one_if b) gives) (come_is true true e f) refl
 
   pub words_now : (c : ℕ) → c ≤ end → AnswersAreOwed down c → Now c
   words_now zero h owed = record {
@@ -447,7 +436,8 @@ module _ (law : HasPieces) (target : Target) (count : ℕ) (room : ℕ) (up down
     came = refl;
     count = run.reads_begin;
     place = run.come_begins;
-    gathers = run.gathered_begins ∙ sym (gather_none down.shape.word_bytes nothing (state.set 0));
+    digits = none_digits down.shape.word_bytes (state.gathered 0).word (state.set 0);
+    codes = run.gathered_begins;
     few = omega arith;
     same = tt;
   }
@@ -499,7 +489,7 @@ module _ (law : HasPieces) (target : Target) (count : ℕ) (room : ℕ) (up down
                   (ap (λ b. words_at down c ++ only_if b (record { word = down.answers.word c; code = down.answers.code c })) e ∙ append-nil (words_at down c))
                   (reads_is ∙ ap₂ (λ b v. (state.reads c + one_if b) - one_if v) f quiet ∙ (omega arith))
                   (run.come_next c ∙ ap (λ v. if v then (if completes state c then 0 else suc (state.come c)) else state.come c) e)
-                  (run.gathered_next c ∙ ap (λ v. if v then (if completes state c then nothing else added down state c) else state.gathered c) e)
+                  (run.gathered_stays c e)
                 where
                   taken_read : Words up.shape down.shape (above c) (words_at up c) (words_at down c) (state.reads c) (state.come c) (state.gathered c) (state.set (suc c)) → (t : Bool) → takes_read up c ≡ t →
                       Words up.shape down.shape (above (suc c)) (words_at up c) (words_at down c) (state.reads c + one_if t) (state.come c) (state.gathered c) (state.set (suc c))

@@ -1,5 +1,5 @@
 -- The machine of a splitter: commands of one beat go from wide words to the narrow words of the agent, piece by piece, and their answers are gathered.
-use Rattle.std.specs.Prelude.{◌≡◌, ℕ, suc, ◌+◌, ◌-◌, ◌*◌, ◌%◌, ◌^◌, max, Bool, true, false, ◌&&◌, ◌||◌, List, [], ◌∷◌, length, filter, drop, if◌then◌else◌, nat_lt, nat_eq, Some, slice_get}
+use Rattle.std.specs.Prelude.{◌≡◌, ℕ, suc, ◌+◌, ◌-◌, ◌*◌, ◌/◌, ◌%◌, ◌^◌, ◌<◌, max, Bool, true, false, ◌&&◌, ◌||◌, List, [], ◌∷◌, length, filter, drop, if◌then◌else◌, nat_lt, nat_eq, Some, slice_get}
 use Rattle.histories.specs.History.{is_raised, one_if, numbers}
 use Rattle.mm_runs.specs.Views.{Shape, levels_at}
 use Rattle.mm_runs.specs.Operations.{Beat, pieces}
@@ -56,14 +56,23 @@ abbrev pub put_piece : ℕ → List ℕ → ℕ → ℕ → ℕ
 put_piece bytes [] gathered piece = gathered
 put_piece bytes (place ∷ later) gathered piece = gathered % 256 ^ (place * bytes) + piece * 256 ^ (place * bytes)
 
--- what is gathered with the word that comes below
-abbrev pub added : Port → SplitState → ℕ → Word
-added down state c =
-    let bytes = down.shape.word_bytes in
-    record {
-      word = put_piece bytes (drop (state.come c) (state.set c)) (state.gathered c).word (down.answers.word c % 256 ^ bytes);
-      code = max (state.gathered c).code (down.answers.code c);
-    }
+-- the piece of a word with this number, of so many bytes
+abbrev pub piece_at : ℕ → ℕ → ℕ → ℕ
+piece_at bytes word place = (word / 256 ^ (place * bytes)) % 256 ^ bytes
+
+-- a piece is put at the first of these places, and those below it stay. The others are free, and with no place all are
+abbrev pub IsPut : ℕ → List ℕ → ℕ → ℕ → ℕ → Type 0
+IsPut bytes [] before piece after = Unit {0}
+IsPut bytes (place ∷ later) before piece after = (piece_at bytes after place ≡ piece) × ((lower : ℕ) → lower < place → piece_at bytes after lower ≡ piece_at bytes before lower)
+
+-- what is gathered with the word that comes
+pub record IsAdded (bytes : ℕ) (places : List ℕ) (before came after : Word) : Type 0 where
+  pub word : IsPut bytes places before.word (came.word % 256 ^ bytes) after.word
+  pub code : after.code ≡ max before.code came.code
+
+-- and in a cycle
+abbrev pub AddsTo : Port → SplitState → ℕ → Word → Type 0
+AddsTo down state c after = IsAdded down.shape.word_bytes (drop (state.come c) (state.set c)) (state.gathered c) (record { word = down.answers.word c; code = down.answers.code c }) after
 
 pub record RunsAsSplit (room : ℕ) (up down : Port) (state : SplitState) : Type 0 where
   -- commands
@@ -80,11 +89,13 @@ pub record RunsAsSplit (room : ℕ) (up down : Port) (state : SplitState) : Type
   -- answers
   pub come_begins : state.come 0 ≡ 0
   pub come_next : (c : ℕ) → state.come (suc c) ≡ (if is_raised (down.answers.valid c) then (if completes state c then 0 else suc (state.come c)) else state.come c)
-  pub gathered_begins : state.gathered 0 ≡ nothing
-  pub gathered_next : (c : ℕ) → state.gathered (suc c) ≡ (if is_raised (down.answers.valid c) then (if completes state c then nothing else added down state c) else state.gathered c)
+  pub gathered_begins : (state.gathered 0).code ≡ 0
+  pub gathered_stays : (c : ℕ) → is_raised (down.answers.valid c) ≡ false → state.gathered (suc c) ≡ state.gathered c
+  pub gathered_more : (c : ℕ) → is_raised (down.answers.valid c) ≡ true → completes state c ≡ false → AddsTo down state c (state.gathered (suc c))
+  pub gathered_anew : (c : ℕ) → is_raised (down.answers.valid c) ≡ true → completes state c ≡ true → (state.gathered (suc c)).code ≡ 0
   pub valid : (c : ℕ) → is_raised (up.answers.valid c) ≡ (is_raised (down.answers.valid c) && completes state c)
-  pub word : (c : ℕ) → up.answers.word c ≡ (added down state c).word
-  pub code : (c : ℕ) → up.answers.code c ≡ (added down state c).code
+  -- pieces that weren't asked are free
+  pub given : (c : ℕ) → is_raised (up.answers.valid c) ≡ true → AddsTo down state c (record { word = up.answers.word c; code = up.answers.code c })
 
 -- the parts behind the one that is shown
 abbrev pub split_rest : Port → Port → SplitState → ℕ → List Raw

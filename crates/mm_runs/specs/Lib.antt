@@ -4,6 +4,7 @@ pub mod Commands
 pub mod Legal
 pub mod Order
 pub mod Awake
+pub mod Onward
 pub mod Packed
 pub mod Whole
 pub mod Plan

@@ -1,8 +1,11 @@
 -- Words that are filled piece by piece.
-use Rattle.std.proofs.Common.{ℕ, ◌<◌, ◌≤◌, ◌≡◌, ◌+◌, ◌-◌, ◌*◌, ◌%◌, ◌^◌, Bool, true, false, ◌||◌, if◌then◌else◌, arith, refl, sym, ap, ap₂, ◌∙◌}
-use Rattle.std.proofs.Math.Nat.{div-eq_of_lt}
-use Rattle.mm_split.specs.Pieces.{lane, is_any, fill}
+use Rattle.std.proofs.Common.{ℕ, zero, suc, ◌<◌, ◌≤◌, ◌≡◌, ◌+◌, ◌-◌, ◌*◌, ◌/◌, ◌%◌, ◌^◌, Bool, true, false, if◌then◌else◌, nat_eq, arith, refl, sym, ap, ap₂, ◌∙◌, add-mul, one-mul}
+use Rattle.std.proofs.lemmas.Bool.{eqb-true, eqb-false}
+use Rattle.std.proofs.lemmas.Nat.{pow-add, field_of, div-mul-add, pow_pos}
+use Rattle.std.proofs.Math.Nat.{mod-lt, mod-eq_of_lt, mul-le-mul_right}
+use Rattle.mm_split.specs.Pieces.{lane, fill}
 use Rattle.mm_split.proofs.Marks.{last_of, last_fits}
+use Rattle.mm_split.proofs.Masks.{low_bits}
 
 -- all pieces fill the wide word
 pub whole_bits : (pieces bytes wide : ℕ) → 2 ≤ pieces → pieces * bytes ≡ wide → bytes * 8 + (pieces - 1) * (bytes * 8) ≡ wide * 8
@@ -11,42 +14,68 @@ whole_bits pieces bytes wide many whole =
     let turned : bytes * 8 + (pieces - 1) * (bytes * 8) ≡ (pieces - 1) * (bytes * 8) + bytes * 8 = omega arith in
     turned ∙ sum ∙ (let e : pieces * (bytes * 8) ≡ pieces * bytes * 8 = omega arith in e) ∙ ap (λ n. n * 8) whole
 
--- no piece stands above a word that ends below it
-none_above : (bits word k : ℕ) → word < 2 ^ (k * bits) → lane bits word k ≡ 0
-none_above bits word k h = ap (λ n. n % 2 ^ bits) (div-eq_of_lt h) ∙ none (2 ^ bits)
-  where
-    none : (m : ℕ) → 0 % m ≡ 0
-    none m = omega arith
-
-top_lane : (a b : Bool) (x y : ℕ) → y ≡ 0 → (if a then x else 0) ≡ (if a then x else if b then 0 else y)
-top_lane true b x y e = refl
-top_lane false true x y e = refl
-top_lane false false x y e = sym e
-
-pub last_filled : (test : ℕ → Bool) (bits word piece count none_net last low width net : ℕ) → 2 ≤ count → word < 2 ^ ((count - 1) * bits) →
-    none_net ≡ 0 → last ≡ (if test (count - 1) then piece else none_net) → low ≡ fill test bits word piece (count - 1) → width ≡ (count - 1) * bits → net ≡ last * 2 ^ width + low → net ≡ fill test bits word piece count
-last_filled test bits word piece count none_net last low width net many fits none is below wide whole =
-    let top : last ≡ (if test (count - 1) then piece else if is_any test (count - 1) then 0 else lane bits word (count - 1)) =
-    is ∙ ap (λ z. if test (count - 1) then piece else z) none ∙ top_lane (test (count - 1)) (is_any test (count - 1)) piece (lane bits word (count - 1)) (none_above bits word (count - 1) fits) in
-    whole ∙ ap₂ (λ x y. x * 2 ^ y + low) top wide ∙ ap (λ n. (if test (count - 1) then piece else if is_any test (count - 1) then 0 else lane bits word (count - 1)) * 2 ^ ((count - 1) * bits) + n) below
-    ∙ sym (ap (fill test bits word piece) (last_of count (omega (arith, many))))
-
-pub first_filled : (test : ℕ → Bool) (bits word piece count : ℕ) (reached : Bool) (net : ℕ) → count ≡ 1 → reached ≡ false → net ≡ (if test 0 then piece else if reached then 0 else lane bits word 0) → net ≡ fill test bits word piece count
-first_filled test bits word piece count reached net one none is =
-    is ∙ ap (λ b. if test 0 then piece else if b then 0 else lane bits word 0) none ∙ alone (if test 0 then piece else if false then 0 else lane bits word 0) ∙ sym (ap (fill test bits word piece) one)
+pub first_filled : (test : ℕ → Bool) (bits word piece count net : ℕ) → count ≡ 1 → net ≡ (if test (count - 1) then piece else lane bits word (count - 1)) → net ≡ fill test bits word piece count
+first_filled test bits word piece count net one is =
+    is ∙ ap (λ n. if test (n - 1) then piece else lane bits word (n - 1)) one ∙ alone (if test 0 then piece else lane bits word 0) ∙ sym (ap (fill test bits word piece) one)
   where
     alone : (x : ℕ) → x ≡ x * 2 ^ (0 * bits) + 0
     alone x = let e : 0 * bits ≡ 0 = omega arith in let unit : x ≡ x * 2 ^ 0 + 0 = omega arith in unit ∙ ap (λ n. x * 2 ^ n + 0) (sym e)
 
-pub more_filled : (test : ℕ → Bool) (bits word piece count : ℕ) (reached : Bool) (lane_net low width net : ℕ) → 1 ≤ count → reached ≡ is_any test (count - 1) →
-    lane_net ≡ (if test (count - 1) then piece else if reached then 0 else lane bits word (count - 1)) → low ≡ fill test bits word piece (count - 1) → width ≡ (count - 1) * bits → net ≡ lane_net * 2 ^ width + low → net ≡ fill test bits word piece count
-more_filled test bits word piece count reached lane_net low width net some any is below wide whole =
-    let top = is ∙ ap (λ b. if test (count - 1) then piece else if b then 0 else lane bits word (count - 1)) any in
-    whole ∙ ap₂ (λ x y. x * 2 ^ y + low) top wide ∙ ap (λ n. (if test (count - 1) then piece else if is_any test (count - 1) then 0 else lane bits word (count - 1)) * 2 ^ ((count - 1) * bits) + n) below
+pub more_filled : (test : ℕ → Bool) (bits word piece count lane_net low width net : ℕ) → 1 ≤ count →
+    lane_net ≡ (if test (count - 1) then piece else lane bits word (count - 1)) → low ≡ fill test bits word piece (count - 1) → width ≡ (count - 1) * bits → net ≡ lane_net * 2 ^ width + low → net ≡ fill test bits word piece count
+more_filled test bits word piece count lane_net low width net some is below wide whole =
+    whole ∙ ap₂ (λ x y. x * 2 ^ y + low) is wide ∙ ap (λ n. (if test (count - 1) then piece else lane bits word (count - 1)) * 2 ^ ((count - 1) * bits) + n) below
     ∙ sym (ap (fill test bits word piece) (last_of count some))
 
-pub first_reached : (test : ℕ → Bool) (count : ℕ) (reached next : Bool) → count ≡ 1 → reached ≡ false → next ≡ (reached || test 0) → next ≡ is_any test count
-first_reached test count reached next one none is = is ∙ ap (λ b. b || test 0) none ∙ sym (ap (is_any test) one)
+-- ---- the lanes of such a word
 
-pub more_reached : (test : ℕ → Bool) (count : ℕ) (reached next : Bool) → 1 ≤ count → reached ≡ is_any test (count - 1) → next ≡ (reached || test (count - 1)) → next ≡ is_any test count
-more_reached test count reached next some any is = is ∙ ap (λ b. b || test (count - 1)) any ∙ sym (ap (is_any test) (last_of count some))
+-- a sum below a power of two
+sum_fits : (bits x low k : ℕ) → x < 2 ^ bits → low < 2 ^ (k * bits) → x * 2 ^ (k * bits) + low < 2 ^ (suc k * bits)
+sum_fits bits x low k small fits =
+    let size : suc k * bits ≡ bits + k * bits = omega arith in
+    let power : 2 ^ (suc k * bits) ≡ 2 ^ bits * 2 ^ (k * bits) = ap (λ n. 2 ^ n) size ∙ pow-add 2 bits (k * bits) in
+    let more : (x + 1) * 2 ^ (k * bits) ≤ 2 ^ bits * 2 ^ (k * bits) = mul-le-mul_right (2 ^ (k * bits)) (omega (arith, small)) in
+    let last = add-mul x 1 (2 ^ (k * bits)) in
+    let one = one-mul (2 ^ (k * bits)) in
+    omega (arith, power, more, last, one, fits)
+
+lane_small : (test : Bool) (bits word piece k : ℕ) → piece < 2 ^ bits → (if test then piece else lane bits word k) < 2 ^ bits
+lane_small true bits word piece k small = small
+lane_small false bits word piece k small = mod-lt (word / 2 ^ (k * bits)) (pow_pos bits)
+
+fill_fits : (test : ℕ → Bool) (bits word piece k : ℕ) → piece < 2 ^ bits → fill test bits word piece k < 2 ^ (k * bits)
+fill_fits test bits word piece zero small = pow_pos (0 * bits)
+fill_fits test bits word piece (suc k) small = sum_fits bits (if test k then piece else lane bits word k) (fill test bits word piece k) k (lane_small (test k) bits word piece k small) (fill_fits test bits word piece k small)
+
+-- what stands above leaves the lower lanes
+pub lower_lane : (bits x low k j : ℕ) → j < k → lane bits (x * 2 ^ (k * bits) + low) j ≡ lane bits low j
+lower_lane bits x low k j h =
+    let most : suc j * bits ≤ k * bits = mul-le-mul_right bits h in
+    let size : suc j * bits ≡ bits + j * bits = omega arith in
+    sym (field_of (x * 2 ^ (k * bits) + low) bits (j * bits)) ∙ ap (λ n. n / 2 ^ (j * bits)) (low_bits x low (bits + j * bits) (k * bits) (omega (arith, most, size))) ∙ field_of low bits (j * bits)
+
+pub top_lane : (bits x low k : ℕ) → x < 2 ^ bits → low < 2 ^ (k * bits) → lane bits (x * 2 ^ (k * bits) + low) k ≡ x
+top_lane bits x low k small fits = ap (λ n. n % 2 ^ bits) (div-mul-add x (2 ^ (k * bits)) low fits) ∙ mod-eq_of_lt small
+
+pub filled_lane : (test : ℕ → Bool) (bits word piece k j : ℕ) → piece < 2 ^ bits → j < k → lane bits (fill test bits word piece k) j ≡ (if test j then piece else lane bits word j)
+filled_lane test bits word piece zero j small h = absurd (omega (arith, h))
+filled_lane test bits word piece (suc k) j small h = by_same (λ less. filled_lane test bits word piece k j small less) (nat_eq j k) refl
+  where
+    by_same : (j < k → lane bits (fill test bits word piece k) j ≡ (if test j then piece else lane bits word j)) → (b : Bool) → nat_eq j k ≡ b → lane bits ((if test k then piece else lane bits word k) * 2 ^ (k * bits) + fill test bits word piece k) j ≡ (if test j then piece else lane bits word j)
+    by_same lower true e =
+        let same = eqb-true j k e in
+        ap (lane bits ((if test k then piece else lane bits word k) * 2 ^ (k * bits) + fill test bits word piece k)) same
+        ∙ top_lane bits (if test k then piece else lane bits word k) (fill test bits word piece k) k (lane_small (test k) bits word piece k small) (fill_fits test bits word piece k small)
+        ∙ sym (ap (λ n. if test n then piece else lane bits word n) same)
+    by_same lower false e =
+        let apart = eqb-false j k e in
+        lower_lane bits (if test k then piece else lane bits word k) (fill test bits word piece k) k j (omega (arith, h, apart))
+        ∙ lower (omega (arith, h, apart))
+
+-- and of one with the piece above it too
+pub whole_lane : (test : ℕ → Bool) (bits word piece count j : ℕ) → piece < 2 ^ bits → 1 ≤ count → j < count - 1 →
+    lane bits (piece * 2 ^ ((count - 1) * bits) + fill test bits word piece (count - 1)) j ≡ (if test j then piece else lane bits word j)
+whole_lane test bits word piece count j small some h = lower_lane bits piece (fill test bits word piece (count - 1)) (count - 1) j h ∙ filled_lane test bits word piece (count - 1) j small h
+
+pub last_lane : (test : ℕ → Bool) (bits word piece k : ℕ) → piece < 2 ^ bits → lane bits (piece * 2 ^ (k * bits) + fill test bits word piece k) k ≡ piece
+last_lane test bits word piece k small = top_lane bits piece (fill test bits word piece k) k small (fill_fits test bits word piece k small)

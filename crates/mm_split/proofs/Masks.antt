@@ -21,7 +21,7 @@ mask_fits test (suc k) = by_test (test k) (mask_fits test k) (pow-suc 2 k)
     by_test false h e = omega (arith, h, e)
 
 -- the bits of a sum below the power
-low_bits : (x m j k : ℕ) → j ≤ k → (x * 2 ^ k + m) % 2 ^ j ≡ m % 2 ^ j
+pub low_bits : (x m j k : ℕ) → j ≤ k → (x * 2 ^ k + m) % 2 ^ j ≡ m % 2 ^ j
 low_bits x m j k h =
     let split : j + (k - j) ≡ k = omega arith in
     let power : 2 ^ k ≡ 2 ^ j * 2 ^ (k - j) = ap (λ n. 2 ^ n) (sym split) ∙ pow-add 2 j (k - j) in

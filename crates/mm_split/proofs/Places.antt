@@ -1,10 +1,10 @@
--- The piece at a place of a list of pieces, and the word in which it stands above those below it.
-use Rattle.std.proofs.Common.{ℕ, zero, suc, ◌<◌, ◌≤◌, ◌≡◌, ◌+◌, ◌*◌, ◌%◌, ◌^◌, Bool, true, false, ◌&&◌, ◌||◌, List, [], ◌∷◌, ◌++◌, length, drop, slice_get, Some, if◌then◌else◌, nat_eq, nat_lt, arith, refl, sym, ap, ap₂, subst, ◌∙◌}
+-- The piece at a place of a list of pieces, and the word in which it is put there.
+use Rattle.std.proofs.Common.{ℕ, zero, suc, ◌<◌, ◌≤◌, ◌≡◌, ◌+◌, Bool, true, false, ◌&&◌, List, [], ◌∷◌, ◌++◌, length, drop, slice_get, Some, if◌then◌else◌, nat_eq, nat_lt, arith, refl, sym, ap, ap₂, subst, ◌∙◌}
 use Rattle.std.proofs.lemmas.List.{length-append}
-use Rattle.std.proofs.lemmas.Nat.{mod-pow-add}
-use Rattle.std.proofs.lemmas.Bool.{eqb-true, eqb-false, eq-eqb, ne_eqb, ltb-true, ltb-false, lt-ltb, le-ltb}
+use Rattle.std.proofs.lemmas.Bool.{eqb-true, eqb-false, eq-eqb, ne_eqb, ltb-true, ltb-false}
 use Rattle.histories.specs.History.{one_if, only_if}
-use Rattle.mm_split.specs.Pieces.{lane, count_of, stands_at, pick, is_any, fill, those}
+use Rattle.mm_split.specs.Pieces.{count_of, stands_at, pick, those}
+use Rattle.mm_links.specs.Splits.{piece_at, IsPut}
 use Rattle.mm_split.proofs.Masks.{those_count}
 
 -- ---- the piece at a place
@@ -57,12 +57,7 @@ none_picked test place (suc k) h = by_test (test k) h (none_picked test place k)
     by_test true g rest = rw (ne_eqb (count_of test k) place (λ e. absurd (omega (arith, e, g)))) (rest (omega (arith, g)))
     by_test false g rest = rest (omega (arith, g))
 
--- ---- a word with a piece at a place
-
--- a piece over the pieces below it, of so many bits, at the first of these places; with no place, so many pieces of the word
-abbrev pub put_low : ℕ → List ℕ → ℕ → ℕ → ℕ → ℕ
-put_low bits [] word piece count = word % 2 ^ (count * bits)
-put_low bits (place ∷ later) word piece count = word % 2 ^ (place * bits) + piece * 2 ^ (place * bits)
+-- ---- the list of the pieces from a place on
 
 drop_all : {A : Type 0} (n : ℕ) (xs : List A) → length xs ≤ n → drop n xs ≡ []
 drop_all zero [] h = refl
@@ -76,75 +71,69 @@ drop_end zero (x ∷ xs) ys h = absurd (omega (arith, h))
 drop_end (suc n) [] ys h = absurd (omega (arith, h))
 drop_end (suc n) (x ∷ xs) ys h = drop_end n xs ys (omega (arith, h))
 
+-- of the first pieces the first one on this list is meant, and none below it; with none on the list none is meant
+abbrev pub Lies : (ℕ → Bool) → ℕ → List ℕ → Type 0
+Lies meant k [] = (q : ℕ) → q < k → meant q ≡ false
+Lies meant k (p ∷ later) = (p < k) × (meant p ≡ true) × ((q : ℕ) → q < p → meant q ≡ false)
+
 -- what stands behind a place that is there doesn't matter
-pub put_front : (bits : ℕ) (xs ys : List ℕ) (n word piece count more : ℕ) → n < length xs → put_low bits (drop n (xs ++ ys)) word piece more ≡ put_low bits (drop n xs) word piece count
-put_front bits [] ys n word piece count more h = absurd (omega (arith, h))
-put_front bits (x ∷ xs) ys zero word piece count more h = refl
-put_front bits (x ∷ xs) ys (suc n) word piece count more h = put_front bits xs ys n word piece count more (omega (arith, h))
+lies_front : (meant : ℕ → Bool) (k : ℕ) (xs ys : List ℕ) (n : ℕ) → n < length xs → Lies meant k (drop n xs) → Lies meant (suc k) (drop n (xs ++ ys))
+lies_front meant k [] ys n h lies = absurd (omega (arith, h))
+lies_front meant k (x ∷ xs) ys zero h lies = (let low = lies.0 in omega (arith, low), lies.1, lies.2)
+lies_front meant k (x ∷ xs) ys (suc n) h lies = lies_front meant k xs ys n (omega (arith, h)) lies
 
-or_false : (a : Bool) → (a || false) ≡ a
-or_false true = refl
-or_false false = refl
+none_meant : (meant : ℕ → Bool) (k : ℕ) (xs : List ℕ) → xs ≡ [] → Lies meant k xs → (q : ℕ) → q < k → meant q ≡ false
+none_meant meant k [] e lies = lies
+none_meant meant k (x ∷ xs) e lies = cc
 
-there_now : (count place : ℕ) (a : Bool) → nat_lt place count ≡ a → (e : Bool) → nat_eq count place ≡ e → (a || e) ≡ nat_lt place (count + 1)
-there_now count place true low e is = let less = ltb-true place count low in sym (lt-ltb place (count + 1) (omega (arith, less)))
-there_now count place false high true is = let same = eqb-true count place is in sym (lt-ltb place (count + 1) (omega (arith, same)))
-there_now count place false high false is = let least = ltb-false place count high in let apart = eqb-false count place is in sym (le-ltb place (count + 1) (omega (arith, least, apart)))
-
-there_step : (count place : ℕ) (b : Bool) → (nat_lt place count || (b && nat_eq count place)) ≡ nat_lt place (count + one_if b)
-there_step count place true = there_now count place (nat_lt place count) refl (nat_eq count place) refl
-there_step count place false = or_false (nat_lt place count) ∙ ap (nat_lt place) (omega arith)
-
-pub any_there : (test : ℕ → Bool) (place k : ℕ) → is_any (stands_at test place) k ≡ nat_lt place (count_of test k)
-any_there test place zero = sym (le-ltb place 0 (omega arith))
-any_there test place (suc k) = ap (λ b. b || stands_at test place k) (any_there test place k) ∙ there_step (count_of test k) place (test k)
-
--- the lowest pieces with one more
-more_low : (bits word k : ℕ) → lane bits word k * 2 ^ (k * bits) + word % 2 ^ (k * bits) ≡ word % 2 ^ (suc k * bits)
-more_low bits word k = let sum : bits + k * bits ≡ suc k * bits = omega arith in sym (mod-pow-add word bits (k * bits)) ∙ ap (λ n. word % 2 ^ n) sum
-
-none_low : (bits word : ℕ) → 0 ≡ word % 2 ^ (0 * bits)
-none_low bits word = let e : 0 * bits ≡ 0 = omega arith in let none : word % 2 ^ 0 ≡ 0 = omega arith in sym (ap (λ n. word % 2 ^ n) e ∙ none)
-
-unmoved : (bits piece k rest : ℕ) (a : Bool) → (if a && false then piece else 0) * 2 ^ (k * bits) + rest ≡ rest
-unmoved bits piece k rest true = omega arith
-unmoved bits piece k rest false = omega arith
-
-filled_here : (test : ℕ → Bool) (place bits word piece k : ℕ) (a : Bool) → test k ≡ a → (e : Bool) → nat_eq (count_of test k) place ≡ e → count_of test k ≤ place → length (those test k) ≡ count_of test k →
-    (if a && e then piece else lane bits word k) * 2 ^ (k * bits) + word % 2 ^ (k * bits) ≡ put_low bits (drop place (those test k ++ only_if (test k) k)) word piece (suc k)
-filled_here test place bits word piece k true is true at least count =
-    let same = eqb-true (count_of test k) place at in
-    turned (piece * 2 ^ (k * bits)) (word % 2 ^ (k * bits)) ∙ sym (ap (λ l. put_low bits l word piece (suc k)) (drop_end place (those test k) (only_if (test k) k) (omega (arith, same, count)) ∙ ap (λ b. only_if b k) is))
+none_with : (meant : ℕ → Bool) (k : ℕ) → ((q : ℕ) → q < k → meant q ≡ false) → meant k ≡ false → (q : ℕ) → q < suc k → meant q ≡ false
+none_with meant k below here q h = by_same (nat_eq q k) refl
   where
-    turned : (x y : ℕ) → x + y ≡ y + x
-    turned x y = omega arith
-filled_here test place bits word piece k true is false at least count =
+    by_same : (b : Bool) → nat_eq q k ≡ b → meant q ≡ false
+    by_same true e = ap meant (eqb-true q k e) ∙ here
+    by_same false e = let apart = eqb-false q k e in below q (omega (arith, h, apart))
+
+lies_here : (test : ℕ → Bool) (place k : ℕ) → count_of test k ≤ place → length (those test k) ≡ count_of test k → ((q : ℕ) → q < k → stands_at test place q ≡ false) →
+    (a : Bool) → test k ≡ a → (e : Bool) → nat_eq (count_of test k) place ≡ e → Lies (stands_at test place) (suc k) (drop place (those test k ++ only_if (test k) k))
+lies_here test place k least count below true is true at =
+    let same = eqb-true (count_of test k) place at in
+    subst (Lies (stands_at test place) (suc k)) (sym (drop_end place (those test k) (only_if (test k) k) (omega (arith, same, count)) ∙ ap (λ b. only_if b k) is))
+    (omega arith, ap₂ (λ x y. x && y) is at, below)
+lies_here test place k least count below true is false at =
     let apart = eqb-false (count_of test k) place at in
     let size : length (those test k ++ only_if (test k) k) ≡ length (those test k) + 1 = length-append (those test k) (only_if (test k) k) ∙ ap (λ b. length (those test k) + length (only_if b k)) is in
-    more_low bits word k ∙ sym (ap (λ l. put_low bits l word piece (suc k)) (drop_all place (those test k ++ only_if (test k) k) (omega (arith, size, apart, least, count))))
-filled_here test place bits word piece k false is e at least count =
+    subst (Lies (stands_at test place) (suc k)) (sym (drop_all place (those test k ++ only_if (test k) k) (omega (arith, size, apart, least, count))))
+    (none_with (stands_at test place) k below (ap₂ (λ x y. x && y) is at))
+lies_here test place k least count below false is e at =
     let size : length (those test k ++ only_if (test k) k) ≡ length (those test k) + 0 = length-append (those test k) (only_if (test k) k) ∙ ap (λ b. length (those test k) + length (only_if b k)) is in
-    more_low bits word k ∙ sym (ap (λ l. put_low bits l word piece (suc k)) (drop_all place (those test k ++ only_if (test k) k) (omega (arith, size, least, count))))
+    subst (Lies (stands_at test place) (suc k)) (sym (drop_all place (those test k ++ only_if (test k) k) (omega (arith, size, least, count))))
+    (none_with (stands_at test place) k below (ap (λ x. x && nat_eq (count_of test k) place) is))
 
-filled_step : (test : ℕ → Bool) (place bits word piece k : ℕ) → fill (stands_at test place) bits word piece k ≡ put_low bits (drop place (those test k)) word piece k →
-    (b : Bool) → nat_lt place (count_of test k) ≡ b → fill (stands_at test place) bits word piece (suc k) ≡ put_low bits (drop place (those test (suc k))) word piece (suc k)
-filled_step test place bits word piece k rest true low =
+lies_step : (test : ℕ → Bool) (place k : ℕ) → Lies (stands_at test place) k (drop place (those test k)) → (b : Bool) → nat_lt place (count_of test k) ≡ b → Lies (stands_at test place) (suc k) (drop place (those test (suc k)))
+lies_step test place k rest true low =
     let less = ltb-true place (count_of test k) low in
     let count = those_count test k in
-    let reached : is_any (stands_at test place) k ≡ true = any_there test place k ∙ low in
-    let apart : nat_eq (count_of test k) place ≡ false = ne_eqb (count_of test k) place (λ e. absurd (omega (arith, e, less))) in
-    ap₂ (λ a b. (if test k && a then piece else if b then 0 else lane bits word k) * 2 ^ (k * bits) + fill (stands_at test place) bits word piece k) apart reached
-    ∙ unmoved bits piece k (fill (stands_at test place) bits word piece k) (test k)
-    ∙ rest
-    ∙ sym (put_front bits (those test k) (only_if (test k) k) place word piece k (suc k) (omega (arith, less, count)))
-filled_step test place bits word piece k rest false high =
+    lies_front (stands_at test place) k (those test k) (only_if (test k) k) place (omega (arith, less, count)) rest
+lies_step test place k rest false high =
     let least = ltb-false place (count_of test k) high in
     let count = those_count test k in
-    let before : fill (stands_at test place) bits word piece k ≡ word % 2 ^ (k * bits) = rest ∙ ap (λ l. put_low bits l word piece k) (drop_all place (those test k) (omega (arith, least, count))) in
-    ap₂ (λ b low. (if stands_at test place k then piece else if b then 0 else lane bits word k) * 2 ^ (k * bits) + low) (any_there test place k ∙ high) before
-    ∙ filled_here test place bits word piece k (test k) refl (nat_eq (count_of test k) place) refl least count
+    let below = none_meant (stands_at test place) k (drop place (those test k)) (drop_all place (those test k) (omega (arith, least, count))) rest in
+    lies_here test place k least count below (test k) refl (nat_eq (count_of test k) place) refl
 
-pub filled : (test : ℕ → Bool) (place bits word piece k : ℕ) → fill (stands_at test place) bits word piece k ≡ put_low bits (drop place (those test k)) word piece k
-filled test zero bits word piece zero = none_low bits word
-filled test (suc place) bits word piece zero = none_low bits word
-filled test place bits word piece (suc k) = filled_step test place bits word piece k (filled test place bits word piece k) (nat_lt place (count_of test k)) refl
+pub lies : (test : ℕ → Bool) (place k : ℕ) → Lies (stands_at test place) k (drop place (those test k))
+lies test zero zero = λ q h. absurd (omega (arith, h))
+lies test (suc place) zero = λ q h. absurd (omega (arith, h))
+lies test place (suc k) = lies_step test place k (lies test place k) (nat_lt place (count_of test k)) refl
+
+-- ---- a piece that is put there
+
+-- the piece that is meant is this one, and those below the last one that aren't meant stay
+pub put_there : (bytes : ℕ) (meant : ℕ → Bool) (k before piece after : ℕ) (places : List ℕ) → Lies meant k places →
+    ((p : ℕ) → p < k → meant p ≡ true → piece_at bytes after p ≡ piece) → ((q : ℕ) → suc q < k → meant q ≡ false → piece_at bytes after q ≡ piece_at bytes before q) → IsPut bytes places before piece after
+put_there bytes meant k before piece after [] lies own kept = tt
+put_there bytes meant k before piece after (p ∷ later) lies own kept = (own p lies.0 lies.1, λ q less. (let low = lies.0 in kept q (omega (arith, low, less)) (lies.2 q less)))
+
+pub put_front : (bytes before piece after : ℕ) (xs ys : List ℕ) (n : ℕ) → n < length xs → IsPut bytes (drop n xs) before piece after → IsPut bytes (drop n (xs ++ ys)) before piece after
+put_front bytes before piece after [] ys n h put = absurd (omega (arith, h))
+put_front bytes before piece after (x ∷ xs) ys zero h put = put
+put_front bytes before piece after (x ∷ xs) ys (suc n) h put = put_front bytes before piece after xs ys n (omega (arith, h)) put

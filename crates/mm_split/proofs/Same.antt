@@ -1,5 +1,5 @@
 -- What is told of pieces that are meant alike.
-use Rattle.std.proofs.Common.{ℕ, zero, suc, ◌<◌, ◌≤◌, ◌≡◌, ◌+◌, ◌-◌, ◌*◌, ◌/◌, ◌%◌, ◌^◌, Bool, true, false, ◌&&◌, ◌||◌, List, [], ◌∷◌, ◌++◌, length, map, drop, slice_get, Some, if◌then◌else◌, ◌==◌, nat_eq, arith, refl, sym, ap, ap₂, subst, ◌∙◌}
+use Rattle.std.proofs.Common.{ℕ, zero, suc, ◌<◌, ◌≤◌, ◌≡◌, ◌+◌, ◌-◌, ◌*◌, ◌/◌, ◌%◌, ◌^◌, Bool, true, false, ◌&&◌, List, [], ◌∷◌, ◌++◌, length, map, drop, slice_get, Some, if◌then◌else◌, ◌==◌, nat_eq, arith, refl, sym, ap, ap₂, subst, ◌∙◌}
 use Rattle.std.proofs.lemmas.Bool.{eqb-true, eqb-false, eq-eqb, ne_eqb}
 use Rattle.std.proofs.lemmas.Nat.{pow-add}
 use Rattle.std.proofs.Math.Nat.{pow-suc, mod-eq_of_lt}
@@ -7,9 +7,9 @@ use Rattle.std.proofs.Math.Pow.{pow_mono}
 use Rattle.histories.specs.History.{one_if, only_if}
 use Rattle.mm_runs.specs.Operations.{Beat}
 use Rattle.mm_machines.specs.Machines.{single, joined}
-use Rattle.mm_split.specs.Pieces.{lane, is_marked, mask_of, count_of, stands_at, pick, is_any, fill, those, or_first_mask}
-use Rattle.mm_links.specs.Splits.{put_piece}
-use Rattle.mm_split.proofs.Places.{put_low, put_front, filled}
+use Rattle.mm_split.specs.Pieces.{lane, is_marked, mask_of, count_of, stands_at, pick, fill, those, or_first_mask}
+use Rattle.mm_links.specs.Splits.{piece_at, IsPut}
+use Rattle.mm_split.proofs.Places.{put_front}
 use Rattle.mm_split.proofs.Marks.{last_of}
 use Rattle.std.proofs.lemmas.List.{length-append}
 use Rattle.mm_split.proofs.Masks.{marks, mask_fits}
@@ -96,39 +96,38 @@ chosen_count true [] = refl
 chosen_count false [] = refl
 chosen_count needed (x ∷ xs) = rw (ne_eqb (suc (length xs)) 0 (λ e. absurd (omega (arith, e)))) refl
 
-pub any_same : (test other : ℕ → Bool) (k : ℕ) → ((j : ℕ) → j < k → test j ≡ other j) → is_any test k ≡ is_any other k
-any_same test other zero h = refl
-any_same test other (suc k) h = ap₂ (λ a b. a || b) (any_same test other k (λ j less. h j (omega (arith, less)))) (h k (omega arith))
-
 pub fill_same : (test other : ℕ → Bool) (bits word piece k : ℕ) → ((j : ℕ) → j < k → test j ≡ other j) → fill test bits word piece k ≡ fill other bits word piece k
 fill_same test other bits word piece zero h = refl
 fill_same test other bits word piece (suc k) h =
-    ap₂ (λ a low. (if a then piece else if is_any test k then 0 else lane bits word k) * 2 ^ (k * bits) + low) (h k (omega arith)) (fill_same test other bits word piece k (λ j less. h j (omega (arith, less))))
-    ∙ ap (λ b. (if other k then piece else if b then 0 else lane bits word k) * 2 ^ (k * bits) + fill other bits word piece k) (any_same test other k (λ j less. h j (omega (arith, less))))
+    ap₂ (λ a low. (if a then piece else lane bits word k) * 2 ^ (k * bits) + low) (h k (omega arith)) (fill_same test other bits word piece k (λ j less. h j (omega (arith, less))))
 
--- the first pieces of a word that is gathered, by the list of its pieces
-pub filled_by : (mask place bits word piece whole k : ℕ) → k ≤ whole → fill (is_marked (mask_of (stands_at (is_marked mask) place) whole)) bits word piece k ≡ put_low bits (drop place (those (is_marked mask) k)) word piece k
+-- the first pieces of a word that is gathered, by the piece that stands at the place
+pub filled_by : (mask place bits word piece whole k : ℕ) → k ≤ whole → fill (is_marked (mask_of (stands_at (is_marked mask) place) whole)) bits word piece k ≡ fill (stands_at (is_marked mask) place) bits word piece k
 filled_by mask place bits word piece whole k h =
     fill_same (is_marked (mask_of (stands_at (is_marked mask) place) whole)) (stands_at (is_marked mask) place) bits word piece k (λ j less. marks (stands_at (is_marked mask) place) whole j (omega (arith, less, h)))
-    ∙ filled (is_marked mask) place bits word piece k
 
--- a piece at its place, in bytes
-pub put_is : (bytes word piece whole : ℕ) (places : List ℕ) → word < 2 ^ (whole * (bytes * 8)) → piece < 2 ^ (bytes * 8) → put_low (bytes * 8) places word piece whole ≡ put_piece bytes places word (piece % 256 ^ bytes)
-put_is bytes word piece whole [] h g = mod-eq_of_lt h
-put_is bytes word piece whole (place ∷ later) h g =
-    let small : piece % 256 ^ bytes ≡ piece = mod-eq_of_lt (subst (λ n. piece < n) (byte_power bytes) g) in
-    ap₂ (λ x y. word % x + y * x) (byte_place place bytes) (sym small)
+-- ---- pieces in bytes
+
+pub piece_small : (bytes piece : ℕ) → piece < 2 ^ (bytes * 8) → piece % 256 ^ bytes ≡ piece
+piece_small bytes piece h = mod-eq_of_lt (subst (λ n. piece < n) (byte_power bytes) h)
+
+pub own_piece : (bytes after p piece other : ℕ) (b : Bool) → piece < 2 ^ (bytes * 8) → lane (bytes * 8) after p ≡ (if b then piece else other) → b ≡ true → piece_at bytes after p ≡ piece % 256 ^ bytes
+own_piece bytes after p piece other b small is e = sym (byte_lane bytes after p) ∙ is ∙ ap (λ t. if t then piece else other) e ∙ sym (piece_small bytes piece small)
+
+pub kept_piece : (bytes before after q piece : ℕ) (b : Bool) → lane (bytes * 8) after q ≡ (if b then piece else lane (bytes * 8) before q) → b ≡ false → piece_at bytes after q ≡ piece_at bytes before q
+kept_piece bytes before after q piece b is e = sym (byte_lane bytes after q) ∙ is ∙ ap (λ t. if t then piece else lane (bytes * 8) before q) e ∙ byte_lane bytes before q
 
 -- with a piece behind the one that comes, the last piece isn't reached
-pub low_is : (mask place bits word piece whole : ℕ) → 1 ≤ whole → suc place < length (those (is_marked mask) whole) →
-    put_low bits (drop place (those (is_marked mask) (whole - 1))) word piece (whole - 1) ≡ put_low bits (drop place (those (is_marked mask) whole)) word piece whole
-low_is mask place bits word piece whole some h =
+pub low_put : (mask place bytes before piece after whole : ℕ) → 1 ≤ whole → suc place < length (those (is_marked mask) whole) →
+    IsPut bytes (drop place (those (is_marked mask) (whole - 1))) before piece after → IsPut bytes (drop place (those (is_marked mask) whole)) before piece after
+low_put mask place bytes before piece after whole some h put =
     let test = is_marked mask in
     let last = last_of whole some in
     let split : those test whole ≡ those test (whole - 1) ++ only_if (test (whole - 1)) (whole - 1) = ap (those test) last in
     let size : length (those test whole) ≡ length (those test (whole - 1)) + length (only_if (test (whole - 1)) (whole - 1)) = ap length split ∙ length-append (those test (whole - 1)) (only_if (test (whole - 1)) (whole - 1)) in
     let one = at_most_one (test (whole - 1)) (whole - 1) in
-    sym (put_front bits (those test (whole - 1)) (only_if (test (whole - 1)) (whole - 1)) place word piece (whole - 1) whole (omega (arith, h, size, one))) ∙ ap (λ l. put_low bits (drop place l) word piece whole) (sym split)
+    subst (λ l. IsPut bytes (drop place l) before piece after) (sym split)
+    (put_front bytes before piece after (those test (whole - 1)) (only_if (test (whole - 1)) (whole - 1)) place (omega (arith, h, size, one)) put)
   where
     at_most_one : (b : Bool) (x : ℕ) → length (only_if b x) ≤ 1
     at_most_one true x = omega arith

@@ -18,19 +18,18 @@ use Rattle.command_nets.specs.Groups.{is_shown, first_value}
 use Rattle.link_core.specs.Form.{Form}
 use Rattle.mm_split.specs.declared.split.Split.{Split}
 use Rattle.mm_split.specs.declared.split.SplitKept.{SplitKept}
-use Rattle.mm_split.specs.Pieces.{has_lane, is_marked, count_of, those}
+use Rattle.mm_split.specs.Pieces.{lane, has_lane, is_marked, count_of, stands_at, fill, those}
 use Rattle.mm_split.specs.Parts.{shows_part, count_in, IsAbove, IsBeatBelow, number_of, here_of, touched_of}
-use Rattle.mm_links.specs.Splits.{SplitState, RunsAsSplit, opens, completes, added, nothing, put_piece, split_at, asked_at, are_same}
+use Rattle.mm_links.specs.Splits.{SplitState, RunsAsSplit, opens, completes, piece_at, IsPut, AddsTo, split_at, asked_at, are_same}
 use Rattle.mm_split.specs.SplitNets.{IsSplitForm, SplitCommand, SplitAnswer}
 use Rattle.mm_split.specs.Registers.{group_of, low_group_of}
 use Rattle.mm_split.specs.Comings.{NextAre, TellsComing}
 use Rattle.mm_links.specs.Selects.{takes_read}
 use Rattle.mm_split.proofs.Masks.{those_or_first, same_by_masks, those_count}
 use Rattle.mm_split.proofs.Marks.{count_most}
-use Rattle.mm_split.proofs.Same.{or_first_fits, filled_by, put_is, low_is}
-use Rattle.mm_split.proofs.Places.{put_low}
-use Rattle.mm_runs.specs.Legal.{Word}
-use Rattle.std.proofs.Math.Pow.{pow_mono}
+use Rattle.mm_split.proofs.Same.{or_first_fits, filled_by, own_piece, kept_piece, low_put}
+use Rattle.mm_split.proofs.Places.{lies, put_there}
+use Rattle.mm_split.proofs.Fills.{filled_lane, whole_lane, last_lane}
 use Rattle.mm_split.proofs.Beat.{asked_is, parts_count, part_at, beat_is}
 
 -- so many narrow words make a wide one
@@ -98,12 +97,6 @@ turned_low false e = refl
 counted_few : (t : Bool) (reads room : ℕ) → reads ≤ room → (t ≡ true → reads < room) → reads + one_if t ≤ room
 counted_few true reads room few h = let less = h refl in omega (arith, less)
 counted_few false reads room few h = omega (arith, few)
-
-gathered_on : (v t : Bool) (next more old : Word) (low code : ℕ) → next.word ≡ (if v && t then 0 else if v then low else old.word) → next.code ≡ (if v && t then 0 else if v then code else old.code) → (t ≡ false → low ≡ more.word) → code ≡ more.code →
-    next ≡ (if v then (if t then nothing else more) else old)
-gathered_on true true next more old low code e g h k = rw (e, g) refl
-gathered_on true false next more old low code e g h k = let w = e ∙ h refl in let r = g ∙ k in rw (w, r) refl
-gathered_on false t next more old low code e g h k = rw (e, g) refl
 
 module _ (split : Split) (form : Form) (kept : SplitKept) (wait up : NetValue) (answer back : AnswerNets) (netlist : Netlist) (p : IsSplitForm split form) (f : SplitCommand split kept.from kept.part.below kept netlist) (b : SplitAnswer split kept wait answer up back netlist) (run : Run) (endless : IsEndlessRun netlist run) where
   valued : (c : ℕ) → IsValuation netlist (cycle_of run c)
@@ -302,41 +295,86 @@ module _ (split : Split) (form : Form) (kept : SplitKept) (wait up : NetValue) (
 
   -- ---- the word that is gathered
 
-  kept_fits : (c : ℕ) → run.net c kept.registers.word.number < 2 ^ ((kept.sizes.pieces - 1) * (kept.sizes.narrow_bytes * 8))
-  kept_fits c = width_fits netlist kept.registers.word ((kept.sizes.pieces - 1) * (kept.sizes.narrow_bytes * 8)) f.nets.word (cycle_of run c) (valued c)
+  abbrev meant : ℕ → ℕ → Bool
+  meant c = stands_at (is_marked (run.net c kept.registers.set.number)) (run.net c kept.registers.come.number)
 
-  whole_fits : (c : ℕ) → run.net c kept.registers.word.number < 2 ^ (kept.sizes.pieces * (kept.sizes.narrow_bytes * 8))
-  whole_fits c = let fits = kept_fits c in let more : 2 ^ ((kept.sizes.pieces - 1) * (kept.sizes.narrow_bytes * 8)) ≤ 2 ^ (kept.sizes.pieces * (kept.sizes.narrow_bytes * 8)) = pow_mono (mul-le-mul_right (kept.sizes.narrow_bytes * 8) (omega arith)) in omega (arith, fits, more)
+  piece_fits : (c : ℕ) → run.net c answer.word.number < 2 ^ (kept.sizes.narrow_bytes * 8)
+  piece_fits c = b.fits (cycle_of run c) (valued c)
 
-  put_word : (c : ℕ) → put_low (kept.sizes.narrow_bytes * 8) (drop (state.come c) (state.set c)) (run.net c kept.registers.word.number) (run.net c answer.word.number) kept.sizes.pieces ≡ (added below state c).word
-  put_word c =
-      put_is kept.sizes.narrow_bytes (run.net c kept.registers.word.number) (run.net c answer.word.number) kept.sizes.pieces (drop (state.come c) (state.set c)) (whole_fits c) (b.fits (cycle_of run c) (valued c))
-      ∙ ap (λ n. put_piece n (drop (state.come c) (state.set c)) (run.net c kept.registers.word.number) (run.net c answer.word.number % 256 ^ n)) (sym narrow_is)
+  filled_low : (c : ℕ) → fill (is_marked (here_of kept.sizes (run.net c kept.registers.set.number) (run.net c kept.registers.come.number))) (kept.sizes.narrow_bytes * 8) (run.net c kept.registers.word.number) (run.net c answer.word.number) (kept.sizes.pieces - 1)
+      ≡ fill (meant c) (kept.sizes.narrow_bytes * 8) (run.net c kept.registers.word.number) (run.net c answer.word.number) (kept.sizes.pieces - 1)
+  filled_low c = filled_by (run.net c kept.registers.set.number) (run.net c kept.registers.come.number) (kept.sizes.narrow_bytes * 8) (run.net c kept.registers.word.number) (run.net c answer.word.number) kept.sizes.pieces (kept.sizes.pieces - 1) (omega arith)
 
-  word_is : (c : ℕ) → run.net c b.coming.word.number ≡ (added below state c).word
-  word_is c =
-      (tells c).word ∙ filled_by (run.net c kept.registers.set.number) (run.net c kept.registers.come.number) (kept.sizes.narrow_bytes * 8) (run.net c kept.registers.word.number) (run.net c answer.word.number) kept.sizes.pieces kept.sizes.pieces (omega arith)
-      ∙ put_word c
+  -- the word above
+  word_put : (c : ℕ) → IsPut kept.sizes.narrow_bytes (drop (state.come c) (state.set c)) (run.net c kept.registers.word.number) (run.net c answer.word.number % 256 ^ kept.sizes.narrow_bytes) (run.net c b.coming.word.number)
+  word_put c =
+      put_there kept.sizes.narrow_bytes (meant c) kept.sizes.pieces (run.net c kept.registers.word.number) (run.net c answer.word.number % 256 ^ kept.sizes.narrow_bytes) (run.net c b.coming.word.number) (drop (state.come c) (state.set c))
+      (lies (is_marked (run.net c kept.registers.set.number)) (run.net c kept.registers.come.number) kept.sizes.pieces)
+      (λ p low is. own p low is (nat_lt p (kept.sizes.pieces - 1)) refl)
+      (λ q low is. kept_piece kept.sizes.narrow_bytes (run.net c kept.registers.word.number) (run.net c b.coming.word.number) q (run.net c answer.word.number) (meant c q) (lower q (omega (arith, low))) is)
+    where
+      word_is : run.net c b.coming.word.number ≡ run.net c answer.word.number * 2 ^ ((kept.sizes.pieces - 1) * (kept.sizes.narrow_bytes * 8)) + fill (meant c) (kept.sizes.narrow_bytes * 8) (run.net c kept.registers.word.number) (run.net c answer.word.number) (kept.sizes.pieces - 1)
+      word_is = (tells c).word ∙ ap (λ n. run.net c answer.word.number * 2 ^ ((kept.sizes.pieces - 1) * (kept.sizes.narrow_bytes * 8)) + n) (filled_low c)
 
-  low_word : (c : ℕ) → completes state c ≡ false → run.net c b.coming.low.number ≡ (added below state c).word
-  low_word c e =
+      lower : (q : ℕ) → q < kept.sizes.pieces - 1 → lane (kept.sizes.narrow_bytes * 8) (run.net c b.coming.word.number) q ≡ (if meant c q then run.net c answer.word.number else lane (kept.sizes.narrow_bytes * 8) (run.net c kept.registers.word.number) q)
+      lower q low =
+          ap (λ n. lane (kept.sizes.narrow_bytes * 8) n q) word_is
+          ∙ whole_lane (meant c) (kept.sizes.narrow_bytes * 8) (run.net c kept.registers.word.number) (run.net c answer.word.number) kept.sizes.pieces q (piece_fits c) some_pieces low
+
+      own : (p : ℕ) → p < kept.sizes.pieces → meant c p ≡ true → (t : Bool) → nat_lt p (kept.sizes.pieces - 1) ≡ t → piece_at kept.sizes.narrow_bytes (run.net c b.coming.word.number) p ≡ run.net c answer.word.number % 256 ^ kept.sizes.narrow_bytes
+      own p low is true e = own_piece kept.sizes.narrow_bytes (run.net c b.coming.word.number) p (run.net c answer.word.number) _ (meant c p) (piece_fits c) (lower p (ltb-true p (kept.sizes.pieces - 1) e)) is
+      own p low is false e =
+          let most = ltb-false p (kept.sizes.pieces - 1) e in
+          let last : p ≡ kept.sizes.pieces - 1 = omega (arith, most, low) in
+          own_piece kept.sizes.narrow_bytes (run.net c b.coming.word.number) p (run.net c answer.word.number) 0 true (piece_fits c)
+          (ap (lane (kept.sizes.narrow_bytes * 8) (run.net c b.coming.word.number)) last ∙ ap (λ n. lane (kept.sizes.narrow_bytes * 8) n (kept.sizes.pieces - 1)) word_is
+          ∙ last_lane (meant c) (kept.sizes.narrow_bytes * 8) (run.net c kept.registers.word.number) (run.net c answer.word.number) (kept.sizes.pieces - 1) (piece_fits c)) refl
+
+  -- what is kept of it
+  low_put_there : (c : ℕ) → completes state c ≡ false → IsPut kept.sizes.narrow_bytes (drop (state.come c) (state.set c)) (run.net c kept.registers.word.number) (run.net c answer.word.number % 256 ^ kept.sizes.narrow_bytes) (run.net c b.coming.low.number)
+  low_put_there c e =
       let least = ltb-false (length (state.set c)) (suc (suc (run.net c kept.registers.come.number))) e in
-      (tells c).low ∙ filled_by (run.net c kept.registers.set.number) (run.net c kept.registers.come.number) (kept.sizes.narrow_bytes * 8) (run.net c kept.registers.word.number) (run.net c answer.word.number) kept.sizes.pieces (kept.sizes.pieces - 1) (omega arith)
-      ∙ low_is (run.net c kept.registers.set.number) (run.net c kept.registers.come.number) (kept.sizes.narrow_bytes * 8) (run.net c kept.registers.word.number) (run.net c answer.word.number) kept.sizes.pieces some_pieces (omega (arith, least))
-      ∙ put_word c
+      low_put (run.net c kept.registers.set.number) (run.net c kept.registers.come.number) kept.sizes.narrow_bytes (run.net c kept.registers.word.number) (run.net c answer.word.number % 256 ^ kept.sizes.narrow_bytes) (run.net c b.coming.low.number) kept.sizes.pieces some_pieces (omega (arith, least))
+      (put_there kept.sizes.narrow_bytes (meant c) (kept.sizes.pieces - 1) (run.net c kept.registers.word.number) (run.net c answer.word.number % 256 ^ kept.sizes.narrow_bytes) (run.net c b.coming.low.number) (drop (run.net c kept.registers.come.number) (those (is_marked (run.net c kept.registers.set.number)) (kept.sizes.pieces - 1)))
+      (lies (is_marked (run.net c kept.registers.set.number)) (run.net c kept.registers.come.number) (kept.sizes.pieces - 1))
+      (λ p low is. own_piece kept.sizes.narrow_bytes (run.net c b.coming.low.number) p (run.net c answer.word.number) _ (meant c p) (piece_fits c) (lower p low) is)
+      (λ q low is. kept_piece kept.sizes.narrow_bytes (run.net c kept.registers.word.number) (run.net c b.coming.low.number) q (run.net c answer.word.number) (meant c q) (lower q (omega (arith, low))) is))
+    where
+      lower : (q : ℕ) → q < kept.sizes.pieces - 1 → lane (kept.sizes.narrow_bytes * 8) (run.net c b.coming.low.number) q ≡ (if meant c q then run.net c answer.word.number else lane (kept.sizes.narrow_bytes * 8) (run.net c kept.registers.word.number) q)
+      lower q low =
+          ap (λ n. lane (kept.sizes.narrow_bytes * 8) n q) ((tells c).low ∙ filled_low c)
+          ∙ filled_lane (meant c) (kept.sizes.narrow_bytes * 8) (run.net c kept.registers.word.number) (run.net c answer.word.number) (kept.sizes.pieces - 1) q (piece_fits c) low
 
-  pub word : (c : ℕ) → run.net c back.word.number ≡ (added below state c).word
-  word c = ap (λ (n : NetValue). run.net c n.number) b.word_is ∙ word_is c
+  code_after : (c : ℕ) → (state.gathered (suc c)).code ≡ (if is_raised (run.net c answer.valid.number) && completes state c then 0 else if is_raised (run.net c answer.valid.number) then run.net c b.coming.code.number else (state.gathered c).code)
+  code_after c =
+      ap (λ l. first_value (drop 5 l)) (step c) ∙ (nexts c).code
+      ∙ ap (λ t. if t then 0 else if is_raised (run.net c answer.valid.number) then run.net c b.coming.code.number else run.net c kept.registers.code.number) (valid c)
 
-  pub code : (c : ℕ) → run.net c back.code.number ≡ (added below state c).code
-  code c = ap (λ (n : NetValue). run.net c n.number) b.code_is ∙ (tells c).code
+  word_after : (c : ℕ) → (state.gathered (suc c)).word ≡ (if is_raised (run.net c answer.valid.number) then run.net c b.coming.low.number else (state.gathered c).word)
+  word_after c = ap (λ l. first_value (drop 4 l)) (step c) ∙ (nexts c).word
 
-  pub gathered_next : (c : ℕ) → state.gathered (suc c) ≡ (if is_raised (run.net c answer.valid.number) then (if completes state c then nothing else added below state c) else state.gathered c)
-  gathered_next c =
-      gathered_on (is_raised (run.net c answer.valid.number)) (completes state c) (state.gathered (suc c)) (added below state c) (state.gathered c) (run.net c b.coming.low.number) (run.net c b.coming.code.number)
-      (ap (λ l. first_value (drop 4 l)) (step c) ∙ (nexts c).word ∙ ap (λ t. if t then 0 else if is_raised (run.net c answer.valid.number) then run.net c b.coming.low.number else run.net c kept.registers.word.number) (valid c))
-      (ap (λ l. first_value (drop 5 l)) (step c) ∙ (nexts c).code ∙ ap (λ t. if t then 0 else if is_raised (run.net c answer.valid.number) then run.net c b.coming.code.number else run.net c kept.registers.code.number) (valid c))
-      (low_word c) (tells c).code
+  pub gathered_stays : (c : ℕ) → is_raised (run.net c answer.valid.number) ≡ false → state.gathered (suc c) ≡ state.gathered c
+  gathered_stays c e =
+      let w : (state.gathered (suc c)).word ≡ (state.gathered c).word = word_after c ∙ ap (λ v. if v then run.net c b.coming.low.number else (state.gathered c).word) e in
+      let r : (state.gathered (suc c)).code ≡ (state.gathered c).code = code_after c ∙ ap (λ v. if v && completes state c then 0 else if v then run.net c b.coming.code.number else (state.gathered c).code) e in
+      rw (w, r) refl
+
+  pub gathered_more : (c : ℕ) → is_raised (run.net c answer.valid.number) ≡ true → completes state c ≡ false → AddsTo below state c (state.gathered (suc c))
+  gathered_more c e k = record {
+    word = subst (λ n. IsPut n (drop (state.come c) (state.set c)) (run.net c kept.registers.word.number) (run.net c answer.word.number % 256 ^ n) (state.gathered (suc c)).word) (sym narrow_is)
+        (subst (IsPut kept.sizes.narrow_bytes (drop (state.come c) (state.set c)) (run.net c kept.registers.word.number) (run.net c answer.word.number % 256 ^ kept.sizes.narrow_bytes)) (sym (word_after c ∙ ap (λ v. if v then run.net c b.coming.low.number else (state.gathered c).word) e)) (low_put_there c k));
+    code = code_after c ∙ ap₂ (λ v t. if v && t then 0 else if v then run.net c b.coming.code.number else (state.gathered c).code) e k ∙ (tells c).code;
+  }
+
+  pub gathered_anew : (c : ℕ) → is_raised (run.net c answer.valid.number) ≡ true → completes state c ≡ true → (state.gathered (suc c)).code ≡ 0
+  gathered_anew c e k = code_after c ∙ ap₂ (λ v t. if v && t then 0 else if v then run.net c b.coming.code.number else (state.gathered c).code) e k
+
+  pub given : (c : ℕ) → AddsTo below state c (record { word = run.net c back.word.number; code = run.net c back.code.number })
+  given c = record {
+    word = subst (λ n. IsPut n (drop (state.come c) (state.set c)) (run.net c kept.registers.word.number) (run.net c answer.word.number % 256 ^ n) (run.net c back.word.number)) (sym narrow_is)
+        (subst (IsPut kept.sizes.narrow_bytes (drop (state.come c) (state.set c)) (run.net c kept.registers.word.number) (run.net c answer.word.number % 256 ^ kept.sizes.narrow_bytes)) (sym (ap (λ (n : NetValue). run.net c n.number) b.word_is)) (word_put c));
+    code = ap (λ (n : NetValue). run.net c n.number) b.code_is ∙ (tells c).code;
+  }
 
   pub runs_as_split : RunsAsSplit split.reads (port_in form.up run kept.from up back) (port_in form.down run kept.part.below wait answer) state
   runs_as_split = record {
@@ -350,9 +388,10 @@ module _ (split : Split) (form : Form) (kept : SplitKept) (wait up : NetValue) (
     reads_next = reads_next;
     come_begins = ap (λ l. first_value (drop 2 l)) starts;
     come_next = come_next;
-    gathered_begins = (let w : run.net 0 kept.registers.word.number ≡ 0 = ap (λ l. first_value (drop 3 l)) starts in let r : run.net 0 kept.registers.code.number ≡ 0 = ap (λ l. first_value (drop 4 l)) starts in rw (w, r) refl);
-    gathered_next = gathered_next;
+    gathered_begins = ap (λ l. first_value (drop 4 l)) starts;
+    gathered_stays = gathered_stays;
+    gathered_more = gathered_more;
+    gathered_anew = gathered_anew;
     valid = valid;
-    word = word;
-    code = code;
+    given = λ c raised. given c;
   }

@@ -41,7 +41,7 @@ filled_to sizes registers answer cycle count =
 -- the word that stands above with the piece that comes
 pub record TellsComing (sizes : Sizes) (registers : SplitRegisters) (answer : AnswerNets) (coming : Coming) (cycle : Cycle) : Type 0 where
   pub completes : is_raised (cycle.net coming.completes.number) ≡ nat_lt (count_of (is_marked (cycle.net registers.set.number)) sizes.pieces) (suc (suc (cycle.net registers.come.number)))
-  pub word : cycle.net coming.word.number ≡ filled_to sizes registers answer cycle sizes.pieces
+  pub word : cycle.net coming.word.number ≡ cycle.net answer.word.number * 2 ^ ((sizes.pieces - 1) * (sizes.narrow_bytes * 8)) + filled_to sizes registers answer cycle (sizes.pieces - 1)
   pub low : cycle.net coming.low.number ≡ filled_to sizes registers answer cycle (sizes.pieces - 1)
   pub code : cycle.net coming.code.number ≡ max (cycle.net registers.code.number) (cycle.net answer.code.number)
 
@@ -58,10 +58,7 @@ pub record NextAre (sizes : Sizes) (registers : SplitRegisters) (from : CommandN
       ≡ (if is_raised (cycle.net valid.number) then 0
       else if is_raised (cycle.net arrives.number) then (cycle.net registers.come.number + 1) % 2 ^ sizes.place_bits
       else cycle.net registers.come.number)
-  pub word : cycle.net next.word.number
-      ≡ (if is_raised (cycle.net valid.number) then 0
-      else if is_raised (cycle.net arrives.number) then cycle.net coming.low.number
-      else cycle.net registers.word.number)
+  pub word : cycle.net next.word.number ≡ (if is_raised (cycle.net arrives.number) then cycle.net coming.low.number else cycle.net registers.word.number)
   pub code : cycle.net next.code.number
       ≡ (if is_raised (cycle.net valid.number) then 0
       else if is_raised (cycle.net arrives.number) then cycle.net coming.code.number

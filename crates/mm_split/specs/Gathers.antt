@@ -1,7 +1,6 @@
 -- The nets of a word that is gathered.
-use Rattle.std.specs.Prelude.{◌≡◌, ℕ}
+use Rattle.std.specs.Prelude.{ℕ}
 use Rattle.netlist.specs.Netlists.{Netlist, IsNet}
-use Rattle.netlist.specs.Runs.{Always}
 use Rattle.netlist.specs.Longer.{Extends}
 use Rattle.net_parts.specs.Nets.{IsNetOfWidth}
 use Rattle.net_parts.specs.Laws.{net_lasts}
@@ -12,8 +11,6 @@ pub record IsGather (netlist : Netlist) (gather : Gather) (bits : ℕ) : Type 0 
   pub here : IsNet netlist gather.here
   pub word : IsNet netlist gather.word
   pub piece : IsNetOfWidth netlist gather.piece bits
-  pub zeros : IsNetOfWidth netlist gather.zeros bits
-  pub low : Always netlist (λ cycle. cycle.net gather.zeros.number ≡ 0)
 
 -- ---- what stands lasts. No contract reads this proof
 
@@ -22,6 +19,4 @@ gather_lasts old new gather bits e h = record {
   here = e.nets gather.here.number gather.here.width h.here;
   word = e.nets gather.word.number gather.word.width h.word;
   piece = net_lasts old new gather.piece bits e h.piece;
-  zeros = net_lasts old new gather.zeros bits e h.zeros;
-  low = λ cycle v. h.low cycle (e.valuations cycle v);
 }

@@ -1,5 +1,5 @@
 -- Pieces of a word, and the pieces that a mask tells.
-use Rattle.std.specs.Prelude.{◌≡◌, ℕ, zero, suc, ◌+◌, ◌*◌, ◌/◌, ◌%◌, ◌^◌, Bool, false, not, ◌&&◌, ◌||◌, if◌then◌else◌, nat_eq, ◌==◌, List, [], ◌++◌}
+use Rattle.std.specs.Prelude.{◌≡◌, ℕ, zero, suc, ◌+◌, ◌*◌, ◌/◌, ◌%◌, ◌^◌, Bool, not, ◌&&◌, if◌then◌else◌, nat_eq, ◌==◌, List, [], ◌++◌}
 use Rattle.histories.specs.History.{is_raised, one_if, only_if}
 
 -- the piece of a word with this number, of so many bits
@@ -37,15 +37,11 @@ pick test (suc k) = if test k then k else pick test k
 abbrev pub or_first_mask : ℕ → ℕ
 or_first_mask mask = if mask == 0 then 1 else mask
 
-abbrev pub is_any : (ℕ → Bool) → ℕ → Bool
-is_any test zero = false
-is_any test (suc k) = is_any test k || test k
-
--- the first pieces of a word, up to the one that is meant, which is this one
+-- the first pieces of a word, of which those that are meant are this one
 abbrev pub fill : (ℕ → Bool) → ℕ → ℕ → ℕ → ℕ → ℕ
 fill test bits word piece zero = 0
 fill test bits word piece (suc k) =
-    (if test k then piece else if is_any test k then 0 else lane bits word k) * 2 ^ (k * bits) + fill test bits word piece k
+    (if test k then piece else lane bits word k) * 2 ^ (k * bits) + fill test bits word piece k
 
 -- what a search in a mask finds among the first pieces
 pub record AreFound (mask place count here found : ℕ) : Type 0 where

@@ -19,7 +19,7 @@ use crate::lanes::{Search, find};
 use crate::registers::SplitRegisters;
 use crate::sizes::Sizes;
 use command_nets::{AnswerNets, CommandNets};
-use net_parts::{constant, fit_bits};
+use net_parts::{choose, constant, fit_bits};
 use net_terms::{
     Add, And, Bit, Bus, Constant, Less, MuxWord, NonZero, Not, Or, Sub, Wire, Word, Xor, emit_two,
 };
@@ -57,7 +57,7 @@ fn greater(builder: &mut Builder, one: Net, other: Net) -> Result<Net, NetFault>
 #[derive(Clone, Copy)]
 pub(crate) struct Coming {
     pub word: Net,
-    /// Its pieces but for the last one.
+    /// Its pieces but for the last one, to be kept.
     pub low: Net,
     pub code: Net,
     /// Whether it is complete with that piece.
@@ -77,8 +77,8 @@ pub(crate) fn come(
     requires answer { AreAnswerNets builder.old answer.now (sizes.now.narrow_bytes * 8) }
     ensures nets { IfOk result (λ made. AreComingNets builder.new sizes.now made) }
     ensures value { IfOk result (λ made. Always builder.new (λ cycle. TellsComing sizes.now registers.now answer.now made cycle)) }
-    ensures adds { AddsNets 199 builder.old builder.new }
-    ensures full { result ≡ Err NetFault.TooManyNets → 2 ^ 20 < length builder.old.lines + 199 }
+    ensures adds { AddsNets 166 builder.old builder.new }
+    ensures full { result ≡ Err NetFault.TooManyNets → 2 ^ 20 < length builder.old.lines + 166 }
 {
     let zeros = constant(builder, 4, 0)?;
     let place = fit_bits(builder, registers.come, sizes.place_bits, 5)?;
@@ -222,8 +222,8 @@ pub(crate) fn next_registers(
     requires valid { IsBit builder.old valid }
     ensures nets { IfOk result (λ next. AreRegisterNets builder.new sizes.now next) }
     ensures value { IfOk result (λ next. Always builder.new (λ cycle. NextAre sizes.now registers.now from.now part.now taken.now coming.now arrives valid next cycle)) }
-    ensures adds { AddsNets 30 builder.old builder.new }
-    ensures full { result ≡ Err NetFault.TooManyNets → 2 ^ 20 < length builder.old.lines + 30 }
+    ensures adds { AddsNets 28 builder.old builder.new }
+    ensures full { result ≡ Err NetFault.TooManyNets → 2 ^ 20 < length builder.old.lines + 28 }
 {
     let place = step_on(builder, registers.place, taken.above, taken.below)?;
     let reads_below = And(Wire(taken.below), Not(Wire(part.below.write)));
@@ -231,7 +231,7 @@ pub(crate) fn next_registers(
     let reads_above = And(Wire(taken.above), Not(Wire(from.write))).emit(builder)?;
     let reads = count_reads(builder, registers.reads, reads_above, valid)?;
     let come = step_on(builder, registers.come, valid, arrives)?;
-    let word = step(builder, registers.word, valid, arrives, coming.low)?;
+    let word = choose(builder, arrives, coming.low, registers.word)?;
     let code = step(builder, registers.code, valid, arrives, coming.code)?;
     Ok(SplitRegisters {
         place,

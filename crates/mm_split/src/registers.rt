@@ -24,7 +24,7 @@ pub struct SplitRegisters {
     pub reads: Net,
     /// How many pieces of the next word have come.
     pub come: Net,
-    /// What they hold. The last piece is never kept.
+    /// What they hold, and other pieces what they held before. The last piece is never kept.
     pub word: Net,
     /// The greatest of their responses.
     pub code: Net,

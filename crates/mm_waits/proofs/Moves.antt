@@ -14,7 +14,7 @@ use Rattle.mm_machines.specs.Link.{Port, Marked, takes, taken_at, marked_at, rea
 use Rattle.mm_machines.specs.Rank.{is_owed}
 use Rattle.mm_parts.specs.Steps.{IsArbiterPart}
 use Rattle.mm_awake.specs.Front.{IsFront, GivesAtOnce, is_bursting}
-use Rattle.mm_awake.specs.Onward.{is_taken_now, is_given_now, moves_on}
+use Rattle.mm_runs.specs.Onward.{is_taken_now, is_given_now, moves_on}
 use Rattle.mm_waits.specs.Waits.{WordsComeSoon}
 use Rattle.mm_waits.specs.Watched.{LeadsBy}
 use Rattle.mm_waits.proofs.Bits.{FirstOrNone, first_or_none, no_true, no_both, not_by, both, some_or_none, three_of}

@@ -2,7 +2,8 @@
 use Rattle.std.specs.Prelude.{ℕ, ◌+◌, ◌*◌, max}
 use Rattle.mm_runs.specs.Views.{System}
 use Rattle.mm_runs.specs.Operations.{pieces}
-use Rattle.mm_awake.specs.Onward.{longest_of, round_by}
+use Rattle.mm_runs.specs.Onward.{longest_of}
+use Rattle.mm_awake.specs.Onward.{round_by}
 use Rattle.mm_waits.specs.Waits.{waits_quietly}
 
 -- at an agent's words: for each beat its pieces, and the cycles in which the words of a wide one are given out

@@ -10,7 +10,8 @@ use Rattle.mm_links.specs.Selects.{IsSelectPlan, RunsAsSelect}
 use Rattle.mm_links.specs.Splits.{SplitState, RunsAsSplit}
 use Rattle.mm_runs.specs.Operations.{pieces}
 use Rattle.mm_awake.specs.Wires.{IsWire}
-use Rattle.mm_awake.specs.Onward.{standing_by, round_of_others, round_by, longest_of, is_good}
+use Rattle.mm_runs.specs.Onward.{longest_of}
+use Rattle.mm_awake.specs.Onward.{standing_by, round_of_others, round_by, is_good}
 
 -- where an agent owes nothing by the end of a cycle, all words that were asked above its part by then have come by the end of the next one
 abbrev pub WordsComeSoon : System → Run → ℕ → Port → ℕ → Type 0

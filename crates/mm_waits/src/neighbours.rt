@@ -15,7 +15,7 @@ ghost use Rattle.mm_awake.specs.Steps.{HasStepsLeft};
 ghost use Rattle.mm_awake.specs.Wires.{IsWire};
 ghost use Rattle.mm_awake.specs.Theorem.{States, ArePlanned, AreMachines};
 ghost use Rattle.mm_awake.specs.RowSystem.{RowPorts, AreRows, boundaries_of};
-ghost use Rattle.mm_awake.specs.Onward.{MovesWithin};
+ghost use Rattle.mm_runs.specs.Onward.{MovesWithin};
 ghost use Rattle.mm_waits.specs.Waits.{is_quiet};
 ghost use Rattle.mm_waits.specs.Neighbours.{row_steps, row_window};
 

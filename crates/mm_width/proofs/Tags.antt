@@ -169,10 +169,11 @@ module _ (tags : ℕ → ℕ) (room : ℕ) (up down : Port) (state : SplitState)
     come_begins = run.come_begins;
     come_next = run.come_next;
     gathered_begins = run.gathered_begins;
-    gathered_next = run.gathered_next;
+    gathered_stays = run.gathered_stays;
+    gathered_more = run.gathered_more;
+    gathered_anew = run.gathered_anew;
     valid = run.valid;
-    word = run.word;
-    code = run.code;
+    given = run.given;
   }
 
 -- ---- what drops beats

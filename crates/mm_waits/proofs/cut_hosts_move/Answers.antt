@@ -1,6 +1,6 @@
 use Rattle.std.proofs.Common.{◌+◌, arith}
 use Rattle.mm_machines.specs.Lines.{target_of}
-use Rattle.mm_awake.specs.Onward.{longest_of}
+use Rattle.mm_runs.specs.Onward.{longest_of}
 use Rattle.mm_waits.proofs.Joined.{cuts_lead}
 use Rattle.mm_waits.proofs.cut_hosts_move.Goals as goal
 

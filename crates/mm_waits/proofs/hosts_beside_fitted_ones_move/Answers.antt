@@ -1,6 +1,6 @@
 use Rattle.std.proofs.Common.{◌+◌, arith, refl}
 use Rattle.mm_machines.specs.Lines.{target_of}
-use Rattle.mm_awake.specs.Onward.{longest_of}
+use Rattle.mm_runs.specs.Onward.{longest_of}
 use Rattle.mm_awake.specs.RowSystem.{boundaries_of}
 use Rattle.mm_waits.specs.Waits.{steps_of}
 use Rattle.mm_waits.proofs.Joined.{cuts_lead, joined_cuts}

@@ -13,7 +13,8 @@ use Rattle.mm_machines.specs.Machines.{above, below}
 use Rattle.mm_machines.specs.SideLaws.{taken_is_shown}
 use Rattle.mm_parts.specs.Steps.{IsAgentPart, agent_rank, is_gone}
 use Rattle.mm_awake.specs.Approach.{IsApproach}
-use Rattle.mm_awake.specs.Onward.{is_good, moves_on, round_by, standing_by}
+use Rattle.mm_runs.specs.Onward.{moves_on}
+use Rattle.mm_awake.specs.Onward.{is_good, round_by, standing_by}
 use Rattle.mm_awake.specs.Steps.{HasStepsLeft, WaitsItsTurn}
 use Rattle.mm_awake.specs.Theorem.{Boundaries, States, LinkRanks, IsBuilt, approach_of}
 use Rattle.mm_awake.specs.Ways.{count_in}

@@ -1,5 +1,5 @@
 use Rattle.std.proofs.Common.{◌+◌}
-use Rattle.mm_awake.specs.Onward.{longest_of}
+use Rattle.mm_runs.specs.Onward.{longest_of}
 use Rattle.mm_machines.specs.Lines.{target_of}
 use Rattle.mm_waits.proofs.Wire.{wire_leads}
 use Rattle.mm_waits.proofs.wired_hosts_move.Goals as goal

@@ -9,7 +9,8 @@ use Rattle.mm_awake.specs.Rows.{CutsBursts, CutsBursts.cutter, CutsBursts.no_cut
 use Rattle.mm_awake.specs.Wires.{IsWire, with_bursts}
 use Rattle.mm_awake.specs.Theorem.{Boundaries, States, LinkRanks, IsBuilt}
 use Rattle.mm_awake.specs.Steps.{HasStepsLeft}
-use Rattle.mm_awake.specs.Onward.{is_good, longest_of}
+use Rattle.mm_runs.specs.Onward.{longest_of}
+use Rattle.mm_awake.specs.Onward.{is_good}
 use Rattle.mm_awake.proofs.Arbiter.{TurnLaws}
 use Rattle.mm_awake.proofs.HostBursts.{behind_wire}
 use Rattle.mm_awake.proofs.Widened.{bursts as bursts_same}

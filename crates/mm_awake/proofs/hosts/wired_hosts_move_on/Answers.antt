@@ -1,5 +1,5 @@
 use Rattle.std.proofs.Common.{◌+◌}
-use Rattle.mm_awake.specs.Onward.{longest_of}
+use Rattle.mm_runs.specs.Onward.{longest_of}
 use Rattle.mm_awake.proofs.hosts.wired_hosts_move_on.Goals as goal
 
 pub returns-clause-moves : goal.returns-clause-moves

@@ -1,7 +1,7 @@
 use Rattle.std.proofs.Common.{◌≡◌, ◌+◌, arith, refl, subst}
 use Rattle.mm_runs.specs.Whole.{IsLegalRun}
 use Rattle.mm_machines.specs.Lines.{target_of}
-use Rattle.mm_awake.specs.Onward.{longest_of}
+use Rattle.mm_runs.specs.Onward.{longest_of}
 use Rattle.mm_awake.specs.RowSystem.{AreRows, boundaries_of}
 use Rattle.mm_awake.specs.Theorem.{AreMachines}
 use Rattle.mm_waits.specs.Neighbours.{row_steps}

@@ -9,7 +9,8 @@ use Rattle.mm_machines.specs.Lines.{TaggedPort, target_of}
 use Rattle.mm_machines.specs.Link.{Port, Target, AreLegalAt, AnswersAreOwed, takes, taken_at, is_last_joined}
 use Rattle.mm_machines.specs.PartRanks.{JoinsAlike}
 use Rattle.mm_parts.specs.Steps.{IsArbiterPart, is_gone}
-use Rattle.mm_awake.specs.Onward.{is_good, longest_of}
+use Rattle.mm_runs.specs.Onward.{longest_of}
+use Rattle.mm_awake.specs.Onward.{is_good}
 use Rattle.mm_awake.specs.Rows.{CutsBursts, CutsBursts.cutter, CutsBursts.no_cutter, FitsWords, FitsWords.selector, FitsWords.gatherer, FitsWords.splitter, FitsWords.no_width, DropsBeats, DropsBeats.dropper, DropsBeats.no_dropper, GathersBelowCut}
 use Rattle.mm_awake.specs.RowSystem.{RowPorts, AreRows, boundaries_of}
 use Rattle.mm_awake.specs.Steps.{HasStepsLeft}

@@ -8,7 +8,7 @@ use Rattle.mm_runs.specs.Whole.{IsLegalRun}
 use Rattle.mm_machines.specs.Lines.{target_of}
 use Rattle.mm_machines.specs.Link.{Port, AreLegalAt, AnswersAreOwed, words_at, words_owed}
 use Rattle.mm_machines.specs.SideLaws.{same_counts}
-use Rattle.mm_awake.specs.Onward.{longest_of}
+use Rattle.mm_runs.specs.Onward.{longest_of}
 use Rattle.mm_awake.specs.Rows.{CutsBursts, CutsBursts.cutter, CutsBursts.no_cutter, FitsWords, FitsWords.selector, FitsWords.gatherer, FitsWords.splitter, FitsWords.no_width}
 use Rattle.mm_awake.specs.RowSystem.{RowPorts, AreRows, boundaries_of}
 use Rattle.mm_awake.specs.Theorem.{ArePlanned, AreMachines, States, LinkRanks, IsBuilt}

@@ -10,7 +10,8 @@ use Rattle.mm_runs.specs.Whole.{IsLegalRun}
 use Rattle.mm_machines.specs.Lines.{TaggedPort, target_of}
 use Rattle.mm_machines.specs.Link.{Port, AreLegalAt, AnswersAreOwed, takes, taken_at, is_last_joined, words_at, words_owed}
 use Rattle.mm_parts.specs.Steps.{IsArbiterPart, is_gone}
-use Rattle.mm_awake.specs.Onward.{is_good, longest_of}
+use Rattle.mm_runs.specs.Onward.{longest_of}
+use Rattle.mm_awake.specs.Onward.{is_good}
 use Rattle.mm_awake.specs.Rows.{CutsBursts, CutsBursts.cutter, CutsBursts.no_cutter}
 use Rattle.mm_awake.specs.RowSystem.{RowPorts, AreRows, boundaries_of}
 use Rattle.mm_awake.specs.Steps.{HasStepsLeft}
