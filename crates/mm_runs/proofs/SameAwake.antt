@@ -10,7 +10,8 @@ use Rattle.mm_runs.specs.Views.Kind.{Writes}
 use Rattle.mm_runs.specs.Commands.{Burst, Transfer, accepted, agent_accepts, read_beats, transfer_at}
 use Rattle.mm_runs.specs.Legal.{host_accepts, given, gives_word}
 use Rattle.mm_runs.specs.Order.{Owner, Asked, asked, for_agent, host_transfers, is_agent, is_read_beat, is_same_owner, issued, of_host, place_of, taken, transfer_operations}
-use Rattle.mm_runs.specs.Awake.{IsWanted, ServesWithin, ServesDefaultWithin, ReadsAheadWithin, NeverIdles, IsAsked, IsWaiting, IsPassedByFew, TakesTurns, HasFullTurns, IsFair, are_finished_before, are_given, are_reached, are_taken, asks_only, begun, begun_by_others, begun_within, commands_begun, count_for, first_owners, has_begun, has_no_operation, is_finished, is_for, is_given_from, is_oldest, is_place, is_unfinished, is_wanted_at_default, is_written_to, lacks_beats, may_be_counted, moves_on_at_default, MovesAtDefaultWithin, of_command, owes, serves, shares_of_others, shows_its_burst, shows_plain_write, turns_of, up_to, agent_window, window_of}
+use Rattle.mm_runs.specs.Awake.{is_accepted_now, IsWanted, ServesWithin, ServesDefaultWithin, ReadsAheadWithin, NeverIdles, IsAsked, IsWaiting, IsPassedByFew, TakesTurns, HasFullTurns, IsFair, are_finished_before, are_given, are_reached, are_taken, asks_only, begun, begun_by_others, begun_within, commands_begun, count_for, first_owners, has_begun, has_no_operation, is_finished, is_for, is_given_from, is_oldest, is_place, is_unfinished, is_wanted_at_default, is_written_to, lacks_beats, may_be_counted, moves_on_at_default, MovesAtDefaultWithin, of_command, owes, serves, shares_of_others, shows_its_burst, shows_plain_write, turns_of, up_to, agent_window, window_of}
+use Rattle.mm_runs.specs.Onward.{is_taken_now, is_given_now, moves_on, MovesWithin, NoHostHangs}
 use Rattle.mm_runs.specs.Beginnings.{RunsAgreeBefore}
 use Rattle.mm_runs.proofs.SameSides.{same_before, same_shows, same_burst, same_transfer, same_gives, same_unanswered, same_words}
 use Rattle.mm_runs.proofs.SameSafe.{host_takes, agent_takes, same_transfers, same_host_accepted, words_given, same_asks, same_issued, same_beats, same_taken, same_owners_taken, same_words_in}
@@ -157,6 +158,29 @@ module _ (system : System) (one two : Run) (end : ℕ) (same : RunsAgreeBefore o
     ahead = λ a there. same_ahead (agent_window system a) a (awake.ahead a there);
     hosts_at_default = λ h low. same_default_moves (window_of system 0) h (awake.hosts_at_default h low);
   }
+
+  -- ---- no host hangs
+
+  same_moves_on : (a h number c : ℕ) → c < end → moves_on system one a h number c ≡ moves_on system two a h number c
+  same_moves_on a h number c low =
+      ap₂ (λ x y. (x && y) || is_taken_now system one a h number c || is_given_now system one a h number c) (host_takes system one two end same h c low) (same_lacks h number c (omega arith))
+      ∙ ap₂ (λ x y. is_accepted_now system two h number c || x || y) same_taken_now same_given_now
+    where
+      same_taken_now : is_taken_now system one a h number c ≡ is_taken_now system two a h number c
+      same_taken_now =
+          ap₂ (λ x g. x && nat_eq g h && not (are_taken system one h number c a)) (agent_takes system one two end same a c low) ((same.agents a).grant c low)
+          ∙ ap (λ b. agent_accepts (system.agent a) (two.at_agent a) c && nat_eq ((two.at_agent a).grant c) h && not b) (same_are_taken h number c a low)
+
+      same_given_now : is_given_now system one a h number c ≡ is_given_now system two a h number c
+      same_given_now = ap₂ (λ x b. x && not b) (same_given_from (Some a) c h low) (same_are_given h number c low)
+
+  same_moves : (size a h : ℕ) → MovesWithin size system one a h end → MovesWithin size system two a h end
+  same_moves size a h within from number low all =
+      let found = within from number low (λ c later sooner. wanted a h number c (omega arith) (all c later sooner)) in
+      (found.0, found.1, found.2, subst IsTrue (same_moves_on a h number found.0 (let there = found.2 in omega (arith, there, low))) found.3)
+
+  pub same_onward : (window : ℕ → ℕ → ℕ) → NoHostHangs window system one end → NoHostHangs window system two end
+  same_onward window onward = record { moves = λ a h there low joined. same_moves (window a h) a h (onward.moves a h there low joined) }
 
   -- ---- fairness
 

@@ -5,6 +5,7 @@ use Rattle.mm_runs.specs.Views.{Shape, Signals, System, Run, HostSide, HostView,
 use Rattle.mm_runs.specs.Views.Responses.{AreZero, AreCodes}
 use Rattle.mm_runs.specs.Legal.{AreLegal, AreOwed, IsLegalAgent, IsProperAtAgent, IsProperAtHost}
 use Rattle.mm_runs.specs.Order.{ServesInGrantedOrder, RespondsBy}
+use Rattle.mm_runs.specs.Onward.{NoHostHangs}
 use Rattle.mm_runs.specs.Awake.{NeverIdles, IsFair}
 use Rattle.mm_runs.specs.Whole.{IsLegalRun, IsSafe}
 
@@ -77,6 +78,9 @@ module _ (shorter end : ℕ) (h : shorter ≤ end) where
     ahead = λ agent there has alike from host low. awake.ahead agent there has alike from host (le_trans low h);
     hosts_at_default = λ host is from number low. awake.hosts_at_default host is from number (le_trans low h);
   }
+
+  pub onward_before : (window : ℕ → ℕ → ℕ) (system : System) (run : Run) → NoHostHangs window system run end → NoHostHangs window system run shorter
+  onward_before window system run onward = record { moves = λ agent host there is joined from number low. onward.moves agent host there is joined from number (le_trans low h) }
 
   pub fair_before : (system : System) (run : Run) → IsFair system run end → IsFair system run shorter
   fair_before system run fair = record {

@@ -10,6 +10,7 @@ ghost use Rattle.mm_runs.specs.Views.{Responses, System, Run, Shape, Signals};
 ghost use Rattle.mm_runs.specs.Operations.{Beat, own_operations, operations_of};
 ghost use Rattle.mm_runs.specs.Legal.{AreLegal};
 ghost use Rattle.mm_runs.specs.Awake.{NeverIdles, IsFair};
+ghost use Rattle.mm_runs.specs.Onward.{NoHostHangs};
 ghost use Rattle.mm_runs.specs.Order.{ActsAsMemory, ReadsFromMemory, ReturnsInCommandOrder, from_base, issued, taken, are_together, Owner, is_same_owner, StandsBetween};
 ghost use Rattle.mm_runs.specs.Beginnings.{RunsAgreeBefore};
 ghost use Rattle.mm_runs.specs.Whole.{IsLegalRun, IsSafe};
@@ -37,6 +38,8 @@ pub fn shorter_runs()
         → IsSafe responses system run end → IsSafe responses system run shorter }
     ensures awake { (shorter end : ℕ) → shorter ≤ end → (system : System) (run : Run)
         → NeverIdles system run end → NeverIdles system run shorter }
+    ensures onward { (shorter end : ℕ) → shorter ≤ end → (window : ℕ → ℕ → ℕ) (system : System) (run : Run)
+        → NoHostHangs window system run end → NoHostHangs window system run shorter }
     ensures fair { (shorter end : ℕ) → shorter ≤ end → (system : System) (run : Run) → IsFair system run end
         → IsFair system run shorter }
 {}
@@ -51,6 +54,8 @@ pub fn same_beginnings()
         → RunsAgreeBefore one two end → IsSafe responses system one end → IsSafe responses system two end }
     ensures awake { (system : System) (one two : Run) (end : ℕ) → RunsAgreeBefore one two end
         → NeverIdles system one end → NeverIdles system two end }
+    ensures onward { (window : ℕ → ℕ → ℕ) (system : System) (one two : Run) (end : ℕ) → RunsAgreeBefore one two end
+        → NoHostHangs window system one end → NoHostHangs window system two end }
     ensures fair { (system : System) (one two : Run) (end : ℕ) → RunsAgreeBefore one two end
         → IsFair system one end → IsFair system two end }
 {}

@@ -1,4 +1,4 @@
-use Rattle.mm_runs.specs.Shorter.{legal_run_before, safe_before, awake_before, fair_before}
+use Rattle.mm_runs.specs.Shorter.{legal_run_before, safe_before, awake_before, onward_before, fair_before}
 use Rattle.mm_runs.proofs.shorter_runs.Goals as goal
 
 pub returns-clause-legal : goal.returns-clause-legal
@@ -12,3 +12,6 @@ returns-clause-awake c = awake_before
 
 pub returns-clause-fair : goal.returns-clause-fair
 returns-clause-fair c = fair_before
+
+pub returns-clause-onward : goal.returns-clause-onward
+returns-clause-onward c = λ shorter end h window. onward_before shorter end h window
