@@ -235,8 +235,8 @@ module _ (laws : Laws) (responses : Responses) (plan : LinkPlan) (outside : Outs
       gathers = λ h a low there joined. (fitted h a low there joined).2;
       drops = λ h a low there joined. (dropped h a low there joined).0;
       lanes = λ h a low there joined none. suits.lanes h a low there joined (sym (dropped h a low there joined).1 ∙ none);
-      wired = λ h a low there joined has alike.
-          let wires = suits.wired h a low there joined has alike in
+      wired = λ h a low there joined alike.
+          let wires = suits.wired h a low there joined alike in
           wires_are_one (plan.cutter h a) (plan.fitter h a) (plan.drops h a) (row_of plan h a) (to_row responses plan outside all h a) (λ c. (all c).row h a) (target_of system a) wires.uncut wires.unfitted wires.undropped (suits.rows h a low there (links_at_joined suits h a low there joined));
       apart = λ h a low there idle.
           let apart = suits.apart h a low there idle in

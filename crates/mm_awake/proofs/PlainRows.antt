@@ -52,6 +52,6 @@ module _ (responses : Responses) (plan : PlainPlan) (outside : Outside) (end : �
       gathers = λ h a low there links. tt;
       drops = λ h a low there links. no_dropper (wired h a low there);
       lanes = λ h a low there links none. or_left plan.agent.has_enables _ shape.lanes;
-      wired = λ h a low there joined has alike. wire_self _;
+      wired = λ h a low there joined alike. wire_self _;
       apart = λ h a low there idle. absurd cc;
     }

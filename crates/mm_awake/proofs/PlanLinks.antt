@@ -211,7 +211,7 @@ module _ (system : System) (is_plan : IsMemoryPlan system) where
     idle = λ h a. not (is_joined system a h);
     stages = stages;
     rows = λ h a low there links. row_suits h a low there (when_not (is_joined system a h) links);
-    wired = λ h a low there joined has alike.
+    wired = λ h a low there joined alike.
         let parts = alike_parts (system.host h) (system.agent a) alike in
         record {
           uncut = cut_alike h a low there joined alike;

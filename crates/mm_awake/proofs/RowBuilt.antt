@@ -110,7 +110,7 @@ module _ (laws : Laws) (responses : Responses) (system : System) (run : Run) (po
     pass = λ h a i low there fit. ((row_of h a).modest low there).pass i fit;
     allow = λ h a low there. (laws.fit system (ways_of system inside a) (standings_of system run states ranks a) (slacks_of states ranks a) (target_of system a) h end ((row_of h a).modest low there)).0;
     toll = λ h a low there. (laws.fit system (ways_of system inside a) (standings_of system run states ranks a) (slacks_of states ranks a) (target_of system a) h end ((row_of h a).modest low there)).1;
-    wired = rows.wired;
+    wired = λ h a low there joined has alike. rows.wired h a low there joined alike;
   }
 
   pub rows_built : (ranks : LinkRanks) × IsBuilt responses system run inside states ranks end

@@ -69,8 +69,8 @@ pub record SuitsLinks (plan : LinkPlan) : Type 0 where
   pub idle : ℕ → ℕ → Bool  -- of a host and an agent that aren't joined: wires lead there, whatever the words
   pub stages : plan.system.stages ≡ 0
   pub rows : (h a : ℕ) → h < plan.system.hosts → a < plan.system.agents → IsFalse (idle h a) → SuitsRow (target_of plan.system a) (row_of plan h a)
-  -- a host whose plain commands reach an agent with readdatavalid one for one is wired to its arbiter
-  pub wired : (h a : ℕ) → h < plan.system.hosts → a < plan.system.agents → IsTrue (is_joined plan.system a h) → IsTrue (plan.system.agent a).has_readdatavalid → IsTrue (is_alike (plan.system.host h) (plan.system.agent a)) → IsWireRow (row_of plan h a)
+  -- a host whose plain commands reach an agent one for one is wired to its arbiter
+  pub wired : (h a : ℕ) → h < plan.system.hosts → a < plan.system.agents → IsTrue (is_joined plan.system a h) → IsTrue (is_alike (plan.system.host h) (plan.system.agent a)) → IsWireRow (row_of plan h a)
   -- where no beats are dropped, the agent has byte enables or the host has none
   pub lanes : (h a : ℕ) → h < plan.system.hosts → a < plan.system.agents → IsFalse (idle h a) → plan.drops h a ≡ false → IsTrue ((plan.system.agent a).has_enables || not (plan.system.host h).has_enables)
   pub apart : (h a : ℕ) → h < plan.system.hosts → a < plan.system.agents → IsTrue (idle h a) → IsFalse (is_joined plan.system a h) × IsWireRow (row_of plan h a)

@@ -30,8 +30,8 @@ pub record IsRowFront (responses : Responses) (system : System) (run : Run) (por
   pub drops : (h a : ℕ) → h < system.hosts → a < system.agents → IsTrue (is_joined system a h) → DropsBeats (target_of system a) (ports.above_dropper h a) (ports.before_arbiter h a)
   -- where no beats are dropped, the agent has byte enables or the host has none
   pub lanes : (h a : ℕ) (low : h < system.hosts) (there : a < system.agents) (joined : IsTrue (is_joined system a h)) → IsFalse (drops_some (drops h a low there joined)) → IsTrue ((system.agent a).has_enables || not (system.host h).has_enables)
-  -- a host that is alike to an agent with readdatavalid is wired to its arbiter
-  pub wired : (h a : ℕ) → h < system.hosts → a < system.agents → IsTrue (is_joined system a h) → IsTrue (system.agent a).has_readdatavalid → IsTrue (is_alike (system.host h) (system.agent a)) →
+  -- a host that is alike to an agent is wired to its arbiter
+  pub wired : (h a : ℕ) → h < system.hosts → a < system.agents → IsTrue (is_joined system a h) → IsTrue (is_alike (system.host h) (system.agent a)) →
       IsWire (ports.after_route h a) (ports.before_arbiter h a)
   -- where host and agent aren't joined the words may differ, since nothing is shown
   pub idle : (h a : ℕ) → h < system.hosts → a < system.agents → IsFalse (is_joined system a h) → AreIdleWires ports h a

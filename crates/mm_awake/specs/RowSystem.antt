@@ -44,8 +44,8 @@ pub record AreRows (system : System) (run : Run) (ports : RowPorts) (end : ℕ) 
   pub drops : (h a : ℕ) → h < system.hosts → a < system.agents → IsFalse (idle h a) → DropsBeats (target_of system a) (ports.above_dropper h a) (ports.before_arbiter h a)
   -- where no beats are dropped, the agent has byte enables or the host has none
   pub lanes : (h a : ℕ) (low : h < system.hosts) (there : a < system.agents) (links : IsFalse (idle h a)) → IsFalse (drops_some (drops h a low there links)) → IsTrue ((system.agent a).has_enables || not (system.host h).has_enables)
-  -- a host whose plain commands reach an agent with readdatavalid one for one is wired to its arbiter: a link with room for one read, which may stand there, would hold a second one back while the first is owed
-  pub wired : (h a : ℕ) → h < system.hosts → a < system.agents → IsTrue (is_joined system a h) → IsTrue (system.agent a).has_readdatavalid → IsTrue (is_alike (system.host h) (system.agent a)) →
+  -- a host whose plain commands reach an agent one for one is wired to its arbiter: a link with room for one read, which may stand there, would hold a second one back while the first is owed
+  pub wired : (h a : ℕ) → h < system.hosts → a < system.agents → IsTrue (is_joined system a h) → IsTrue (is_alike (system.host h) (system.agent a)) →
       IsWire (ports.after_route h a) (ports.before_arbiter h a)
   pub apart : (h a : ℕ) → h < system.hosts → a < system.agents → IsTrue (idle h a) → IsFalse (is_joined system a h) × AreIdleWires ports h a
 

@@ -198,7 +198,7 @@ rows links = record {
   drops = λ h a is there joined. drops links h a is there;
   lanes = λ h a is there joined none. lanes links h a is there none;
   apart = λ h a is there idle. absurd (both_ways false refl idle);
-  wired = λ h a is there joined has alike. pairs (λ h a. IsTrue (is_alike (burst_system.host h) (burst_system.agent a)) → IsWire (after_route h a) (before_arbiter h a))
+  wired = λ h a is there joined alike. pairs (λ h a. IsTrue (is_alike (burst_system.host h) (burst_system.agent a)) → IsWire (after_route h a) (before_arbiter h a))
       (λ x. let bad : ⊥ = cc in absurd bad) (λ x. let bad : ⊥ = cc in absurd bad) (λ x. plain_wire.wire) (λ x. let bad : ⊥ = cc in absurd bad) h a is there alike;
 }
 

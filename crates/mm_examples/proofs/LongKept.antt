@@ -68,7 +68,7 @@ suits = record {
         room = omega arith;
       })
       h a is there;
-  wired = λ h a is there joined has. pairs (λ h a. IsTrue (is_alike (long_plan.system.host h) (long_plan.system.agent a)) → IsWireRow (row_of long_plan h a))
+  wired = λ h a is there joined. pairs (λ h a. IsTrue (is_alike (long_plan.system.host h) (long_plan.system.agent a)) → IsWireRow (row_of long_plan h a))
       (λ alike. let bad : ⊥ = cc in absurd bad) (λ alike. let bad : ⊥ = cc in absurd bad) (λ alike. let bad : ⊥ = cc in absurd bad) (λ alike. let bad : ⊥ = cc in absurd bad)
       h a is there;
   -- agent 0 has byte enables, and before agent 1 beats are dropped

@@ -216,7 +216,7 @@ rows links = record {
   drops = λ h a is there joined. no_dropper (wire_below h a is there);
   lanes = λ h a is there joined none. refl;
   apart = λ h a is there idle. absurd (both_ways false refl idle);
-  wired = λ h a is there joined has alike. pairs (λ h a. IsTrue (is_alike (width_system.host h) (width_system.agent a)) → IsWire (after_route h a) (before_arbiter h a))
+  wired = λ h a is there joined alike. pairs (λ h a. IsTrue (is_alike (width_system.host h) (width_system.agent a)) → IsWire (after_route h a) (before_arbiter h a))
       (λ x. record { same = refl; longer = omega arith }) (λ x. let bad : ⊥ = cc in absurd bad) (λ x. let bad : ⊥ = cc in absurd bad) (λ x. record { same = refl; longer = omega arith }) h a is there alike;
 }
 

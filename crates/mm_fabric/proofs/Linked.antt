@@ -243,7 +243,7 @@ module _ (plan : PlanTable) (planned : IsMemoryPlan (memory_system plan)) (disti
     gathers = λ h a low there has. ((stands h low a there).leads has).gathers;
     drops = λ h a low there has. ((stands h low a there).leads has).dropped;
     lanes = lanes_at;
-    wired = λ h a low there has valid alike. alike_wire plan planned netlist fabric is longer extends run endless h a low there (is.joined h a low there has) alike;
+    wired = λ h a low there has alike. alike_wire plan planned netlist fabric is longer extends run endless h a low there (is.joined h a low there has) alike;
     idle = idle_at;
   }
 
