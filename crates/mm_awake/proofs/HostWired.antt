@@ -35,8 +35,8 @@ use Rattle.mm_awake.proofs.Wanted.{two_of, three_of, tagged_of_host, own_taken, 
 use Rattle.mm_awake.proofs.Widened.{wire_stays, wire_operations, bursts as bursts_same}
 use Rattle.mm_awake.specs.Steps.{HasStepsLeft, HasSingleReads, WaitsItsTurn, HasPace, beats_of_others}
 use Rattle.mm_runs.specs.Awake.{lacks_beats, is_accepted_now}
-use Rattle.mm_runs.specs.Onward.{is_taken_now, is_given_now, moves_on, longest_of}
-use Rattle.mm_awake.specs.Onward.{SendsWordsUp, is_good, IsStanding, IsPrompt}
+use Rattle.mm_runs.specs.Onward.{is_taken_now, is_given_now, moves_on, longest_of, IsPrompt}
+use Rattle.mm_awake.specs.Onward.{SendsWordsUp, is_good, IsStanding}
 use Rattle.mm_awake.proofs.HostGrants.{no_both}
 use Rattle.mm_awake.proofs.HostBursts.{beats_left, bursts_have_beats_left}
 use Rattle.mm_awake.proofs.Numbers.{Outcome, Outcome.a_beat, Outcome.an_operation, Outcome.a_word, Outcome.a_given, each_holds}

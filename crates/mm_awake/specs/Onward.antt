@@ -1,21 +1,16 @@
 -- How long a beat may stand at its host, and within how many cycles a command moves on beside its neighbours.
-use Rattle.std.specs.Prelude.{ℕ, suc, ◌+◌, ◌-◌, ◌*◌, ◌<◌, ◌≤◌, Bool, not, ◌&&◌, ◌||◌, nat_eq, IsTrue, IsFalse, Some}
-use Rattle.std.specs.List.{list_all}
+use Rattle.std.specs.Prelude.{ℕ, suc, ◌+◌, ◌-◌, ◌*◌, ◌<◌, ◌≤◌, Bool, not, ◌&&◌, ◌||◌, IsTrue, IsFalse, Some}
 use Rattle.histories.specs.History.{is_raised, numbers}
 use Rattle.mm_runs.specs.Views.{System, Run}
-use Rattle.mm_runs.specs.Commands.{longest_burst, agent_accepts}
+use Rattle.mm_runs.specs.Commands.{agent_accepts}
 use Rattle.mm_runs.specs.Legal.{host_accepts}
-use Rattle.mm_runs.specs.Order.{is_joined}
-use Rattle.mm_runs.specs.Awake.{are_taken, are_given, is_given_from, owes, shows_its_burst, is_oldest, is_for, lacks_beats, is_accepted_now, IsWanted, Throughout, Sometime, longest_wait}
+use Rattle.mm_runs.specs.Awake.{owes, is_oldest, is_for, lacks_beats, Throughout, longest_wait}
+use Rattle.mm_runs.specs.Onward.{bursts_go_on, longest_of}
 use Rattle.mm_machines.specs.Link.{Port}
 use Rattle.mm_machines.specs.Rank.{is_owed}
 use Rattle.mm_machines.specs.Turns.{seats_of}
 use Rattle.mm_awake.specs.Ways.{count_in}
 use Rattle.mm_awake.specs.Steps.{beats_of_others}
-
--- each host with a write burst for the agent under way shows a beat
-abbrev pub bursts_go_on : System → Run → ℕ → ℕ → Bool
-bursts_go_on system run agent cycle = list_all (shows_its_burst system run (Some agent) cycle) (numbers 0 system.hosts)
 
 -- the agent neither stalls nor owes an answer, and no burst for it lacks a beat
 abbrev pub is_good : System → Run → ℕ → ℕ → Bool
@@ -69,28 +64,9 @@ StandsFor cycles beats system run agent host end =
     (from size number : ℕ) → from + size ≤ end → Throughout from size (IsStanding system run agent host number) →
     (count_in (is_good system run agent) from size ≤ cycles) × (count_in (agent_accepts (system.agent agent) (run.at_agent agent)) from size ≤ beats)
 
--- an agent that never stalls, and that owes nothing by the end of so many cycles in which it takes nothing
-pub record IsPrompt (system : System) (run : Run) (agent late end : ℕ) : Type 0 where
-  pub ready : (c : ℕ) → c < end → IsFalse (is_raised ((run.at_agent agent).waitrequest c))
-  pub answers : (c : ℕ) → c + late ≤ end → Throughout c late (λ k. IsFalse (agent_accepts (system.agent agent) (run.at_agent agent) k)) → IsFalse (owes system run agent (c + late - 1))
-
 -- a beat stands at its host for fewer cycles than these: the good ones, and the agent's latency for each beat that it accepts meanwhile, and once more
 abbrev pub prompt_by : ℕ → System → ℕ → ℕ → ℕ
 prompt_by round system agent late = standing_by round system agent + late * (accepted_by round system + 1)
 
 abbrev pub prompt_window : System → ℕ → ℕ → ℕ → ℕ
 prompt_window system agent host late = prompt_by (round_of_others system agent host) system agent late
-
--- the oldest command lacks beats, whether or not one is accepted in this cycle
-pub record IsLacking (system : System) (run : Run) (agent host number cycle : ℕ) : Type 0 where
-  pub oldest : IsTrue (is_oldest system run host number cycle)
-  pub for_agent : IsTrue (is_for system run host (Some agent) number (suc cycle))
-  pub lacking : IsTrue (lacks_beats system run host number cycle)
-  pub bursts : IsTrue (bursts_go_on system run agent cycle)
-  pub passes : IsTrue (is_raised ((run.at_host host).write cycle) || (system.host host).has_readdatavalid)
-
--- in each window of so many cycles in which the oldest command lacks beats one is accepted
-abbrev pub AcceptsWithin : ℕ → System → Run → ℕ → ℕ → ℕ → Type 0
-AcceptsWithin size system run agent host end =
-    (from number : ℕ) → from + size ≤ end → Throughout from size (IsLacking system run agent host number) →
-    Sometime from size (λ c. IsTrue (host_accepts (run.at_host host) c))

@@ -22,8 +22,8 @@ ghost use Rattle.mm_awake.specs.PlainSystem.{AreQuietPast};
 ghost use Rattle.mm_awake.specs.Wires.{IsWire};
 ghost use Rattle.mm_awake.specs.Theorem.{Boundaries, States, LinkRanks, IsBuilt};
 ghost use Rattle.mm_runs.specs.Awake.{MovesAtDefaultWithin, Throughout};
-ghost use Rattle.mm_runs.specs.Onward.{MovesWithin, NoHostHangs, longest_of};
-ghost use Rattle.mm_awake.specs.Onward.{SendsWordsUp, StandsFor, AcceptsWithin, IsStanding, IsPrompt, prompt_window, wired_window, standing_window, beats_before, moves_by, round_by, standing_by, accepted_by, prompt_by, is_good};
+ghost use Rattle.mm_runs.specs.Onward.{MovesWithin, NoHostHangs, longest_of, AcceptsWithin, IsPrompt};
+ghost use Rattle.mm_awake.specs.Onward.{SendsWordsUp, StandsFor, IsStanding, prompt_window, wired_window, standing_window, beats_before, moves_by, round_by, standing_by, accepted_by, prompt_by, is_good};
 ghost use Rattle.mm_awake.specs.Steps.{HasStepsLeft, HasSingleReads, WaitsItsTurn, HasPace, beats_of_others};
 
 /// A host that asks at an arbiter, and isn't taken, is passed by no more beats of the others than one round of them has; and where what lies below has a rank that falls, it waits no more good cycles than each of these beats and its own may take.

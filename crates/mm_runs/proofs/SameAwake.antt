@@ -11,7 +11,7 @@ use Rattle.mm_runs.specs.Commands.{Burst, Transfer, accepted, agent_accepts, rea
 use Rattle.mm_runs.specs.Legal.{host_accepts, given, gives_word}
 use Rattle.mm_runs.specs.Order.{Owner, Asked, asked, for_agent, host_transfers, is_agent, is_read_beat, is_same_owner, issued, of_host, place_of, taken, transfer_operations}
 use Rattle.mm_runs.specs.Awake.{is_accepted_now, IsWanted, ServesWithin, ServesDefaultWithin, ReadsAheadWithin, NeverIdles, IsAsked, IsWaiting, IsPassedByFew, TakesTurns, HasFullTurns, IsFair, are_finished_before, are_given, are_reached, are_taken, asks_only, begun, begun_by_others, begun_within, commands_begun, count_for, first_owners, has_begun, has_no_operation, is_finished, is_for, is_given_from, is_oldest, is_place, is_unfinished, is_wanted_at_default, is_written_to, lacks_beats, may_be_counted, moves_on_at_default, MovesAtDefaultWithin, of_command, owes, serves, shares_of_others, shows_its_burst, shows_plain_write, turns_of, up_to, agent_window, window_of}
-use Rattle.mm_runs.specs.Onward.{is_taken_now, is_given_now, moves_on, MovesWithin, NoHostHangs}
+use Rattle.mm_runs.specs.Onward.{is_taken_now, is_given_now, moves_on, MovesWithin, NoHostHangs, bursts_go_on, IsLacking, IsPrompt, AcceptsSoon}
 use Rattle.mm_runs.specs.Beginnings.{RunsAgreeBefore}
 use Rattle.mm_runs.proofs.SameSides.{same_before, same_shows, same_burst, same_transfer, same_gives, same_unanswered, same_words}
 use Rattle.mm_runs.proofs.SameSafe.{host_takes, agent_takes, same_transfers, same_host_accepted, words_given, same_asks, same_issued, same_beats, same_taken, same_owners_taken, same_words_in}
@@ -182,6 +182,30 @@ module _ (system : System) (one two : Run) (end : ℕ) (same : RunsAgreeBefore o
   pub same_onward : (window : ℕ → ℕ → ℕ) → NoHostHangs window system one end → NoHostHangs window system two end
   same_onward window onward = record { moves = λ a h there low joined. same_moves (window a h) a h (onward.moves a h there low joined) }
 
+  -- ---- what stands is accepted soon
+
+  same_go_on : (a c : ℕ) → c < end → bursts_go_on system one a c ≡ bursts_go_on system two a c
+  same_go_on a c low = ap (λ (f : ℕ → Bool). list_all f (numbers 0 system.hosts)) (fun_ext (λ h. same_its_burst (Some a) c h low))
+
+  pub lacking : (a h number c : ℕ) → c < end → IsLacking system two a h number c → IsLacking system one a h number c
+  lacking a h number c low lacks = record {
+    oldest = subst IsTrue (sym (same_oldest h number c low)) lacks.oldest;
+    for_agent = subst IsTrue (sym (same_for h (Some a) number (suc c) low)) lacks.for_agent;
+    lacking = subst IsTrue (sym (same_lacks h number c (omega arith))) lacks.lacking;
+    bursts = subst IsTrue (sym (same_go_on a c low)) lacks.bursts;
+    passes = subst (λ (l : Levels). IsTrue (is_raised l.write || (system.host h).has_readdatavalid)) (sym ((same.hosts h).signals c low)) lacks.passes;
+  }
+
+  pub prompt : (a late : ℕ) → 1 ≤ late → IsPrompt system two a late end → IsPrompt system one a late end
+  prompt a late some is = record {
+    ready = λ c low. is_ready a c low (is.ready c low);
+    answers = λ c low none. subst IsFalse (sym (same_owes a (c + late - 1) (omega (arith, low, some))))
+        (is.answers c low (λ k first last. subst IsFalse (agent_takes system one two end same a k (omega (arith, last, low))) (none k first last)));
+  }
+
+  pub takes_host : (h c : ℕ) → c < end → host_accepts (one.at_host h) c ≡ host_accepts (two.at_host h) c
+  takes_host h c low = host_takes system one two end same h c low
+
   -- ---- fairness
 
   same_begun : (a c : ℕ) → c ≤ end → begun system one a c ≡ begun system two a c
@@ -244,3 +268,10 @@ module _ (system : System) (one two : Run) (end : ℕ) (same : RunsAgreeBefore o
     few = λ a there. same_few (4 * system.stages + 32) a (fair.few a there);
     turns = λ a there. same_turns a (fair.turns a there);
   }
+
+pub same_accepts : (window : ℕ → ℕ → ℕ → ℕ) (system : System) (one two : Run) (end : ℕ) → RunsAgreeBefore one two (end + 2) → AcceptsSoon window system one end → AcceptsSoon window system two end
+same_accepts window system one two end same soon = record {
+  accepts = λ a h late there low joined alike some is from number fits all.
+      let found = soon.accepts a h late there low joined alike some (prompt system one two (end + 2) same a late some is) from number fits (λ c later sooner. lacking system one two (end + 2) same a h number c (omega (arith, sooner, fits)) (all c later sooner)) in
+      (found.0, found.1, found.2, subst IsTrue (takes_host system one two (end + 2) same h found.0 (let there = found.2 in omega (arith, there, fits))) found.3);
+}

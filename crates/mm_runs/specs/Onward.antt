@@ -1,9 +1,12 @@
 -- No host hangs: where nothing but the module can hold a command up, the command itself moves on.
-use Rattle.std.specs.Prelude.{ℕ, ◌+◌, ◌<◌, ◌≤◌, Bool, not, ◌&&◌, ◌||◌, nat_eq, IsTrue, Some}
+use Rattle.std.specs.Prelude.{ℕ, suc, ◌+◌, ◌-◌, ◌<◌, ◌≤◌, Bool, not, ◌&&◌, ◌||◌, nat_eq, IsTrue, IsFalse, Some}
+use Rattle.std.specs.List.{list_all}
+use Rattle.histories.specs.History.{is_raised, numbers}
 use Rattle.mm_runs.specs.Views.{System, Run}
 use Rattle.mm_runs.specs.Commands.{longest_burst, agent_accepts}
+use Rattle.mm_runs.specs.Legal.{host_accepts}
 use Rattle.mm_runs.specs.Order.{is_joined}
-use Rattle.mm_runs.specs.Awake.{are_taken, are_given, is_given_from, is_accepted_now, IsWanted, Throughout, Sometime}
+use Rattle.mm_runs.specs.Awake.{are_taken, are_given, is_given_from, is_accepted_now, is_alike, is_for, is_oldest, lacks_beats, owes, shows_its_burst, IsWanted, Throughout, Sometime}
 
 -- the agent takes a beat with the host's tag while operations of the command lack there
 abbrev pub is_taken_now : System → Run → ℕ → ℕ → ℕ → ℕ → Bool
@@ -32,3 +35,33 @@ pub record NoHostHangs (window : ℕ → ℕ → ℕ) (system : System) (run : R
 -- the longest burst of a host, in beats
 abbrev pub longest_of : System → ℕ → ℕ
 longest_of system host = longest_burst (system.host host).burst_bits
+
+-- ---- where an agent owes answers meanwhile
+
+-- each host with a write burst for the agent under way shows a beat
+abbrev pub bursts_go_on : System → Run → ℕ → ℕ → Bool
+bursts_go_on system run agent cycle = list_all (shows_its_burst system run (Some agent) cycle) (numbers 0 system.hosts)
+
+-- an agent that never stalls, and that owes nothing by the end of so many cycles in which it takes nothing
+pub record IsPrompt (system : System) (run : Run) (agent late end : ℕ) : Type 0 where
+  pub ready : (c : ℕ) → c < end → IsFalse (is_raised ((run.at_agent agent).waitrequest c))
+  pub answers : (c : ℕ) → c + late ≤ end → Throughout c late (λ k. IsFalse (agent_accepts (system.agent agent) (run.at_agent agent) k)) → IsFalse (owes system run agent (c + late - 1))
+
+-- the oldest command lacks beats, whether or not one is accepted in this cycle
+pub record IsLacking (system : System) (run : Run) (agent host number cycle : ℕ) : Type 0 where
+  pub oldest : IsTrue (is_oldest system run host number cycle)
+  pub for_agent : IsTrue (is_for system run host (Some agent) number (suc cycle))
+  pub lacking : IsTrue (lacks_beats system run host number cycle)
+  pub bursts : IsTrue (bursts_go_on system run agent cycle)
+  pub passes : IsTrue (is_raised ((run.at_host host).write cycle) || (system.host host).has_readdatavalid)
+
+-- in each window of so many cycles in which the oldest command lacks beats one is accepted
+abbrev pub AcceptsWithin : ℕ → System → Run → ℕ → ℕ → ℕ → Type 0
+AcceptsWithin size system run agent host end =
+    (from number : ℕ) → from + size ≤ end → Throughout from size (IsLacking system run agent host number) →
+    Sometime from size (λ c. IsTrue (host_accepts (run.at_host host) c))
+
+-- each host among hosts whose plain commands reach the agent one for one, where the agent is prompt
+pub record AcceptsSoon (window : ℕ → ℕ → ℕ → ℕ) (system : System) (run : Run) (end : ℕ) : Type 0 where
+  pub accepts : (a h late : ℕ) → a < system.agents → h < system.hosts → IsTrue (is_joined system a h) → IsTrue (list_all (λ host. is_alike (system.host host) (system.agent a)) (system.joined a)) →
+      1 ≤ late → IsPrompt system run a late (end + 2) → AcceptsWithin (window a h late) system run a h end

@@ -3,14 +3,14 @@
 
 mod plain;
 
-ghost use Rattle.std.specs.Prelude.{◌≡◌, ◌<◌, ◌≤◌, ◌*◌, true, ℕ, Bool, List};
+ghost use Rattle.std.specs.Prelude.{◌+◌, ◌≡◌, ◌<◌, ◌≤◌, ◌*◌, true, ℕ, Bool, List};
 ghost use Rattle.histories.specs.History.{IsPrefix};
 ghost use Rattle.mm_runs.specs.Commands.{AcceptsOnlyShown, accepted, presented};
 ghost use Rattle.mm_runs.specs.Views.{Responses, System, Run, Shape, Signals};
 ghost use Rattle.mm_runs.specs.Operations.{Beat, own_operations, operations_of};
 ghost use Rattle.mm_runs.specs.Legal.{AreLegal};
 ghost use Rattle.mm_runs.specs.Awake.{NeverIdles, IsFair};
-ghost use Rattle.mm_runs.specs.Onward.{NoHostHangs};
+ghost use Rattle.mm_runs.specs.Onward.{NoHostHangs, AcceptsSoon};
 ghost use Rattle.mm_runs.specs.Order.{ActsAsMemory, ReadsFromMemory, ReturnsInCommandOrder, from_base, issued, taken, are_together, Owner, is_same_owner, StandsBetween};
 ghost use Rattle.mm_runs.specs.Beginnings.{RunsAgreeBefore};
 ghost use Rattle.mm_runs.specs.Whole.{IsLegalRun, IsSafe};
@@ -56,6 +56,8 @@ pub fn same_beginnings()
         → NeverIdles system one end → NeverIdles system two end }
     ensures onward { (window : ℕ → ℕ → ℕ) (system : System) (one two : Run) (end : ℕ) → RunsAgreeBefore one two end
         → NoHostHangs window system one end → NoHostHangs window system two end }
+    ensures accepts { (window : ℕ → ℕ → ℕ → ℕ) (system : System) (one two : Run) (end : ℕ) → RunsAgreeBefore one two (end + 2)
+        → AcceptsSoon window system one end → AcceptsSoon window system two end }
     ensures fair { (system : System) (one two : Run) (end : ℕ) → RunsAgreeBefore one two end
         → IsFair system one end → IsFair system two end }
 {}

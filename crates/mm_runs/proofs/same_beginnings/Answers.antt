@@ -1,6 +1,6 @@
 use Rattle.mm_runs.proofs.SameSides.{agree_turned}
 use Rattle.mm_runs.proofs.SameSafe.{same_legal_run, same_safe}
-use Rattle.mm_runs.proofs.SameAwake.{same_awake, same_onward, same_fair}
+use Rattle.mm_runs.proofs.SameAwake.{same_awake, same_onward, same_accepts, same_fair}
 use Rattle.mm_runs.proofs.same_beginnings.Goals as goal
 
 pub returns-clause-legal : goal.returns-clause-legal
@@ -20,3 +20,6 @@ returns-clause-turned c = agree_turned
 
 pub returns-clause-onward : goal.returns-clause-onward
 returns-clause-onward c = λ window system one two end same. same_onward system one two end same window
+
+pub returns-clause-accepts : goal.returns-clause-accepts
+returns-clause-accepts c = same_accepts

@@ -13,7 +13,8 @@ use Rattle.mm_machines.specs.Lines.{target_of, tagged_operations, groups_of}
 use Rattle.mm_parts.specs.Steps.{IsAgentPart, agent_rank}
 use Rattle.mm_awake.specs.Ways.{count_in}
 use Rattle.mm_awake.specs.Theorem.{Boundaries, States, LinkRanks, IsBuilt}
-use Rattle.mm_awake.specs.Onward.{is_good, IsStanding, IsLacking, prompt_by, round_by}
+use Rattle.mm_runs.specs.Onward.{IsLacking}
+use Rattle.mm_awake.specs.Onward.{is_good, IsStanding, prompt_by, round_by}
 use Rattle.mm_runs.specs.Legal.{host_accepts}
 use Rattle.mm_awake.proofs.Wanted.{some_or_none}
 use Rattle.mm_awake.proofs.Arbiter.{TurnLaws}
