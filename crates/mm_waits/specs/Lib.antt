@@ -1,3 +1,4 @@
 pub mod Waits
 pub mod Watched
 pub mod Neighbours
+pub mod Windows
