@@ -48,7 +48,7 @@ numbers_length first zero = refl
 numbers_length first (suc n) = ap suc (numbers_length (suc first) n)
 
 -- A wanted agent is served: what a host wants is work of some part on its way.
-any_of : (test : ℕ → Bool) (n k : ℕ) → k < n → IsTrue (test k) → IsTrue (any_below test n)
+pub any_of : (test : ℕ → Bool) (n k : ℕ) → k < n → IsTrue (test k) → IsTrue (any_below test n)
 any_of test zero k h holds = absurd (omega (arith, h))
 any_of test (suc n) k h holds = by_place (nat_eq k n) refl (any_of test n k)
   where
@@ -63,19 +63,19 @@ none_of test n k none h = by_test (test k) refl
     by_test true e = absurd (both_ways (any_below test n) none (any_of test n k h e))
     by_test false e = refl
 
+pub found_below : (test : ℕ → Bool) (n : ℕ) → IsTrue (any_below test n) → (k : ℕ) × (k < n) × IsTrue (test k)
+found_below test zero h = absurd (no_true h)
+found_below test (suc n) h = by_test (test n) refl h (found_below test n)
+  where
+    by_test : (b : Bool) → test n ≡ b → IsTrue (b || any_below test n) → (IsTrue (any_below test n) → (k : ℕ) × (k < n) × IsTrue (test k)) → (k : ℕ) × (k < suc n) × IsTrue (test k)
+    by_test true e h more = (n, omega arith, e)
+    by_test false e h more = let found = more h in (found.0, omega (arith, found.1), found.2)
+
 pub some_or_none : (test : ℕ → Bool) (n : ℕ) → ((c : ℕ) × (c < n) × IsTrue (test c)) ⊎ ((c : ℕ) → c < n → IsFalse (test c))
 some_or_none test n = by_any (any_below test n) refl
   where
-    some_below : (n : ℕ) → IsTrue (any_below test n) → (k : ℕ) × (k < n) × IsTrue (test k)
-    some_below zero h = absurd (no_true h)
-    some_below (suc n) h = by_test (test n) refl h (some_below n)
-      where
-        by_test : (b : Bool) → test n ≡ b → IsTrue (b || any_below test n) → (IsTrue (any_below test n) → (k : ℕ) × (k < n) × IsTrue (test k)) → (k : ℕ) × (k < suc n) × IsTrue (test k)
-        by_test true e h more = (n, omega arith, e)
-        by_test false e h more = let found = more h in (found.0, omega (arith, found.1), found.2)
-
     by_any : (b : Bool) → any_below test n ≡ b → ((c : ℕ) × (c < n) × IsTrue (test c)) ⊎ ((c : ℕ) → c < n → IsFalse (test c))
-    by_any true e = inl (some_below n e)
+    by_any true e = inl (found_below test n e)
     by_any false e = inr (λ c h. none_of test n c e h)
 
 pub two_of : (a b : Bool) {R : Type 0} → IsTrue (a || b) → (IsTrue a → R) → (IsTrue b → R) → R

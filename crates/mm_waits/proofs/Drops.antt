@@ -22,7 +22,7 @@ use Rattle.mm_waits.proofs.Rows.{few_words, joins_more, not_closed, last_joined_
 
 -- ---- one cycle, by what stands above
 
-abbrev now : Bool → Bool → Bool → Bool → Bool → ℕ → Standing
+abbrev pub now : Bool → Bool → Bool → Bool → Bool → ℕ → Standing
 now s w a m h r = record { shown = s; writes = w; acts = a; more = m; holds = h; reads = r }
 
 -- a beat is taken below that joins another: the beat above is accepted, or the kept one goes before it
@@ -55,20 +55,20 @@ hands room true true true true false r e f = absurd cc
 hands room true false true true false r e f = inl (record { taken = refl; more = refl; free = refl; which = inr (refl, refl) })
 
 -- a beat is accepted above, and none is taken below: it is kept, or it has no lane
-record IsKeptNow (a m k o : Bool) : Type 0 where
-  acts : a ≡ true
-  more : m ≡ true
-  kept : k ≡ true
-  free : o ≡ false
+pub record IsKeptNow (a m k o : Bool) : Type 0 where
+  pub acts : a ≡ true
+  pub more : m ≡ true
+  pub kept : k ≡ true
+  pub free : o ≡ false
 
-record IsPassed (a m h : Bool) : Type 0 where
-  empty : a ≡ false
-  more : m ≡ true
-  kept : h ≡ true
+pub record IsPassed (a m h : Bool) : Type 0 where
+  pub empty : a ≡ false
+  pub more : m ≡ true
+  pub kept : h ≡ true
 
-record IsGone (a h : Bool) : Type 0 where
-  empty : a ≡ false
-  none : h ≡ false
+pub record IsGone (a h : Bool) : Type 0 where
+  pub empty : a ≡ false
+  pub none : h ≡ false
 
 abbrev Swallows : Standing → Type 0
 Swallows n = IsKeptNow n.acts n.more (keeps n false) (owes_itself n false) ⊎ (IsPassed n.acts n.more n.holds ⊎ IsGone n.acts n.holds)
@@ -90,7 +90,7 @@ swallows true w false false true r e = absurd (no_and _ e)
 swallows true w false m false r e = inr (inr (record { empty = refl; none = refl }))
 
 -- what stands and isn't shown is accepted, while no word is owed below
-goes_in : (room : ℕ) (w a m h : Bool) → 0 < room → sends room (now true w a m h 0) ≡ false → accepted (now true w a m h 0) false ≡ true
+pub goes_in : (room : ℕ) (w a m h : Bool) → 0 < room → sends room (now true w a m h 0) ≡ false → accepted (now true w a m h 0) false ≡ true
 goes_in room w true m true some e = absurd cc
 goes_in room w false false true some e = absurd cc
 goes_in room true false true true some e = refl
@@ -209,7 +209,7 @@ module _ (target : Target) (room : ℕ) (up down : Port) (state : DropState) (en
       by_way true e = absurd (no_both _ (other (is_raised (up.commands.read c)) (writes c) shown kind) (legal.legal.finished c fit e))
 
   -- a read counts as one
-  one_read : (c : ℕ) → c < end → IsTrue (shows up.commands.signals c) → IsFalse (writes c) → up.commands.count c ≡ 1
+  pub one_read : (c : ℕ) → c < end → IsTrue (shows up.commands.signals c) → IsFalse (writes c) → up.commands.count c ≡ 1
   one_read zero fit shown kind = one_first zero fit shown kind shown
   one_read (suc c) fit shown kind = by_held (is_held up.commands.signals (takes up) c) refl (one_read c (omega (arith, fit)))
     where
@@ -230,7 +230,7 @@ module _ (target : Target) (room : ℕ) (up down : Port) (state : DropState) (en
 
   -- ---- what is kept next
 
-  kept_then : (c : ℕ) (k t : Bool) → keeps_at c ≡ k → takes down c ≡ t → kept (suc c) ≡ (if k then true else if t then false else kept c)
+  pub kept_then : (c : ℕ) (k t : Bool) → keeps_at c ≡ k → takes down c ≡ t → kept (suc c) ≡ (if k then true else if t then false else kept c)
   kept_then c k t ek et = ap is_nonempty (runs.kept_next c) ∙ (rw (ek, et) (by_both k t))
     where
       by_both : (k t : Bool) → is_nonempty (if k then raw_at up c ∷ [] else if t then [] else state.kept c) ≡ (if k then true else if t then false else kept c)
@@ -238,13 +238,13 @@ module _ (target : Target) (room : ℕ) (up down : Port) (state : DropState) (en
       by_both false true = refl
       by_both false false = refl
 
-  none_kept : (c : ℕ) → takes up c ≡ false → keeps_at c ≡ false
+  pub none_kept : (c : ℕ) → takes up c ≡ false → keeps_at c ≡ false
   none_kept c e = ap (λ b. b && ((writes c && more c) && acts c)) (sym (runs.accepts c) ∙ e)
 
-  none_own : (c : ℕ) → takes up c ≡ false → state.own (suc c) ≡ false
+  pub none_own : (c : ℕ) → takes up c ≡ false → state.own (suc c) ≡ false
   none_own c e = runs.own_next c ∙ ap (λ b. b && (not (writes c) && not (acts c))) (sym (runs.accepts c) ∙ e)
 
-  swallows_at : (c : ℕ) → takes up c ≡ true → takes down c ≡ false → IsKeptNow (acts c) (more c) (keeps_at c) (owes_at c) ⊎ (IsPassed (acts c) (more c) (kept c) ⊎ IsGone (acts c) (kept c))
+  pub swallows_at : (c : ℕ) → takes up c ≡ true → takes down c ≡ false → IsKeptNow (acts c) (more c) (keeps_at c) (owes_at c) ⊎ (IsPassed (acts c) (more c) (kept c) ⊎ IsGone (acts c) (kept c))
   swallows_at c eu ed =
       subst (λ t. IsKeptNow (acts c) (more c) (keeps (standing_at up state c) t) (owes_itself (standing_at up state c) t) ⊎ (IsPassed (acts c) (more c) (kept c) ⊎ IsGone (acts c) (kept c))) (sym ed)
       (swallows (shows up.commands.signals c) (writes c) (acts c) (more c) (kept c) (state.reads c) (ap (λ t. accepted (standing_at up state c) t) (sym ed) ∙ sym (runs.accepts c) ∙ eu))
@@ -282,7 +282,7 @@ module _ (target : Target) (room : ℕ) (up down : Port) (state : DropState) (en
       (sym (ap (λ (l : Levels). is_raised l.read || is_raised l.write) same) ∙ shown, sym (ap (λ (l : Levels). any_lane up.shape l.enables) same) ∙ lane)
 
   -- while a beat is kept, its command is open above
-  kept_open : (c : ℕ) → kept c ≡ true → is_last_joined (taken_at up c) ≡ true
+  pub kept_open : (c : ℕ) → kept c ≡ true → is_last_joined (taken_at up c) ≡ true
   kept_open zero some = let none = ap is_nonempty runs.kept_begins in cc
   kept_open (suc c) some = by_all (takes up c) (takes down c) (keeps_at c) refl refl refl (kept_open c)
     where
@@ -582,19 +582,22 @@ module _ (target : Target) (room : ℕ) (up down : Port) (state : DropState) (en
   asks_above : (c : ℕ) → c < end → words_owed up (suc c) ≡ words_owed up c + one_if (takes_read up c)
   asks_above c fit = asks_by up c (λ took kind. one_read target room up down state end plan runs legal c fit (takes_shows up c took) kind)
 
-  asks_below : (c : ℕ) → c < end → words_owed down (suc c) ≡ words_owed down c + one_if (takes_read down c)
-  asks_below c fit = asks_by down c (λ took kind. by_kept (state.kept c) refl took kind)
+  pub one_read_below : (c : ℕ) → c < end → takes down c ≡ true → is_raised (down.commands.write c) ≡ false → down.commands.count c ≡ 1
+  one_read_below c fit took kind = by_kept (state.kept c) refl
     where
-      shown_above : takes down c ≡ true → IsTrue (shows up.commands.signals c)
-      shown_above took = (and_parts (shows up.commands.signals c) _ (sym (runs.shown c) ∙ takes_shows down c took)).0
+      shown_above : IsTrue (shows up.commands.signals c)
+      shown_above = (and_parts (shows up.commands.signals c) _ (sym (runs.shown c) ∙ takes_shows down c took)).0
 
-      by_kept : (q : List Raw) → state.kept c ≡ q → takes down c ≡ true → is_raised (down.commands.write c) ≡ false → down.commands.count c ≡ 1
-      by_kept [] e took kind =
+      by_kept : (q : List Raw) → state.kept c ≡ q → down.commands.count c ≡ 1
+      by_kept [] e =
           let same = runs.beat c (takes_shows down c took) ∙ ap (λ q. sent_beat q (raw_at up c) (any_lane up.shape (up.commands.enables c))) e in
-          ap (λ (r : Raw). r.levels.count) same ∙ one_read target room up down state end plan runs legal c fit (shown_above took) (sym (ap (λ (r : Raw). is_raised r.levels.write) same) ∙ kind)
-      by_kept (x ∷ q) e took kind =
+          ap (λ (r : Raw). r.levels.count) same ∙ one_read target room up down state end plan runs legal c fit shown_above (sym (ap (λ (r : Raw). is_raised r.levels.write) same) ∙ kind)
+      by_kept (x ∷ q) e =
           let writes = writes_below c took ∙ ap (λ q. if is_nonempty q then true else is_raised (up.commands.write c)) e in
           absurd (no_both (is_raised (down.commands.write c)) writes kind)
+
+  asks_below : (c : ℕ) → c < end → words_owed down (suc c) ≡ words_owed down c + one_if (takes_read down c)
+  asks_below c fit = asks_by down c (λ took kind. one_read_below c fit took kind)
 
   reads_are : (c : ℕ) → c ≤ end → state.reads c + length (words_at down c) ≡ words_owed down c
   reads_are zero fit = let none = runs.reads_begin in omega (arith, none)
@@ -607,7 +610,7 @@ module _ (target : Target) (room : ℕ) (up down : Port) (state : DropState) (en
       omega (arith, before, next, asked, words, few)
 
   -- what is owed above is owed below, or by itself
-  owed_are : (c : ℕ) → c ≤ end → words_owed up c + length (words_at down c) ≡ length (words_at up c) + words_owed down c + one_if (state.own c)
+  pub owed_are : (c : ℕ) → c ≤ end → words_owed up c + length (words_at down c) ≡ length (words_at up c) + words_owed down c + one_if (state.own c)
   owed_are zero fit = let none : one_if (state.own 0) ≡ 0 = ap one_if runs.own_begins in omega (arith, none)
   owed_are (suc c) fit =
       let before = owed_are c (omega (arith, fit)) in

@@ -19,6 +19,7 @@ use Rattle.mm_waits.specs.Waits.{WordsComeSoon}
 use Rattle.mm_waits.specs.Watched.{LeadsBy}
 use Rattle.mm_waits.proofs.Bits.{FirstOrNone, first_or_none, no_true, no_both, not_by, both, some_or_none, three_of}
 use Rattle.mm_waits.proofs.Flush.{shorter_front, no_word}
+use Rattle.mm_waits.proofs.Leads.{owed_grows}
 use Rattle.mm_waits.proofs.Numbers.{Outcome, Outcome.a_beat, Outcome.an_operation, Outcome.a_word, Outcome.a_given, ends_in, ends_length, taken_later, each_holds}
 use Rattle.mm_waits.proofs.Outcomes.{outcome_of, shown_burst, accepted_with_word}
 use Rattle.mm_waits.proofs.Owed.{all_asked, all_words, own_come}
@@ -35,9 +36,6 @@ by_not : (b : Bool) → IsFalse (not b) → IsTrue b
 by_not true f = refl
 by_not false f = absurd (no_true (sym f))
 
-owed_grows : (port : Port) (c d : ℕ) → c ≤ d → words_owed port c ≤ words_owed port d
-owed_grows port c d h = prefix_length (prefix_flat_map (λ (m : Marked). m.transfer.beats) (prefix_filter (λ (m : Marked). is_of_reads m.transfer.kind) (before_prefix (λ k. only_if (takes port k) (marked_at port k)) c d h)))
-
 not_lt : (n m : ℕ) → IsFalse (nat_lt n m) → m ≤ n
 not_lt n m h = grind (arith, tests, h)
 
@@ -51,13 +49,13 @@ same_among system agent one two e ms = same_list ms
     same_list (m ∷ ms) = ap₂ (λ (x y : List Operation). x ++ y) (same_operations (target_of system agent) one.shape two.shape m e) (same_list ms)
 
 -- what stands between a host and an agent, and what is known of its pipe: `flush` cycles empty it, and `stages` cycles bring a word up
-pub record Between (system : System) (run : Run) (agent host end : ℕ) (top : Port) (up : ℕ → Port) (down low : TaggedPort) (waits drained : ℕ → Bool) (left : ℕ → ℕ) (most flush stages : ℕ) : Type 0 where
+pub record Between (system : System) (run : Run) (agent host end : ℕ) (top : Port) (up : ℕ → Port) (down low : TaggedPort) (waits : ℕ → Bool) (left : ℕ → ℕ) (still : ℕ → ℕ → ℕ) (most flush stages : ℕ) : Type 0 where
   pub is_host : host < system.hosts
   pub legal : IsLegalHost (system.host host) (run.at_host host) end
   pub proper : IsProperAtHost (system.host host) (run.at_host host) end
   pub front : IsFront system run host agent top end
   pub gives : GivesAtOnce system run host agent top end
-  pub leads : LeadsBy (target_of system agent) top (up host) waits drained left most (end - 1)
+  pub leads : LeadsBy (target_of system agent) top (up host) waits left still most (end - 1)
   pub arbiter : IsArbiterPart system agent up down end
   pub words : (up host).shape.word_bytes ≡ down.shape.word_bytes
   pub low_words : down.shape.word_bytes ≡ low.shape.word_bytes
@@ -65,7 +63,7 @@ pub record Between (system : System) (run : Run) (agent host end : ℕ) (top : P
   pub soon : WordsComeSoon system run agent low.port end
   pub later : (c : ℕ) → length (words_at down.port (c + stages)) ≡ length (words_at low.port c)
 
-module _ (system : System) (run : Run) (agent host end : ℕ) (top : Port) (up : ℕ → Port) (down low : TaggedPort) (waits drained : ℕ → Bool) (left : ℕ → ℕ) (most flush stages : ℕ) (between : Between system run agent host end top up down low waits drained left most flush stages) where
+module _ (system : System) (run : Run) (agent host end : ℕ) (top : Port) (up : ℕ → Port) (down low : TaggedPort) (waits : ℕ → Bool) (left : ℕ → ℕ) (still : ℕ → ℕ → ℕ) (most flush stages : ℕ) (between : Between system run agent host end top up down low waits left still most flush stages) where
   abbrev pub Flushes : ℕ → ℕ → Type 0
   Flushes from until = (t : ℕ) → from ≤ t → t + flush ≤ until → IsPrefix (taken_at down.port t) (taken_at low.port (t + flush))
 
@@ -143,7 +141,7 @@ module _ (system : System) (run : Run) (agent host end : ℕ) (top : Port) (up :
         by_outcome (a_word whole none owing) = no_both _ lacks whole
         by_outcome (a_given whole given lacking) = no_both _ lacks whole
 
-    leads : LeadsBy (target_of system agent) top (up host) waits drained left most (end - 1)
+    leads : LeadsBy (target_of system agent) top (up host) waits left still most (end - 1)
     leads = between.leads
 
     module _ (short : ℕ) (few_cycles : (start n : ℕ) → from ≤ start → start + n ≤ from + size → ((c : ℕ) → start ≤ c → c < start + n → IsTrue (waits c)) → n ≤ short) where
@@ -189,45 +187,43 @@ module _ (system : System) (run : Run) (agent host end : ℕ) (top : Port) (up :
           let at : start + (stop.cycle - start) ≡ stop.cycle = omega (arith, low) in
           subst (λ x. left x ≤ left start) at (no_more start (stop.cycle - start) (omega (arith, at, high, room, fits)) (λ c l h. none c l (omega (arith, h, at))))
 
-      not_taken : (c : ℕ) → c < end - 1 → IsFalse (drained c) → IsFalse (takes top c)
-      not_taken c fit some = by_take (takes top c) refl
+      -- before long nothing of what was taken above before s is left, or less
+      sends_some : (s start : ℕ) → s ≤ start → from ≤ start → start + short + 1 ≤ from + size →
+          ((c : ℕ) × (start ≤ c) × (c ≤ start + short) × (still s c ≡ 0)) ⊎ ((c : ℕ) × (start ≤ c) × (c ≤ start + short + 1) × (still s c < still s start))
+      sends_some s start near first room = by_none (nat_eq (still s stop.cycle) 0) refl
         where
-          by_take : (b : Bool) → takes top c ≡ b → IsFalse b
-          by_take false e = refl
-          by_take true e = absurd (no_both _ (leads.taken c fit e) some)
+          stop : StopsWaiting start
+          stop = stops_waiting start first room
 
-      -- before long nothing is held, or less
-      drains_some : (start : ℕ) → from ≤ start → start + short + 1 ≤ from + size →
-          ((c : ℕ) × (start ≤ c) × (c ≤ start + short) × IsTrue (drained c)) ⊎ ((c : ℕ) × (start ≤ c) × (c ≤ start + short + 1) × (left c < left start))
-      drains_some start first room = by_stop (stops_waiting start first room)
-        where
-          by_stop : (stop : StopsWaiting start) → ((c : ℕ) × (start ≤ c) × (c ≤ start + short) × IsTrue (drained c)) ⊎ ((c : ℕ) × (start ≤ c) × (c ≤ start + short + 1) × (left c < left start))
-          by_stop stop = elim (some_or_none (λ j. drained (start + j)) (suc (stop.cycle - start))) [
-            | inl found ↦ (let less = found.1 in let low = stop.since in let high = stop.until in inl (start + found.0, omega arith, omega (arith, less, low, high), found.2))
-            | inr none ↦
-                let low = stop.since in
-                let high = stop.until in
-                let fit : stop.cycle < end - 1 = omega (arith, high, room, fits) in
-                let less = left_then start room stop (λ c l h. not_taken c (omega (arith, h, fit)) (held none c l (omega (arith, h)))) in
-                let some = held none stop.cycle low (omega arith) in
-                let fewer = leads.goes stop.cycle fit (not_taken stop.cycle fit some) (or_right (shows top.commands.signals stop.cycle) _ (not_by _ some)) stop.stops in
-                inr (suc stop.cycle, omega (arith, low), omega (arith, high), omega (arith, fewer, less))
-          ]
+          by_none : (b : Bool) → nat_eq (still s stop.cycle) 0 ≡ b → ((c : ℕ) × (start ≤ c) × (c ≤ start + short) × (still s c ≡ 0)) ⊎ ((c : ℕ) × (start ≤ c) × (c ≤ start + short + 1) × (still s c < still s start))
+          by_none true e = inl (stop.cycle, stop.since, stop.until, grind (arith, tests, e))
+          by_none false e =
+              let low = stop.since in
+              let high = stop.until in
+              let at : start + (stop.cycle - start) ≡ stop.cycle = omega (arith, low) in
+              let less = subst (λ x. still s x ≤ still s start) at (none_more (stop.cycle - start) (omega (arith, at, high, room, fits))) in
+              let fewer = leads.goes_still s stop.cycle (omega (arith, near, low)) (omega (arith, high, room, fits)) (grind (arith, tests, e)) stop.stops in
+              inr (suc stop.cycle, omega (arith, low), omega (arith, high), omega (arith, fewer, less))
             where
-              held : ((j : ℕ) → j < suc (stop.cycle - start) → IsFalse (drained (start + j))) → (c : ℕ) → start ≤ c → c ≤ stop.cycle → IsFalse (drained c)
-              held none c low high = let at : start + (c - start) ≡ c = omega (arith, low) in subst (λ k. IsFalse (drained k)) at (none (c - start) (omega (arith, low, high)))
+              none_more : (n : ℕ) → start + n ≤ end - 1 → still s (start + n) ≤ still s start
+              none_more zero fit = let same : start + 0 ≡ start = omega arith in rw same (omega arith)
+              none_more (suc n) fit =
+                  let more = none_more n (omega (arith, fit)) in
+                  let stays = leads.stays_still s (start + n) (omega (arith, near)) (omega (arith, fit)) in
+                  let same : start + suc n ≡ suc (start + n) = omega arith in
+                  rw same (omega (arith, more, stays))
 
-      drains : (k start : ℕ) → left start ≤ k → from ≤ start → start + k * (short + 1) ≤ from + size → (c : ℕ) × (start ≤ c) × (c ≤ start + k * (short + 1)) × IsTrue (drained c)
-      drains zero start none first room = (start, omega arith, omega arith, leads.empty start (omega (arith, room, fits)) (omega (arith, none)))
-      drains (suc k) start most_left first room =
+      sends : (k s start : ℕ) → still s start ≤ k → s ≤ start → from ≤ start → start + k * (short + 1) ≤ from + size → (c : ℕ) × (start ≤ c) × (c ≤ start + k * (short + 1)) × (still s c ≡ 0)
+      sends zero s start none near first room = (start, omega arith, omega arith, omega (arith, none))
+      sends (suc k) s start most_left near first room =
           let step : suc k * (short + 1) ≡ k * (short + 1) + short + 1 = omega arith in
-          elim (drains_some start first (omega (arith, room, step))) [
+          elim (sends_some s start near first (omega (arith, room, step))) [
             | inl now ↦ (let high = now.2 in (now.0, now.1, omega (arith, high, step), now.3))
             | inr less ↦
                 let low = less.1 in
                 let high = less.2 in
                 let fewer = less.3 in
-                let found = drains k less.0 (omega (arith, fewer, most_left)) (omega (arith, low, first)) (omega (arith, high, room, step)) in
+                let found = sends k s less.0 (omega (arith, fewer, most_left)) (omega (arith, low, near)) (omega (arith, low, first)) (omega (arith, high, room, step)) in
                 let since = found.1 in
                 let until = found.2 in
                 (found.0, omega (arith, since, low), omega (arith, until, high, step), found.3)
@@ -239,8 +235,8 @@ module _ (system : System) (run : Run) (agent host end : ℕ) (top : Port) (up :
       -- a word comes within so many cycles of one in which it is owed behind the route
       word_above : (t : ℕ) → from ≤ t → t + reach + flush + stages + 4 ≤ from + size → IsTrue (is_owed top t) → (c : ℕ) × (suc t ≤ c) × (c < from + size) × IsTrue (is_given_from system run (Some agent) c host)
       word_above t first room owed =
-          let found = drains most (suc t) (leads.few (suc t) (omega (arith, room, fits))) (omega (arith, first)) (omega (arith, room)) in
-          by_drained found.0 found.1 found.2 found.3
+          let found = sends most (suc t) (suc t) (leads.few_still (suc t) (omega (arith, room, fits))) (omega arith) (omega (arith, first)) (omega (arith, room)) in
+          by_sent found.0 found.1 found.2 found.3
         where
           unchanged : (n : ℕ) → ((j : ℕ) → j < n → IsFalse (is_raised (top.answers.valid (suc t + j)))) → length (words_at top (suc t + n)) ≡ length (words_at top (suc t))
           unchanged zero none = let same : suc t + 0 ≡ suc t = omega arith in ap (λ k. length (words_at top k)) same
@@ -249,21 +245,27 @@ module _ (system : System) (run : Run) (agent host end : ℕ) (top : Port) (up :
               let same : suc t + suc n ≡ suc (suc t + n) = omega arith in
               ap (λ k. length (words_at top k)) same ∙ no_word top (suc t + n) (none n (omega arith)) ∙ more
 
-          by_drained : (c1 : ℕ) → suc t ≤ c1 → c1 ≤ suc t + reach → IsTrue (drained c1) → (c : ℕ) × (suc t ≤ c) × (c < from + size) × IsTrue (is_given_from system run (Some agent) c host)
-          by_drained c1 low high none = elim (some_or_none (λ j. is_raised (top.answers.valid (suc t + j))) (suc (last_of c1) - suc t)) [
+          by_sent : (c1 : ℕ) → suc t ≤ c1 → c1 ≤ suc t + reach → still (suc t) c1 ≡ 0 → (c : ℕ) × (suc t ≤ c) × (c < from + size) × IsTrue (is_given_from system run (Some agent) c host)
+          by_sent c1 low high none = elim (some_or_none (λ j. is_raised (top.answers.valid (suc t + j))) (suc (last_of c1) - suc t)) [
             | inl found ↦
                 let less = found.1 in
                 let fit : suc t + found.0 < from + size = omega (arith, less, high, room) in
                 (suc t + found.0, omega arith, fit, between.gives (suc t + found.0) (omega (arith, fit, fits)) found.2)
             | inr never ↦
-                let at : suc t + (suc (last_of c1) - suc t) ≡ suc (last_of c1) = omega (arith, low) in
-                let still : length (words_at top (suc (last_of c1))) ≡ length (words_at top (suc t)) = subst (λ k. length (words_at top k) ≡ length (words_at top (suc t))) at (unchanged (suc (last_of c1) - suc t) (λ j h. never j h)) in
                 let below = own_words_come c1 (omega (arith, high, room, fits)) (flushes c1 (omega (arith, low, first)) (omega (arith, high, room))) (wanted (c1 + flush) (omega (arith, low, first)) (omega (arith, high, room))).answered in
-                let all = leads.come c1 (suc (last_of c1)) (omega arith) (omega (arith, high, room, fits)) none below in
-                let less = ltb-true (length (words_at top (suc t))) (words_owed top (suc t)) owed in
-                let more = owed_grows top (suc t) c1 low in
-                absurd (omega (arith, still, all, less, more))
+                comes_now c1 low high (λ j h. never j h) (leads.come (suc t) c1 (suc (last_of c1)) low (omega arith) (omega (arith, high, room, fits)) none below)
           ]
+            where
+              comes_now : (c1 : ℕ) → suc t ≤ c1 → c1 ≤ suc t + reach → ((j : ℕ) → j < suc (last_of c1) - suc t → IsFalse (is_raised (top.answers.valid (suc t + j)))) →
+                  (words_owed top (suc t) ≤ length (words_at top (suc (last_of c1)))) ⊎ IsTrue (is_raised (top.answers.valid (suc (last_of c1)))) → (c : ℕ) × (suc t ≤ c) × (c < from + size) × IsTrue (is_given_from system run (Some agent) c host)
+              comes_now c1 low high never (inr now) =
+                  let fit : suc (last_of c1) < from + size = omega (arith, high, room) in
+                  (suc (last_of c1), omega (arith, low), fit, between.gives (suc (last_of c1)) (omega (arith, fit, fits)) now)
+              comes_now c1 low high never (inl all) =
+                  let at : suc t + (suc (last_of c1) - suc t) ≡ suc (last_of c1) = omega (arith, low) in
+                  let same : length (words_at top (suc (last_of c1))) ≡ length (words_at top (suc t)) = subst (λ k. length (words_at top k) ≡ length (words_at top (suc t))) at (unchanged (suc (last_of c1) - suc t) never) in
+                  let less = ltb-true (length (words_at top (suc t))) (words_owed top (suc t)) owed in
+                  absurd (omega (arith, same, all, less))
 
       -- ---- while beats lack
 
@@ -308,7 +310,7 @@ module _ (system : System) (run : Run) (agent host end : ℕ) (top : Port) (up :
           let fit : stop.cycle < end - 1 = omega (arith, inside, low_until, fits) in
           let less = left_then start (omega (arith, room, low_until)) stop (λ c l h. not_true _ (and_parts (shows top.commands.signals c) (not (takes top c)) (all c l (omega (arith, h, inside)))).1) in
           let here = and_parts (shows top.commands.signals stop.cycle) (not (takes top stop.cycle)) (all stop.cycle low inside) in
-          let fewer = leads.goes stop.cycle fit (not_true _ here.1) (or_left (shows top.commands.signals stop.cycle) _ here.0) stop.stops in
+          let fewer = leads.goes stop.cycle fit (not_true _ here.1) here.0 stop.stops in
           (suc stop.cycle, omega (arith, low), omega (arith, high), omega (arith, fewer, less))
 
       not_for_long : (k start until : ℕ) → left start ≤ k → from ≤ start → until ≤ from + size → start + (k + 1) * (short + 1) ≤ until → ((c : ℕ) → start ≤ c → c < until → IsTrue (stands_above c)) → ⊥
@@ -370,21 +372,19 @@ module _ (system : System) (run : Run) (agent host end : ℕ) (top : Port) (up :
             not_less : (n : ℕ) → number ≤ n → IsFalse (nat_lt n number)
             not_less n h = grind (arith, tests, h)
 
-        module _ (since : ℕ) (past : from ≤ since) (near : since ≤ from + reach) (none : IsTrue (drained since)) where
+        module _ (since : ℕ) (past : from ≤ since) (near : since ≤ from + reach) (none : still from since ≡ 0) where
           -- by then the agent has taken all operations
           all_there : (c : ℕ) → since + flush ≤ c → c < from + size → IsTrue (are_taken system run host number c agent)
           all_there c late last =
               let there = between.front.taken from (omega (arith, fits)) in
-              let above : IsPrefix (taken_at top from) (taken_at top since) = taken_grows top from since past in
-              let grown = prefix_length (prefix_flat_map (λ m. operations_in (target_of system agent) top.shape m) above) in
-              let led = leads.through since (omega (arith, late, last, fits)) none in
+              let led = leads.through from since past (omega (arith, late, last, fits)) none in
               let own = own_taken system agent up down end between.arbiter (target_of system agent) host between.is_host between.words since (omega (arith, late, last, fits)) in
               let reached : IsPrefix (taken_at down.port since) (taken_at low.port c) = prefix_trans (flushes since past (omega (arith, late, last))) (taken_grows low.port (since + flush) c late) in
               let tagged : IsPrefix (with_tag host (taken_at down.port since)) (with_tag host (taken_at low.port c)) = prefix_filter (λ (m : Marked). nat_eq m.tag host) reached in
               let less = prefix_length (prefix_flat_map (λ m. operations_in (target_of system agent) low.shape m) tagged) in
               let same = ap (λ (l : List Operation). length l) (same_among system agent down.port low.port between.low_words (with_tag host (taken_at down.port since))) in
               let takes_all = ap (λ l. length (of_host host l)) (between.operations c (omega (arith, last, fits))) ∙ tagged_of_host (target_of system agent) low.shape (taken_at low.port c) host in
-              taken_later system run host end between.legal from c number agent (omega (arith, late, past)) (omega (arith, last, fits)) ended (omega (arith, there, grown, led, own, less, same, takes_all))
+              taken_later system run host end between.legal from c number agent (omega (arith, late, past)) (omega (arith, last, fits)) ended (omega (arith, there, led, own, less, same, takes_all))
 
           -- so a word that comes is one that lacks
           no_word_then : (c : ℕ) → since + flush ≤ c → c < from + size → IsTrue (is_given_from system run (Some agent) c host) → ⊥
@@ -411,7 +411,7 @@ module _ (system : System) (run : Run) (agent host end : ℕ) (top : Port) (up :
 
         never_whole : 2 * reach + 2 * flush + stages + 5 ≤ size → ⊥
         never_whole room =
-            let found = drains most from (leads.few from (omega (arith, fits))) (omega arith) (omega (arith, room)) in
+            let found = sends most from from (leads.few_still from (omega (arith, fits))) (omega arith) (omega arith) (omega (arith, room)) in
             never_then found.0 found.1 found.2 found.3 room
 
       pub never_stuck : 2 * (most * (short + 1)) + short + 2 * flush + stages + 6 ≤ size → ⊥

@@ -17,13 +17,13 @@ use Rattle.mm_waits.proofs.Wire.{wire_stays, wire_asked, bursts}
 
 -- ---- steps
 
-pub in_fewer : (port : Port) (good less : ℕ → Bool) (longest : ℕ) (rest : ℕ → ℕ) (end : ℕ) → ((c : ℕ) → IsTrue (less c) → IsTrue (good c)) → HasStepsLeft port good longest rest end → HasStepsLeft port less longest rest end
+pub in_fewer : (port : Port) (good less : ℕ → Bool) (longest : ℕ) (rest : ℕ → ℕ) (end : ℕ) → ((c : ℕ) → c < end → IsTrue (less c) → IsTrue (good c)) → HasStepsLeft port good longest rest end → HasStepsLeft port less longest rest end
 in_fewer port good less longest rest end so has = record {
   some = has.some;
   few = has.few;
   fewer = has.fewer;
   stays = has.stays;
-  gaps = λ c fit opened none is. has.gaps c fit opened none (so c is);
+  gaps = λ c fit opened none is. has.gaps c fit opened none (so c fit is);
 }
 
 pub of_most : (port : Port) (good : ℕ → Bool) (longest most : ℕ) (rest : ℕ → ℕ) (end : ℕ) → longest ≤ most → HasStepsLeft port good longest rest end → HasStepsLeft port good most rest end

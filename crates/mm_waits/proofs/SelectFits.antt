@@ -1,5 +1,5 @@
 -- A lane selector takes a beat of a narrower host on in the same cycle, unless two words are owed.
-use Rattle.std.proofs.Common.{◌≡◌, ℕ, zero, suc, ◌+◌, ◌-◌, ◌<◌, ◌≤◌, Bool, true, false, not, ◌&&◌, ◌||◌, List, [], ◌∷◌, length, nat_lt, if◌then◌else◌, arith, refl, sym, ap, ◌∙◌, IsTrue, IsFalse, length-append, ltb-false}
+use Rattle.std.proofs.Common.{◌≡◌, ℕ, zero, suc, ◌+◌, ◌-◌, ◌<◌, ◌≤◌, inl, Bool, true, false, not, ◌&&◌, ◌||◌, List, [], ◌∷◌, length, nat_lt, if◌then◌else◌, arith, refl, sym, ap, ◌∙◌, IsTrue, IsFalse, length-append, ltb-false}
 use Rattle.histories.specs.History.{is_raised, unreached}
 use Rattle.mm_runs.specs.Commands.{shows}
 use Rattle.mm_machines.specs.Link.{Target, Port, Marked, AreLegalAt, AnswersAreOwed, takes, taken_at, operations_among, operations_in, sizes, words_at, words_owed}
@@ -74,8 +74,9 @@ module _ (target : Target) (room many : ℕ) (up down : Port) (offsets : ℕ →
     few = λ c fit. some;
     stays = λ c fit none. omega arith;
     goes = λ c fit none shown stops. absurd (goes c fit none shown stops (is_gone down c) refl);
+    fewer = λ c fit none took. absurd (no_both (takes up c) (same_takes target room up down offsets runs deep end owed c ∙ took) none);
     through = nothing_held target up down end row legal owes;
-    come = λ c d near fit all. (let asks = asked c (omega (arith, near, fit)) in let same = same_words up down end (λ k less. ap is_raised (runs.valid k)) d fit in omega (arith, asks, same, all));
+    come = λ c d near fit all. (let asks = asked c (omega (arith, near, fit)) in let same = same_words up down end (λ k less. ap is_raised (runs.valid k)) d fit in inl (omega (arith, asks, same, all)));
   }
     where
       goes : (c : ℕ) → c < end → IsFalse (takes up c) → IsTrue (shows up.commands.signals c) → IsFalse (stands_or_owes down c) → (g : Bool) → is_gone down c ≡ g → ⊥

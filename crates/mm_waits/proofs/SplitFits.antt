@@ -314,6 +314,7 @@ module _ (target : Target) (room : ℕ) (up down : Port) (state : SplitState) (r
     few = λ c fit. omega arith;
     stays = λ c fit none. stays c none (takes down c) refl;
     goes = λ c fit none shown stops. goes c fit none shown stops (takes down c) refl;
+    fewer = λ c fit none took. (let next = place_next c none true took in let room_left = place_few (suc c) (omega (arith, fit)) in omega (arith, next, room_left));
     through = λ c fit. nothing_held target up down (suc end) row legal owed c (omega (arith, fit));
-    come = λ c d near fit all. all_come c d near fit all;
+    come = λ c d near fit all. inl (all_come c d near fit all);
   }

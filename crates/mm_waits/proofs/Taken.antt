@@ -54,20 +54,20 @@ tagged_of_host target shape (m ∷ ms) h = by_same (nat_eq m.tag h) refl (tagged
 pub same_operations : (target : Target) (one other : Shape) (m : Marked) → one.word_bytes ≡ other.word_bytes → operations_in target one m ≡ operations_in target other m
 same_operations target one other m e = ap (λ w. operations_in target (record one { word_bytes = w }) m) e
 
+pub more_operations : (target : Target) (shape : Shape) (xs : List Marked) (m : Marked) → length (operations_among target shape (xs ++ m ∷ [])) ≡ length (operations_among target shape xs) + length (operations_in target shape m)
+more_operations target shape [] m = let same = ap length (append-nil (operations_in target shape m)) in omega (arith, same)
+more_operations target shape (x ∷ xs) m =
+    let more = more_operations target shape xs m in
+    let one = length-append (operations_in target shape x) (operations_among target shape (xs ++ m ∷ [])) in
+    let two = length-append (operations_in target shape x) (operations_among target shape xs) in
+    omega (arith, more, one, two)
+
 -- what an arbiter takes of an asker is what it takes below with that tag
 pub own_taken : (system : System) (agent : ℕ) (up : ℕ → Port) (down : TaggedPort) (end : ℕ) → IsArbiterPart system agent up down end → (target : Target) (h : ℕ) → h < system.hosts → (up h).shape.word_bytes ≡ down.shape.word_bytes →
     (c : ℕ) → c ≤ end → length (operations_among target (up h).shape (taken_at (up h) c)) ≡ length (operations_among target down.shape (with_tag h (taken_at down.port c)))
 own_taken system agent up down end part target h low word zero fit = refl
 own_taken system agent up down end part target h low word (suc c) fit = by_take (takes down.port c) refl (nat_eq (down.commands.tag c) h) refl (own_taken system agent up down end part target h low word c (omega (arith, fit)))
   where
-    ops_append : (shape : Shape) (xs : List Marked) (m : Marked) → length (operations_among target shape (xs ++ m ∷ [])) ≡ length (operations_among target shape xs) + length (operations_in target shape m)
-    ops_append shape [] m = let same = ap length (append-nil (operations_in target shape m)) in omega (arith, same)
-    ops_append shape (x ∷ xs) m =
-        let more = ops_append shape xs m in
-        let one = length-append (operations_in target shape x) (operations_among target shape (xs ++ m ∷ [])) in
-        let two = length-append (operations_in target shape x) (operations_among target shape xs) in
-        omega (arith, more, one, two)
-
     tag_append : (xs : List Marked) (m : Marked) → with_tag h (xs ++ m ∷ []) ≡ with_tag h xs ++ (if nat_eq m.tag h then m ∷ [] else [])
     tag_append [] m = refl
     tag_append (x ∷ xs) m = by_tag (nat_eq x.tag h) (tag_append xs m)
@@ -88,10 +88,10 @@ own_taken system agent up down end part target h low word (suc c) fit = by_take 
         let tag : down.commands.tag c ≡ h = grind (arith, tests, es) in
         let above = part.taken h c low (omega (arith, fit)) tag ∙ et in
         let same = part.same h c low (omega (arith, fit)) tag et in
-        let left = ap (λ l. length (operations_among target (up h).shape l)) (one_taken (up h) c above) ∙ ops_append (up h).shape (taken_at (up h) c) (marked_at (up h) c) in
+        let left = ap (λ l. length (operations_among target (up h).shape l)) (one_taken (up h) c above) ∙ more_operations target (up h).shape (taken_at (up h) c) (marked_at (up h) c) in
         let right = ap (λ l. length (operations_among target down.shape (with_tag h l))) (one_taken down.port c et)
         ∙ ap (λ l. length (operations_among target down.shape l)) (tag_append (taken_at down.port c) (marked_at down.port c) ∙ ap (λ b. with_tag h (taken_at down.port c) ++ (if b then marked_at down.port c ∷ [] else [])) es)
-        ∙ ops_append down.shape (with_tag h (taken_at down.port c)) (marked_at down.port c) in
+        ∙ more_operations target down.shape (with_tag h (taken_at down.port c)) (marked_at down.port c) in
         let one = ap length (same_operations target (up h).shape down.shape (marked_at (up h) c) word ∙ ap (operations_in target down.shape) same) in
         omega (arith, left, right, one, more)
     by_take true et false es more =

@@ -20,7 +20,7 @@ ghost use Rattle.mm_runs.specs.Onward.{MovesWithin, NoHostHangs};
 ghost use Rattle.mm_awake.specs.Onward.{round_by, round_of_others, is_good};
 ghost use Rattle.mm_awake.specs.Steps.{HasStepsLeft};
 ghost use Rattle.mm_machines.specs.Lines.{target_of};
-ghost use Rattle.mm_waits.specs.Watched.{LeadsBy, stands_or_owes, waits_for_words};
+ghost use Rattle.mm_waits.specs.Watched.{LeadsBy, may_wait, waits_for_words};
 ghost use Rattle.mm_waits.specs.Waits.{WordsComeSoon, LeadsDown, waits_by, waits_quietly, waiting_window, cut_window, fitted_window, is_quiet, SelectsOrSplits};
 
 /// Where an agent, with readdatavalid or at any fixed latency, owes nothing by the end of a cycle, all words that were asked above the part next to it have come by the end of the next one.
@@ -47,9 +47,9 @@ pub fn hosts_beside_links_move()
         → ((other : ℕ) → HasStepsLeft (inside.upper other agent 0) (is_quiet system run agent (inside.lower agent system.stages).port) (steps other) (rest other) (end + 1))
         → IsTrue (is_joined system agent host) → host < system.hosts
         → MovesWithin (waits_quietly most (round_by steps system agent host) system agent) system run agent host end }
-    ensures words { (responses : Responses) (system : System) (run : Run) (inside : Boundaries) (states : States) (ranks : LinkRanks) (end agent host most : ℕ) (drained : ℕ → Bool) (left : ℕ → ℕ) (steps : ℕ → ℕ) (rest : ℕ → ℕ → ℕ)
+    ensures words { (responses : Responses) (system : System) (run : Run) (inside : Boundaries) (states : States) (ranks : LinkRanks) (end agent host most : ℕ) (left : ℕ → ℕ) (still : ℕ → ℕ → ℕ) (steps : ℕ → ℕ) (rest : ℕ → ℕ → ℕ)
         → IsBuilt responses system run inside states ranks (end + 2) → IsLegalRun system run (end + 2) → agent < system.agents
-        → LeadsBy (target_of system agent) (inside.upper host agent (inside.links host agent)) (inside.upper host agent 0) (stands_or_owes (inside.upper host agent 0)) drained left most (end + 1)
+        → LeadsBy (target_of system agent) (inside.upper host agent (inside.links host agent)) (inside.upper host agent 0) (may_wait system run agent (inside.upper host agent 0)) left still most (end + 1)
         → ((other : ℕ) → HasStepsLeft (inside.upper other agent 0) (is_quiet system run agent (inside.lower agent system.stages).port) (steps other) (rest other) (end + 1))
         → IsTrue (is_joined system agent host) → host < system.hosts
         → MovesWithin (waits_for_words most (round_by steps system agent host) system agent) system run agent host end }

@@ -17,7 +17,7 @@ ghost use Rattle.mm_awake.specs.Theorem.{States, ArePlanned, AreMachines};
 ghost use Rattle.mm_awake.specs.RowSystem.{RowPorts, AreRows, boundaries_of};
 ghost use Rattle.mm_runs.specs.Onward.{MovesWithin};
 ghost use Rattle.mm_waits.specs.Waits.{is_quiet};
-ghost use Rattle.mm_waits.specs.Neighbours.{row_steps, row_window};
+ghost use Rattle.mm_waits.specs.Neighbours.{fitted_steps, row_steps, row_window};
 
 /// Where beats without a lane are dropped a command comes to at most two steps for each of its own and two more: one beat is kept, and a word that it owes by itself may hold back what stands above.
 /// While no word is owed below, none is owed above but such a one.
@@ -43,20 +43,33 @@ pub fn gatherers_take_few_steps()
         → HasStepsLeft up good longest rest end → (below : ℕ → ℕ) × HasStepsLeft down good (longest * (many + 1) + many) below end }
 {}
 
-/// So behind any row of links, whatever words, bursts and byte enables its host and the agent have, a command comes to few steps before the arbiter.
+/// So behind a cutter and what fits its words, or without any, a host's command comes to few steps: in good cycles, or at least in those in which no word is owed there.
+pub fn fitted_rows_take_few_steps()
+    ensures { (responses : Responses) (system : System) (run : Run) (ports : RowPorts) (states : States) (end agent host : ℕ)
+        → ArePlanned system (boundaries_of ports) states → AreMachines responses system run (boundaries_of ports) states (end + 1) → AreRows system run ports (end + 1) → IsLegalRun system run (end + 1)
+        → agent < system.agents → host < system.hosts → IsTrue (is_joined system agent host)
+        → (rest : ℕ → ℕ) × HasStepsLeft (ports.above_dropper host agent) (is_quiet system run agent (ports.above_dropper host agent)) (fitted_steps system agent host) rest end }
+{
+    mm_awake::hosts::routes_take_few_steps();
+    mm_awake::hosts::links_take_few_steps();
+    mm_links::drops::drop_owes_its_words();
+    gatherers_take_few_steps();
+    mm_awake::rows::machines_with_links_are_built()
+}
+
+/// And behind any row of links, whatever words, bursts and byte enables its host and the agent have, it does so before the arbiter.
 pub fn rows_take_few_steps()
     ensures { (responses : Responses) (system : System) (run : Run) (ports : RowPorts) (states : States) (end agent : ℕ)
         → ArePlanned system (boundaries_of ports) states → AreMachines responses system run (boundaries_of ports) states (end + 1) → AreRows system run ports (end + 1) → IsLegalRun system run (end + 1) → agent < system.agents
         → (rest : ℕ → ℕ → ℕ) × ((other : ℕ) → HasStepsLeft (ports.before_arbiter other agent) (is_quiet system run agent (ports.lower agent system.stages).port) (row_steps system agent other) (rest other) end) }
 {
     mm_awake::built::machines_keep_their_records();
-    mm_awake::hosts::routes_take_few_steps();
     mm_awake::hosts::links_take_few_steps();
     mm_links::bursts::cut_is_a_link();
     mm_links::widths::split_is_a_link();
     mm_links::drops::drop_owes_its_words();
     droppers_take_few_steps();
-    gatherers_take_few_steps();
+    fitted_rows_take_few_steps();
     mm_awake::rows::machines_with_links_are_built()
 }
 

@@ -1,5 +1,5 @@
 use Rattle.std.proofs.lemmas.Bool.{or_left, or_right, and_parts}
-use Rattle.std.proofs.Common.{append-nil, length, nat_eq, nat_lt, ltb-true, ltb-false, ℕ, zero, suc, ◌≡◌, ◌+◌, ◌*◌, ◌<◌, ◌≤◌, ◌||◌, ◌&&◌, not, ◌⊎◌, inl, inr, refl, sym, ap, ◌∙◌, tests, if◌then◌else◌, true, false, Bool, arith, subst, IsTrue, IsFalse, ◌-◌}
+use Rattle.std.proofs.Common.{append-nil, length, nat_lt, ltb-true, ltb-false, ℕ, zero, suc, ◌≡◌, ◌+◌, ◌*◌, ◌<◌, ◌≤◌, ◌||◌, ◌&&◌, not, ◌⊎◌, inl, inr, refl, sym, ap, ◌∙◌, tests, if◌then◌else◌, true, false, Bool, arith, subst, IsTrue, IsFalse, ◌-◌}
 use Rattle.histories.specs.History.{is_raised, IsPrefix, one_if, only_if}
 use Rattle.histories.specs.Laws.{prefix_trans, prefix_length, before_prefix, before_extends}
 use Rattle.mm_runs.specs.Views.{System, Run, Responses}
@@ -18,13 +18,13 @@ use Rattle.mm_awake.specs.Onward.{is_good, round_by, standing_by}
 use Rattle.mm_awake.specs.Steps.{HasStepsLeft, WaitsItsTurn}
 use Rattle.mm_awake.specs.Theorem.{Boundaries, States, LinkRanks, IsBuilt, approach_of}
 use Rattle.mm_awake.specs.Ways.{count_in}
-use Rattle.mm_waits.specs.Watched.{LeadsBy, stands_or_owes, waits_for_words}
+use Rattle.mm_waits.specs.Watched.{LeadsBy, may_wait, stands_or_owes, waits_for_words}
 use Rattle.mm_waits.specs.Waits.{agent_pipe_time, waits_by, waits_quietly, standing_quietly, word_time, is_quiet}
 use Rattle.mm_waits.proofs.Bits.{no_both, no_true, none_taken, some_or_none}
 use Rattle.mm_waits.proofs.Flush.{pipe_flushes, pipe_words, shorter_front}
 use Rattle.mm_waits.proofs.Cuts.{times_more}
 use Rattle.mm_waits.proofs.Cycles.{all_cycles}
-use Rattle.mm_waits.proofs.Leads.{leads_at_once, shorter_lead, stands_there}
+use Rattle.mm_waits.proofs.Leads.{held_still, leads_at_once, shorter_lead, stands_there}
 use Rattle.mm_waits.proofs.Moves.{Between, never_stuck, own_words_come, words_below_come}
 use Rattle.mm_waits.proofs.Shorter.{shorter_arbiter}
 use Rattle.mm_waits.proofs.Stages.{IsPaced, agent_is_paced, pipe_is_paced}
@@ -112,9 +112,9 @@ module _ (c : After-agent_machine_is_a_part) (responses : Responses) (system : S
       let is = built.machines.stage agent i there low in
       ap (λ (p : Port). p.shape.word_bytes) (sym is.up_is) ∙ ap (λ (p : Port). p.shape.word_bytes) is.down_is ∙ same_words i (omega (arith, low))
 
-  between : (host : ℕ) (waits drained : ℕ → Bool) (left : ℕ → ℕ) (most : ℕ) → host < system.hosts → LeadsBy (target_of system agent) (inside.upper host agent (inside.links host agent)) (inside.upper host agent 0) waits drained left most (end - 1) →
-      Between system run agent host end (inside.upper host agent (inside.links host agent)) (λ h. inside.upper h agent 0) (inside.lower agent system.stages) (inside.lower agent 0) waits drained left most (agent_pipe_time system agent) system.stages
-  between host waits drained left most low leads = record {
+  between : (host : ℕ) (waits : ℕ → Bool) (left : ℕ → ℕ) (still : ℕ → ℕ → ℕ) (most : ℕ) → host < system.hosts → LeadsBy (target_of system agent) (inside.upper host agent (inside.links host agent)) (inside.upper host agent 0) waits left still most (end - 1) →
+      Between system run agent host end (inside.upper host agent (inside.links host agent)) (λ h. inside.upper h agent 0) (inside.lower agent system.stages) (inside.lower agent 0) waits left still most (agent_pipe_time system agent) system.stages
+  between host waits left still most low leads = record {
     is_host = low;
     legal = legal.hosts host low;
     proper = (c.machines_are_awake.ensures.safe responses system run inside states ranks end built legal).at_hosts host low;
@@ -154,7 +154,7 @@ module _ (c : After-agent_machine_is_a_part) (responses : Responses) (system : S
 
   -- and so it is where some of them aren't quiet
   module _ (before : ℕ) (below_end : before < end) (steps : ℕ → ℕ) (rest : ℕ → ℕ → ℕ) (have : (other : ℕ) → HasStepsLeft (inside.upper other agent 0) (is_quiet system run agent (inside.lower agent system.stages).port) (steps other) (rest other) before) (host : ℕ) (joined : IsTrue (is_joined system agent host)) (low : host < system.hosts)
-      (blocked drained : ℕ → Bool) (left : ℕ → ℕ) (most : ℕ) (leads : LeadsBy (target_of system agent) (inside.upper host agent (inside.links host agent)) (inside.upper host agent 0) blocked drained left most (end - 1)) where
+      (blocked : ℕ → Bool) (left : ℕ → ℕ) (still_left : ℕ → ℕ → ℕ) (most : ℕ) (leads : LeadsBy (target_of system agent) (inside.upper host agent (inside.links host agent)) (inside.upper host agent 0) blocked left still_left most (end - 1)) where
     abbrev behind : Port
     behind = (inside.lower agent system.stages).port
 
@@ -201,7 +201,7 @@ module _ (c : After-agent_machine_is_a_part) (responses : Responses) (system : S
         answers s first inside_window none =
             let flushed = flushes from (from + n) (omega (arith, until, below_end)) fine s first (omega (arith, inside_window)) in
             let owing = (good_parts _ _ _ (fine (s + agent_pipe_time system agent) (omega (arith, first)) (omega (arith, inside_window)))).2 in
-            let come = words_below_come system run agent host end (inside.upper host agent (inside.links host agent)) (λ h. inside.upper h agent 0) (inside.lower agent system.stages) (inside.lower agent 0) blocked drained left most (agent_pipe_time system agent) system.stages (between host blocked drained left most low leads)
+            let come = words_below_come system run agent host end (inside.upper host agent (inside.links host agent)) (λ h. inside.upper h agent 0) (inside.lower agent system.stages) (inside.lower agent 0) blocked left still_left most (agent_pipe_time system agent) system.stages (between host blocked left still_left most low leads)
             s (omega (arith, inside_window, until, below_end)) flushed owing in
             let when : suc (suc (s + agent_pipe_time system agent) + system.stages) ≡ s + word_time system agent - 1 = omega arith in
             let here : words_owed behind s ≤ length (words_at behind (s + word_time system agent - 1)) = subst (λ k. words_owed behind s ≤ length (words_at behind k)) when come in
@@ -239,7 +239,7 @@ module _ (c : After-agent_machine_is_a_part) (responses : Responses) (system : S
             let late : from + (word_time system agent - 1) + (n - (word_time system agent - 1)) ≡ from + n = omega (arith, enough) in
             let flushed = flushes from (from + n) (omega (arith, until, below_end)) fine from (omega arith) (omega (arith, enough)) in
             let owing = (good_parts _ _ _ (fine (from + agent_pipe_time system agent) (omega arith) (omega (arith, enough)))).2 in
-            let come = own_words_come system run agent host end (inside.upper host agent (inside.links host agent)) (λ h. inside.upper h agent 0) (inside.lower agent system.stages) (inside.lower agent 0) blocked drained left most (agent_pipe_time system agent) system.stages (between host blocked drained left most low leads)
+            let come = own_words_come system run agent host end (inside.upper host agent (inside.links host agent)) (λ h. inside.upper h agent 0) (inside.lower agent system.stages) (inside.lower agent 0) blocked left still_left most (agent_pipe_time system agent) system.stages (between host blocked left still_left most low leads)
             from (omega (arith, enough, until, below_end)) flushed owing in
             let few = few_quiet_cycles (from + (word_time system agent - 1)) (n - (word_time system agent - 1)) (omega (arith, late, until)) (λ k first last. fine k (omega (arith, first)) (omega (arith, last, late)))
             (record {
@@ -268,6 +268,11 @@ module _ (c : After-agent_machine_is_a_part) (responses : Responses) (system : S
 all_so : (a b c : Bool) → IsTrue a → IsFalse b → IsFalse c → IsTrue (a && not b && not c)
 all_so a b c x y z = grind (arith, tests)
 
+-- in a good cycle
+stands_so : (good stands : Bool) → IsTrue (not good || stands) → IsTrue good → IsTrue stands
+stands_so true stands h g = h
+stands_so false stands h g = absurd (no_true g)
+
 -- a beat that stands there waits its turn
 turn_waits : (up : ℕ → Port) (host from n : ℕ) → ((k : ℕ) → from ≤ k → k < from + n → IsTrue (stands_there (up host) k)) → WaitsItsTurn up host from n
 turn_waits up host from n all = record {
@@ -283,8 +288,8 @@ returns-clause-good c = λ responses system run inside states ranks end agent ho
       | inl found ↦ (from + found.0, omega arith, omega (arith, found.1), found.2)
       | inr none ↦
           let d = (goal.at.returns-clause-good c).After-agent_machine_is_a_part in
-          absurd (never_stuck system run agent host (end + 2) (inside.upper host agent (inside.links host agent)) (λ h. inside.upper h agent 0) (inside.lower agent system.stages) (inside.lower agent 0) (stands_there (inside.upper host agent 0)) (λ k. nat_eq (held k) 0) held most (agent_pipe_time system agent) system.stages
-          (between d responses system run inside states ranks (end + 2) agent built legal there host (stands_there (inside.upper host agent 0)) (λ k. nat_eq (held k) 0) held most low (shorter_lead (end + 2) (end + 2 - 1) (omega arith) (leads_at_once (target_of system agent) (inside.upper host agent (inside.links host agent)) (inside.upper host agent 0) held most (end + 2) leads)))
+          absurd (never_stuck system run agent host (end + 2) (inside.upper host agent (inside.links host agent)) (λ h. inside.upper h agent 0) (inside.lower agent system.stages) (inside.lower agent 0) (stands_there (inside.upper host agent 0)) held (held_still (target_of system agent) (inside.upper host agent (inside.links host agent)) (inside.upper host agent 0) held most (end + 2) leads) most (agent_pipe_time system agent) system.stages
+          (between d responses system run inside states ranks (end + 2) agent built legal there host (stands_there (inside.upper host agent 0)) held (held_still (target_of system agent) (inside.upper host agent (inside.links host agent)) (inside.upper host agent 0) held most (end + 2) leads) most low (shorter_lead (end + 2) (end + 2 - 1) (omega arith) (leads_at_once (target_of system agent) (inside.upper host agent (inside.links host agent)) (inside.upper host agent 0) held most (end + 2) leads)))
           from size number (omega (arith, fits)) wanted
           (λ k first last. (let same : from + (k - from) ≡ k = omega (arith, first) in subst (λ x. IsFalse (moves_on system run agent host number x)) same (none (k - from) (omega (arith, first, last)))))
           (flushes d responses system run inside states ranks (end + 2) agent built legal there from (from + size) (omega (arith, fits)) good)
@@ -301,30 +306,31 @@ returns-clause-quiet c = λ responses system run inside states ranks end agent h
       | inl found ↦ (from + found.0, omega arith, omega (arith, found.1), found.2)
       | inr none ↦
           let d = (goal.at.returns-clause-quiet c).After-agent_machine_is_a_part in
-          absurd (never_stuck system run agent host (end + 2) (inside.upper host agent (inside.links host agent)) (λ h. inside.upper h agent 0) (inside.lower agent system.stages) (inside.lower agent 0) (stands_there (inside.upper host agent 0)) (λ k. nat_eq (held k) 0) held most (agent_pipe_time system agent) system.stages
-          (between d responses system run inside states ranks (end + 2) agent built legal there host (stands_there (inside.upper host agent 0)) (λ k. nat_eq (held k) 0) held most low (shorter_lead (end + 2) (end + 2 - 1) (omega arith) (leads_at_once (target_of system agent) (inside.upper host agent (inside.links host agent)) (inside.upper host agent 0) held most (end + 2) leads)))
+          absurd (never_stuck system run agent host (end + 2) (inside.upper host agent (inside.links host agent)) (λ h. inside.upper h agent 0) (inside.lower agent system.stages) (inside.lower agent 0) (stands_there (inside.upper host agent 0)) held (held_still (target_of system agent) (inside.upper host agent (inside.links host agent)) (inside.upper host agent 0) held most (end + 2) leads) most (agent_pipe_time system agent) system.stages
+          (between d responses system run inside states ranks (end + 2) agent built legal there host (stands_there (inside.upper host agent 0)) held (held_still (target_of system agent) (inside.upper host agent (inside.links host agent)) (inside.upper host agent 0) held most (end + 2) leads) most low (shorter_lead (end + 2) (end + 2 - 1) (omega arith) (leads_at_once (target_of system agent) (inside.upper host agent (inside.links host agent)) (inside.upper host agent 0) held most (end + 2) leads)))
           from size number (omega (arith, fits)) wanted
           (λ k first last. (let same : from + (k - from) ≡ k = omega (arith, first) in subst (λ x. IsFalse (moves_on system run agent host number x)) same (none (k - from) (omega (arith, first, last)))))
           (flushes d responses system run inside states ranks (end + 2) agent built legal there from (from + size) (omega (arith, fits)) good)
           (standing_quietly (round_by steps system agent host) system agent)
-          (λ start n first few waits. few_quiet_cycles d responses system run inside states ranks (end + 2) agent built legal there (end + 1) (omega arith) steps rest have host joined low (stands_there (inside.upper host agent 0)) (λ k. nat_eq (held k) 0) held most (shorter_lead (end + 2) (end + 2 - 1) (omega arith) (leads_at_once (target_of system agent) (inside.upper host agent (inside.links host agent)) (inside.upper host agent 0) held most (end + 2) leads)) start n (omega (arith, few, fits)) (λ k low high. good k (omega (arith, first, low)) (omega (arith, few, high))) (turn_waits (λ h. inside.upper h agent 0) host start n waits))
+          (λ start n first few waits. few_quiet_cycles d responses system run inside states ranks (end + 2) agent built legal there (end + 1) (omega arith) steps rest have host joined low (stands_there (inside.upper host agent 0)) held (held_still (target_of system agent) (inside.upper host agent (inside.links host agent)) (inside.upper host agent 0) held most (end + 2) leads) most (shorter_lead (end + 2) (end + 2 - 1) (omega arith) (leads_at_once (target_of system agent) (inside.upper host agent (inside.links host agent)) (inside.upper host agent 0) held most (end + 2) leads)) start n (omega (arith, few, fits)) (λ k low high. good k (omega (arith, first, low)) (omega (arith, few, high))) (turn_waits (λ h. inside.upper h agent 0) host start n waits))
           (omega arith))
     ]
 
 pub returns-clause-words : goal.returns-clause-words
-returns-clause-words c = λ responses system run inside states ranks end agent host most drained left steps rest built legal there leads have joined low from number fits wanted.
+returns-clause-words c = λ responses system run inside states ranks end agent host most left still steps rest built legal there leads have joined low from number fits wanted.
     let size = waits_for_words most (round_by steps system agent host) system agent in
     let good : (k : ℕ) → from ≤ k → k < from + size → IsTrue (is_good system run agent k) = λ k first last. all_so _ _ _ (wanted k first last).bursts (wanted k first last).ready (wanted k first last).answered in
     elim (some_or_none (λ j. moves_on system run agent host number (from + j)) size) [
       | inl found ↦ (from + found.0, omega arith, omega (arith, found.1), found.2)
       | inr none ↦
           let d = (goal.at.returns-clause-words c).After-agent_machine_is_a_part in
-          absurd (never_stuck system run agent host (end + 2) (inside.upper host agent (inside.links host agent)) (λ h. inside.upper h agent 0) (inside.lower agent system.stages) (inside.lower agent 0) (stands_or_owes (inside.upper host agent 0)) drained left most (agent_pipe_time system agent) system.stages
-          (between d responses system run inside states ranks (end + 2) agent built legal there host (stands_or_owes (inside.upper host agent 0)) drained left most low (shorter_lead (end + 1) (end + 2 - 1) (omega arith) leads))
+          absurd (never_stuck system run agent host (end + 2) (inside.upper host agent (inside.links host agent)) (λ h. inside.upper h agent 0) (inside.lower agent system.stages) (inside.lower agent 0) (may_wait system run agent (inside.upper host agent 0)) left still most (agent_pipe_time system agent) system.stages
+          (between d responses system run inside states ranks (end + 2) agent built legal there host (may_wait system run agent (inside.upper host agent 0)) left still most low (shorter_lead (end + 1) (end + 2 - 1) (omega arith) leads))
           from size number (omega (arith, fits)) wanted
           (λ k first last. (let same : from + (k - from) ≡ k = omega (arith, first) in subst (λ x. IsFalse (moves_on system run agent host number x)) same (none (k - from) (omega (arith, first, last)))))
           (flushes d responses system run inside states ranks (end + 2) agent built legal there from (from + size) (omega (arith, fits)) good)
           (standing_quietly (round_by steps system agent host) system agent + word_time system agent)
-          (λ start n first few waits. few_cycles_with_words d responses system run inside states ranks (end + 2) agent built legal there (end + 1) (omega arith) steps rest have host joined low (stands_or_owes (inside.upper host agent 0)) drained left most (shorter_lead (end + 1) (end + 2 - 1) (omega arith) leads) start n (omega (arith, few, fits)) (λ k low high. good k (omega (arith, first, low)) (omega (arith, few, high))) waits)
+          (λ start n first few waits. few_cycles_with_words d responses system run inside states ranks (end + 2) agent built legal there (end + 1) (omega arith) steps rest have host joined low (may_wait system run agent (inside.upper host agent 0)) left still most (shorter_lead (end + 1) (end + 2 - 1) (omega arith) leads) start n (omega (arith, few, fits)) (λ k low high. good k (omega (arith, first, low)) (omega (arith, few, high)))
+          (λ k low high. stands_so (is_good system run agent k) (stands_or_owes (inside.upper host agent 0) k) (waits k low high) (good k (omega (arith, first, low)) (omega (arith, few, high)))))
           (omega arith))
     ]

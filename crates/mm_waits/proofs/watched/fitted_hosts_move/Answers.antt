@@ -1,4 +1,5 @@
-use Rattle.std.proofs.Common.{ℕ, suc, ◌≡◌, ◌+◌, ◌*◌, ◌/◌, ◌<◌, ◌≤◌, max, min, Bool, length, ap, ap₂, arith, refl, sym, subst, IsTrue, IsFalse}
+use Rattle.std.proofs.lemmas.Bool.{or_parts}
+use Rattle.std.proofs.Common.{ℕ, suc, ◌≡◌, ◌+◌, ◌*◌, ◌/◌, ◌<◌, ◌≤◌, max, min, not, length, ap, ap₂, arith, refl, sym, subst, IsTrue, IsFalse}
 use Rattle.histories.specs.History.{is_raised}
 use Rattle.mm_runs.specs.Views.{System, Run, Responses}
 use Rattle.mm_runs.specs.Commands.{words_before}
@@ -12,11 +13,13 @@ use Rattle.mm_runs.specs.Onward.{longest_of}
 use Rattle.mm_awake.specs.Rows.{CutsBursts, CutsBursts.cutter, CutsBursts.no_cutter, FitsWords, FitsWords.selector, FitsWords.gatherer, FitsWords.splitter, FitsWords.no_width}
 use Rattle.mm_awake.specs.RowSystem.{RowPorts, AreRows, boundaries_of}
 use Rattle.mm_awake.specs.Theorem.{ArePlanned, AreMachines, States, LinkRanks, IsBuilt}
+use Rattle.mm_awake.specs.Onward.{is_good}
 use Rattle.mm_awake.specs.Wires.{IsWire}
-use Rattle.mm_waits.specs.Watched.{LeadsBy, gathers_some, stands_or_owes}
+use Rattle.mm_waits.specs.Watched.{LeadsBy, gathers_some, may_wait, stands_or_owes}
 use Rattle.mm_waits.proofs.Bits.{no_true}
-use Rattle.mm_waits.proofs.Fitted.{Fitting, by_wire, fitted_leads, wire_fits}
+use Rattle.mm_waits.proofs.Fitted.{Fitting, by_wire, fitted_drains, wire_fits}
 use Rattle.mm_waits.proofs.Joined.{cuts_lead, joined_cuts}
+use Rattle.mm_waits.proofs.Leads.{drains_lead, waits_more}
 use Rattle.mm_waits.proofs.OneBeat.{enables_below}
 use Rattle.mm_waits.proofs.SelectFits.{select_fits}
 use Rattle.mm_waits.proofs.SplitFits.{split_fits}
@@ -90,6 +93,7 @@ module _ (c : After-split_is_a_link) (responses : Responses) (system : System) (
         few = λ k fit. f.few k (omega (arith, fit, next));
         stays = λ k fit. f.stays k (omega (arith, fit, next));
         goes = λ k fit. f.goes k (omega (arith, fit, next));
+        fewer = λ k fit. f.fewer k (omega (arith, fit, next));
         through = λ k fit. f.through k (omega (arith, fit, next));
         come = λ k d near fit. f.come k d near (omega (arith, fit, next));
       }
@@ -98,16 +102,17 @@ module _ (c : After-split_is_a_link) (responses : Responses) (system : System) (
       (_, split_fits (target_of system agent) room middle fitted state runs many before link.row (subst (λ k. AreLegalAt middle k) next legal_here) (subst (λ k. AnswersAreOwed fitted k) next owed_here) may.one_beat some few_pieces (omega arith))
 
   leads : (fits : FitsWords (target_of system agent) middle fitted) → IsFalse (gathers_some fits) →
-      (drained : ℕ → Bool) × (left : ℕ → ℕ) × LeadsBy (target_of system agent) top bottom (stands_or_owes bottom) drained left (longest_of system host * many + many) before
+      (left : ℕ → ℕ) × (still : ℕ → ℕ → ℕ) × LeadsBy (target_of system agent) top bottom (may_wait system run agent bottom) left still (longest_of system host * many + many) before
   leads fits none =
       let reads = c.routes_take_few_steps.ensures responses system run (boundaries_of ports) states built.0 end agent host built.1 legal there low in
       let held = cuts_lead (target_of system agent) top middle middle (longest_of system host) before cuts (wire_self middle)
       (λ k fit shown kind. (let count = reads.2.few k (omega (arith, fit, next)) shown kind in let all = reads.1.few k (omega (arith, fit, next)) in omega (arith, count, all))) in
-      let f = fitting fits none in (
+      let f = fitting fits none in
+      let drains = by_wire fitted bottom wire (target_of system agent) top _ _ (longest_of system host * many + many) before
+      (fitted_drains (target_of system agent) top middle fitted held.0 (longest_of system host) (stands_or_owes fitted) f.0 many before held.1 f.1) in (
         _,
         _,
-        by_wire fitted bottom wire (target_of system agent) top _ _ (longest_of system host * many + many) before
-            (fitted_leads (target_of system agent) top middle fitted held.0 (longest_of system host) (stands_or_owes fitted) f.0 many before held.1 f.1),
+        waits_more before (λ k stops. (or_parts (not (is_good system run agent k)) (stands_or_owes bottom k) stops).1) (omega arith) (drains_lead (target_of system agent) top bottom _ _ _ (longest_of system host * many + many) before drains),
       )
 
 pub returns : goal.returns
