@@ -23,4 +23,6 @@ pub mod SelectFits
 pub mod SplitFits
 pub mod Drops
 pub mod Gathers
+pub mod GatherCounts
+pub mod GatherFits
 pub mod Rows
