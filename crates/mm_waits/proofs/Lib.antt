@@ -22,6 +22,8 @@ pub mod OneBeat
 pub mod SelectFits
 pub mod SplitFits
 pub mod Drops
+pub mod DropCounts
+pub mod DropLeads
 pub mod Gathers
 pub mod GatherCounts
 pub mod GatherFits

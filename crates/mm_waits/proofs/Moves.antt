@@ -1,6 +1,6 @@
 -- A host whose beats are shown before its agent's arbiter at once: where it waits there for few cycles, its wanted command moves on.
 use Rattle.std.proofs.Common.{◌≡◌, ℕ, zero, suc, ◌+◌, ◌-◌, ◌*◌, ◌<◌, ◌≤◌, Bool, true, false, not, ◌&&◌, ◌||◌, List, length, filter, nat_eq, nat_lt, arith, refl, [], ◌∷◌, ◌++◌, sym, ap, ap₂, ◌∙◌, subst, IsTrue, IsFalse, inl, inr, ◌⊎◌, tests, append-nil, ltb-true, Some}
-use Rattle.std.proofs.lemmas.Bool.{and_parts, or_left, or_parts, or_right}
+use Rattle.std.proofs.lemmas.Bool.{and_parts, or_parts}
 use Rattle.histories.specs.History.{IsPrefix, is_raised, only_if}
 use Rattle.histories.specs.Laws.{prefix_trans, prefix_flat_map, prefix_filter, prefix_length, before_prefix}
 use Rattle.mm_runs.specs.Views.{System, Run}
@@ -19,7 +19,6 @@ use Rattle.mm_waits.specs.Waits.{WordsComeSoon}
 use Rattle.mm_waits.specs.Watched.{LeadsBy}
 use Rattle.mm_waits.proofs.Bits.{FirstOrNone, first_or_none, no_true, no_both, not_by, both, some_or_none, three_of}
 use Rattle.mm_waits.proofs.Flush.{shorter_front, no_word}
-use Rattle.mm_waits.proofs.Leads.{owed_grows}
 use Rattle.mm_waits.proofs.Numbers.{Outcome, Outcome.a_beat, Outcome.an_operation, Outcome.a_word, Outcome.a_given, ends_in, ends_length, taken_later, each_holds}
 use Rattle.mm_waits.proofs.Outcomes.{outcome_of, shown_burst, accepted_with_word}
 use Rattle.mm_waits.proofs.Owed.{all_asked, all_words, own_come}

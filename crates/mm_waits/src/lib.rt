@@ -1,6 +1,7 @@
 //! No host hangs beside its neighbours, behind a pipe of stages and at any agent: a wanted command moves on itself.
 #![tactic(auto)]
 
+pub mod hosts;
 pub mod neighbours;
 pub mod watched;
 
