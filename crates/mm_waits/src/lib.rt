@@ -2,6 +2,7 @@
 #![tactic(auto)]
 
 pub mod neighbours;
+pub mod prompt;
 pub mod watched;
 
 ghost use Rattle.std.specs.Prelude.{◌≡◌, ℕ, Bool, suc, ◌+◌, ◌<◌, ◌≤◌, IsTrue};
