@@ -26,8 +26,11 @@ use Rattle.mm_runs.specs.Plan.{IsMemoryPlan}
 use Rattle.mm_runs.specs.Order.{ActsAsMemory, ReadsFromMemory, ReturnsInCommandOrder}
 use Rattle.mm_runs.specs.Whole.{IsLegalRun, IsSafe}
 use Rattle.mm_runs.specs.Awake.{NeverIdles, IsFair}
+use Rattle.mm_runs.specs.Onward.{NoHostHangs, AcceptsSoon}
 use Rattle.mm_runs.specs.Moment.{Moment, AgentSees, HaveAlikeInputs, IgnoresReaddata}
 use Rattle.mm_runs.specs.Packed.{ReadsEachTouchedWordOnce}
+use Rattle.mm_awake.specs.Onward.{prompt_window}
+use Rattle.mm_waits.specs.Windows.{host_window}
 use Rattle.memory_plans.specs.Systems.{side_of_host, side_of_agent, memory_system}
 use Rattle.mm_path.specs.Maps.{IsAgentOf}
 use Rattle.mm_path.specs.Shown.{silent_host, silent_agent, moment_in, standing_still}
@@ -261,6 +264,10 @@ pub record FabricLaws (plan : PlanTable) : Type 0 where
       → IsLegalRun (memory_system plan) (seen_in plan fabric run) end → IsSafe AreCodes (memory_system plan) (seen_in plan fabric run) end
   pub awake : (netlist : Netlist) (fabric : Fabric) → IsFabric plan netlist fabric → (longer : Netlist) → Extends netlist longer → (run : Run) → IsEndlessRun longer run → (end : ℕ)
       → IsLegalRun (memory_system plan) (seen_in plan fabric run) (end + 2) → NeverIdles (memory_system plan) (seen_in plan fabric run) end
+  pub moves : (netlist : Netlist) (fabric : Fabric) → IsFabric plan netlist fabric → (longer : Netlist) → Extends netlist longer → (run : Run) → IsEndlessRun longer run → (end : ℕ)
+      → IsLegalRun (memory_system plan) (seen_in plan fabric run) (end + 2) → NoHostHangs (host_window (memory_system plan)) (memory_system plan) (seen_in plan fabric run) end
+  pub accepts : (netlist : Netlist) (fabric : Fabric) → IsFabric plan netlist fabric → (longer : Netlist) → Extends netlist longer → (run : Run) → IsEndlessRun longer run → (end : ℕ)
+      → IsLegalRun (memory_system plan) (seen_in plan fabric run) (end + 2) → AcceptsSoon (prompt_window (memory_system plan)) (memory_system plan) (seen_in plan fabric run) end
   pub fair : (netlist : Netlist) (fabric : Fabric) → IsFabric plan netlist fabric → (longer : Netlist) → Extends netlist longer → (run : Run) → IsEndlessRun longer run → (end : ℕ)
       → IsLegalRun (memory_system plan) (seen_in plan fabric run) end → IsFair (memory_system plan) (seen_in plan fabric run) end
   pub packed : (netlist : Netlist) (fabric : Fabric) → IsFabric plan netlist fabric → (longer : Netlist) → Extends netlist longer → (run : Run) → IsEndlessRun longer run → (end : ℕ)
@@ -274,6 +281,8 @@ pub record RunLaws : Type 0 where
   pub legal : (system : System) (one two : MemoryRun) (end : ℕ) → RunsAgreeBefore one two end → IsLegalRun system one end → IsLegalRun system two end
   pub safe : (responses : Responses) (system : System) (one two : MemoryRun) (end : ℕ) → RunsAgreeBefore one two end → IsSafe responses system one end → IsSafe responses system two end
   pub awake : (system : System) (one two : MemoryRun) (end : ℕ) → RunsAgreeBefore one two end → NeverIdles system one end → NeverIdles system two end
+  pub onward : (window : ℕ → ℕ → ℕ) (system : System) (one two : MemoryRun) (end : ℕ) → RunsAgreeBefore one two end → NoHostHangs window system one end → NoHostHangs window system two end
+  pub accepts : (window : ℕ → ℕ → ℕ → ℕ) (system : System) (one two : MemoryRun) (end : ℕ) → RunsAgreeBefore one two (end + 2) → AcceptsSoon window system one end → AcceptsSoon window system two end
   pub fair : (system : System) (one two : MemoryRun) (end : ℕ) → RunsAgreeBefore one two end → IsFair system one end → IsFair system two end
   pub packed : (system : System) (one two : MemoryRun) (host agent end : ℕ) → RunsAgreeBefore one two end → ReadsEachTouchedWordOnce system one host agent end → ReadsEachTouchedWordOnce system two host agent end
   pub reads : (system : System) (run : MemoryRun) (agent : ℕ) (contents : ℕ → ℕ) (end host : ℕ) → ActsAsMemory system run contents agent end → ReturnsInCommandOrder system run host end
@@ -344,6 +353,20 @@ module _ (plan : PlanTable) (netlist : Netlist) (m : IsMemoryIn plan netlist) (f
         runs.awake whole (seen_in plan made on.endless) (module_run plan netlist run) cycles (runs.turned _ _ cycles (fewer _ _ cycles a))
         (fabrics.awake netlist made is_made netlist (extends-refl netlist) on.endless on.is_run cycles (runs.legal whole _ _ (cycles + 2) a legal))
 
+    moves_there : (run : Run) (cycles : ℕ) → IsRun netlist run (cycles + 2) → IsLegalRun whole (module_run plan netlist run) (cycles + 2) → NoHostHangs (host_window whole) whole (module_run plan netlist run) cycles
+    moves_there run cycles r legal =
+        let on = goes_on run (cycles + 2) r in
+        let a = agree run (cycles + 2) r in
+        runs.onward (host_window whole) whole (seen_in plan made on.endless) (module_run plan netlist run) cycles (runs.turned _ _ cycles (fewer _ _ cycles a))
+        (fabrics.moves netlist made is_made netlist (extends-refl netlist) on.endless on.is_run cycles (runs.legal whole _ _ (cycles + 2) a legal))
+
+    accepts_there : (run : Run) (cycles : ℕ) → IsRun netlist run (cycles + 2) → IsLegalRun whole (module_run plan netlist run) (cycles + 2) → AcceptsSoon (prompt_window whole) whole (module_run plan netlist run) cycles
+    accepts_there run cycles r legal =
+        let on = goes_on run (cycles + 2) r in
+        let a = agree run (cycles + 2) r in
+        runs.accepts (prompt_window whole) whole (seen_in plan made on.endless) (module_run plan netlist run) cycles (runs.turned _ _ (cycles + 2) a)
+        (fabrics.accepts netlist made is_made netlist (extends-refl netlist) on.endless on.is_run cycles (runs.legal whole _ _ (cycles + 2) a legal))
+
     fair_there : (run : Run) (cycles : ℕ) → IsRun netlist run cycles → IsLegalRun whole (module_run plan netlist run) cycles → IsFair whole (module_run plan netlist run) cycles
     fair_there run cycles r legal =
         let on = goes_on run cycles r in
@@ -387,6 +410,8 @@ module _ (plan : PlanTable) (netlist : Netlist) (m : IsMemoryIn plan netlist) (f
       kept = fabrics.kept;
       safe = safe_there;
       awake = awake_there;
+      moves = moves_there;
+      accepts = accepts_there;
       fair = fair_there;
       reads_back = λ run cycles host agent contents here there r legal acts.
           runs.reads whole (module_run plan netlist run) agent contents cycles host acts ((safe_there run cycles r legal).returned host here);
@@ -425,6 +450,8 @@ module _ (plan : PlanTable) (netlist : Netlist) (m : IsMemoryIn plan netlist) (f
         ahead = λ a below. absurd (no_agent a below);
         hosts_at_default = λ h below. absurd (no_host h below);
       };
+      moves = λ run cycles r legal. record { moves = λ a h below. absurd (no_agent a below) };
+      accepts = λ run cycles r legal. record { accepts = λ a h late below. absurd (no_agent a below) };
       fair = λ run cycles r legal. record { few = λ a below. absurd (no_agent a below); turns = λ a below. absurd (no_agent a below) };
       reads_back = λ run cycles host agent contents here there. absurd (no_host host here);
       packed = λ run cycles host agent here there. absurd (no_host host here);

@@ -21,8 +21,11 @@ use Rattle.mm_runs.specs.Views.Responses.{AreCodes}
 use Rattle.mm_runs.specs.Order.{ActsAsMemory, ReadsFromMemory}
 use Rattle.mm_runs.specs.Whole.{IsLegalRun, IsSafe}
 use Rattle.mm_runs.specs.Awake.{NeverIdles, IsFair}
+use Rattle.mm_runs.specs.Onward.{NoHostHangs, AcceptsSoon}
 use Rattle.mm_runs.specs.Moment.{Moment}
 use Rattle.mm_runs.specs.Packed.{ReadsEachTouchedWordOnce}
+use Rattle.mm_awake.specs.Onward.{prompt_window}
+use Rattle.mm_waits.specs.Windows.{host_window}
 use Rattle.memory_plans.specs.Systems.{memory_system}
 use Rattle.mm_path.specs.Shown.{silent_host, silent_agent, moment_in, standing_still}
 use Rattle.port_tables.specs.Ports.{EndName, port_name, name_at, is_forward, role_word}
@@ -133,6 +136,14 @@ memory_as plan whole pruned p h = record {
   awake = λ run cycles is legal. (let w = p.runs run (cycles + 2) is in
       let same = same_memory plan whole pruned w.whole_run run w.signals in
       subst (λ (m : MemoryRun). NeverIdles (memory_system plan) m cycles) same (h.awake w.whole_run cycles w.is_run (subst (λ (m : MemoryRun). IsLegalRun (memory_system plan) m (cycles + 2)) (sym same) legal)));
+  moves = λ run cycles is legal. (let w = p.runs run (cycles + 2) is in
+      let same = same_memory plan whole pruned w.whole_run run w.signals in
+      subst (λ (m : MemoryRun). NoHostHangs (host_window (memory_system plan)) (memory_system plan) m cycles) same
+      (h.moves w.whole_run cycles w.is_run (subst (λ (m : MemoryRun). IsLegalRun (memory_system plan) m (cycles + 2)) (sym same) legal)));
+  accepts = λ run cycles is legal. (let w = p.runs run (cycles + 2) is in
+      let same = same_memory plan whole pruned w.whole_run run w.signals in
+      subst (λ (m : MemoryRun). AcceptsSoon (prompt_window (memory_system plan)) (memory_system plan) m cycles) same
+      (h.accepts w.whole_run cycles w.is_run (subst (λ (m : MemoryRun). IsLegalRun (memory_system plan) m (cycles + 2)) (sym same) legal)));
   fair = λ run cycles is legal. (let w = p.runs run cycles is in
       let same = same_memory plan whole pruned w.whole_run run w.signals in
       subst (λ (m : MemoryRun). IsFair (memory_system plan) m cycles) same (h.fair w.whole_run cycles w.is_run (subst (λ (m : MemoryRun). IsLegalRun (memory_system plan) m cycles) (sym same) legal)));

@@ -14,8 +14,11 @@ use Rattle.mm_runs.specs.Plan.{IsMemoryPlan}
 use Rattle.mm_runs.specs.Order.{ActsAsMemory, ReadsFromMemory}
 use Rattle.mm_runs.specs.Whole.{IsLegalRun, IsSafe}
 use Rattle.mm_runs.specs.Awake.{NeverIdles, IsFair}
+use Rattle.mm_runs.specs.Onward.{NoHostHangs, AcceptsSoon}
 use Rattle.mm_runs.specs.Moment.{Moment, IgnoresReaddata}
 use Rattle.mm_runs.specs.Packed.{ReadsEachTouchedWordOnce}
+use Rattle.mm_awake.specs.Onward.{prompt_window}
+use Rattle.mm_waits.specs.Windows.{host_window}
 use Rattle.memory_plans.specs.Systems.{memory_system}
 use Rattle.mm_path.specs.Shown.{silent_host, silent_agent, moment_in, standing_still}
 use Rattle.port_tables.specs.Ports.{EndName, port_name, name_at}
@@ -79,15 +82,20 @@ CanShow plan netlist state moment =
 -- ---- what every run does
 
 -- In every run of the module whose hosts and agents are legal, the module keeps its own side of the rules at them all, the granted order, the
--- return of words in command order, and the lag; a wanted agent is served within its window, and hosts that ask have their shares; every byte that
--- a host is given from an agent that acts as memory is what the writes before its read have left; each word of an agent that a read touches, of a host
--- whose word is no larger, is read once; and no command depends on the word that comes in its cycle, nor on its code
+-- return of words in command order, and the lag; a wanted agent is served within its window, and where nothing but the module can hold a host's oldest
+-- command up, the command itself moves on within its window; among hosts like their agent, which is prompt, a beat is accepted soon; hosts that ask have their shares; every byte that a host is given from an agent that acts
+-- as memory is what the writes before its read have left; each word of an agent that a read touches, of a host whose word is no larger, is read once;
+-- and no command depends on the word that comes in its cycle, nor on its code
 pub record ServesMemory (plan : PlanTable) (netlist : Netlist) : Type 0 where
   pub kept : IsMemoryPlan (memory_system plan)
   pub safe : (run : Run) (cycles : ℕ) → IsRun netlist run cycles → IsLegalRun (memory_system plan) (module_run plan netlist run) cycles
       → IsSafe AreCodes (memory_system plan) (module_run plan netlist run) cycles
   pub awake : (run : Run) (cycles : ℕ) → IsRun netlist run (cycles + 2) → IsLegalRun (memory_system plan) (module_run plan netlist run) (cycles + 2)
       → NeverIdles (memory_system plan) (module_run plan netlist run) cycles
+  pub moves : (run : Run) (cycles : ℕ) → IsRun netlist run (cycles + 2) → IsLegalRun (memory_system plan) (module_run plan netlist run) (cycles + 2)
+      → NoHostHangs (host_window (memory_system plan)) (memory_system plan) (module_run plan netlist run) cycles
+  pub accepts : (run : Run) (cycles : ℕ) → IsRun netlist run (cycles + 2) → IsLegalRun (memory_system plan) (module_run plan netlist run) (cycles + 2)
+      → AcceptsSoon (prompt_window (memory_system plan)) (memory_system plan) (module_run plan netlist run) cycles
   pub fair : (run : Run) (cycles : ℕ) → IsRun netlist run cycles → IsLegalRun (memory_system plan) (module_run plan netlist run) cycles
       → IsFair (memory_system plan) (module_run plan netlist run) cycles
   pub reads_back : (run : Run) (cycles host agent : ℕ) (contents : ℕ → ℕ) → host < (memory_system plan).hosts → agent < (memory_system plan).agents

@@ -3,6 +3,7 @@
 
 pub mod hosts;
 pub mod neighbours;
+pub mod prompt;
 pub mod watched;
 
 ghost use Rattle.std.specs.Prelude.{◌≡◌, ℕ, Bool, suc, ◌+◌, ◌<◌, ◌≤◌, IsTrue};

@@ -14,6 +14,16 @@ returns-clause-awake c = λ plan is_plan netlist fabric is longer extends run en
     let linked = c.fabrics_are_fairly_linked.ensures plan is_plan netlist fabric is longer extends run endless (end + 2) legal in
     c.machines_with_links_are_awake.ensures.awake AreCodes (memory_system plan) (seen_in plan fabric run) linked.0 linked.1 end linked.2 linked.3 linked.4 legal
 
+pub returns-clause-moves : goal.returns-clause-moves
+returns-clause-moves c = λ plan is_plan netlist fabric is longer extends run endless end legal.
+    let linked = c.fabrics_are_fairly_linked.ensures plan is_plan netlist fabric is longer extends run endless (end + 2) legal in
+    c.no_host_hangs.ensures AreCodes (memory_system plan) (seen_in plan fabric run) linked.0 linked.1 end linked.2 linked.3 linked.4 legal
+
+pub returns-clause-accepts : goal.returns-clause-accepts
+returns-clause-accepts c = λ plan is_plan netlist fabric is longer extends run endless end legal.
+    let linked = c.fabrics_are_fairly_linked.ensures plan is_plan netlist fabric is longer extends run endless (end + 2) legal in
+    c.alike_hosts_are_accepted.ensures AreCodes (memory_system plan) (seen_in plan fabric run) linked.0 linked.1 end linked.2 linked.3 linked.4 legal
+
 pub returns-clause-fair : goal.returns-clause-fair
 returns-clause-fair c = λ plan is_plan netlist fabric is longer extends run endless end legal.
     let linked = c.fabrics_are_fairly_linked.ensures plan is_plan netlist fabric is longer extends run endless end legal in
