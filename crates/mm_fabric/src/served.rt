@@ -32,7 +32,7 @@ use mm_packed::packed_systems_read_words_once;
 use mm_parts::joins::routes_show_fit_beats;
 use mm_path::{fit_commands_suit_agents, plans_are_apart, routes_are_mapped};
 use mm_route::route_ignores_answers;
-use mm_waits::no_host_hangs;
+use mm_waits::hosts::no_host_hangs;
 use mm_waits::prompt::alike_hosts_are_accepted;
 
 /// What a run shows at the hosts and agents of a fabric fits their ports.
