@@ -1,7 +1,7 @@
-use Rattle.stand_in_beginnings.proofs.Agents.{same_state}
-use Rattle.stand_in_beginnings.proofs.Hosts.{same_steps}
-use Rattle.stand_in_beginnings.proofs.Streams.{same_keeping}
-use Rattle.stand_in_beginnings.proofs.laws.states_by_beginnings.Goals as goal
+use Rattle.simulated_runs.proofs.AgentBeginnings.{same_state}
+use Rattle.simulated_runs.proofs.HostBeginnings.{same_steps}
+use Rattle.simulated_runs.proofs.StreamBeginnings.{same_keeping}
+use Rattle.simulated_runs.proofs.beginnings.states_by_beginnings.Goals as goal
 
 pub returns-clause-hosts : goal.returns-clause-hosts
 returns-clause-hosts c = same_steps

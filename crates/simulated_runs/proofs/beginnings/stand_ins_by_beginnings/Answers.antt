@@ -1,7 +1,7 @@
-use Rattle.stand_in_beginnings.proofs.Agents.{same_agent}
-use Rattle.stand_in_beginnings.proofs.Hosts.{same_host}
-use Rattle.stand_in_beginnings.proofs.Streams.{same_source, same_sink}
-use Rattle.stand_in_beginnings.proofs.laws.stand_ins_by_beginnings.Goals as goal
+use Rattle.simulated_runs.proofs.AgentBeginnings.{same_agent}
+use Rattle.simulated_runs.proofs.HostBeginnings.{same_host}
+use Rattle.simulated_runs.proofs.StreamBeginnings.{same_source, same_sink}
+use Rattle.simulated_runs.proofs.beginnings.stand_ins_by_beginnings.Goals as goal
 
 pub returns-clause-hosts : goal.returns-clause-hosts
 returns-clause-hosts c = same_host
