@@ -1,6 +1,8 @@
+//! Which streams are wires.
+
 ghost use Rattle.std.specs.Prelude.{◌≡◌};
 ghost use Rattle.st_timing.specs.Ends.{declared};
-ghost use Rattle.built_links.specs.Wires.{has_same_beats, has_plain_ready, is_wire_stream};
+ghost use Rattle.port_tables.specs.Wires.{has_same_beats, has_plain_ready, is_wire_stream};
 
 use iface_roles::{SinkPort, SourcePort};
 
