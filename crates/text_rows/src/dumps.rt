@@ -1,5 +1,4 @@
-//! Reads dumps from the standard input, each behind a title, and writes what is read of each: its rows, or the first byte that breaks a rule.
-#![tactic(auto)]
+//! Rows of dumps, each behind a title `:row TITLE`: the rows that a dump has, or the first byte that breaks a rule.
 
 use std::alloc::Global;
 use std::io;
@@ -27,12 +26,12 @@ fn tell_dump(rt: &HostRuntime, alloc: Global, dump: &str) -> io::Result<()> {
     }
 }
 
-fn main(rt: HostRuntime) -> io::Result<()> {
-    let text = io::read_to_string(rt.alloc(), rt.reader())?;
-    for row in text.split(":row ") {
+/// Tells each title, and what is read of the dump behind it.
+pub(crate) fn tell_dumps(rt: &HostRuntime, rows: &str) -> io::Result<()> {
+    for row in rows.split(":row ") {
         if let Some((title, dump)) = row.split_once('\n') {
             println!(rt; "{title}:")?;
-            tell_dump(&rt, rt.alloc(), dump)?;
+            tell_dump(rt, rt.alloc(), dump)?;
         }
     }
     Ok(())

@@ -1,12 +1,9 @@
-//! Reads rows from the standard input, each the number of a word, a place in the file of that name and how many bytes are wanted there, or
-//! `all` and the most bytes that a whole file may have. Prints what one shelf of real files gives, row by row, through a sink of the standard
-//! output.
-#![tactic(auto)]
+//! Rows of files: each the number of a word, a place in the file of that name and how many bytes are wanted there, or `all` and the most bytes
+//! that a whole file may have. One shelf of real files gives them, row by row, through a sink of the standard output.
 
 use av_base::NoMemory;
 use av_files::{DirShelf, LoadFault, ReadStep, Shelf, StdSink, load_all, put_all};
 use std::alloc::Global;
-use std::process::ExitCode;
 use std::rt::{Env, Files};
 use std::{env, io};
 
@@ -68,10 +65,9 @@ fn told<S: Shelf>(alloc: Global, shelf: &mut S, row: &str) -> Result<String, NoM
     Ok(text)
 }
 
-/// Tells each row; false where one can't be.
-fn tell_rows<R: Env + Files + Input + Print + AllocGlobal>(rt: &R) -> io::Result<bool> {
+/// Whether each row is told.
+fn are_told<R: Env + Files + Print + AllocGlobal>(rt: &R, rows: &str) -> io::Result<bool> {
     let words: Vec<String> = env::args(rt)?.collect(rt.alloc())?;
-    let rows = io::read_to_string(rt.alloc(), rt.reader())?;
     let mut shelf = DirShelf::new(rt, words.as_slice());
     let mut sink = StdSink::new(io::writer(rt));
     let mut are_told = true;
@@ -84,9 +80,11 @@ fn tell_rows<R: Env + Files + Input + Print + AllocGlobal>(rt: &R) -> io::Result
     Ok(are_told)
 }
 
-fn main(rt: HostRuntime) -> ExitCode {
-    match tell_rows(&rt) {
-        Ok(true) => ExitCode::SUCCESS,
-        _ => ExitCode::FAILURE,
+/// Tells each row.
+pub(crate) fn tell_files(rt: &HostRuntime, rows: &str) -> io::Result<()> {
+    if are_told(rt, rows)? {
+        Ok(())
+    } else {
+        Err(io::ErrorKind::Other.into())
     }
 }

@@ -1,14 +1,10 @@
-//! Reads rows of packets from the standard input, and prints of each the commands that they stand for and the replies to
-//! them, or their first fault.
-#![tactic(auto)]
+//! Rows of packets: the commands that they stand for and the replies to them, or their first fault.
 
-mod row;
-
+use crate::row::{Row, word_size};
 use av_base::{List, NoMemory, Val};
 use av_files::MemSink;
 use packet_bytes::{PacketFault, Replies, Transfers};
-use row::{Row, word_size};
-use row_words::{Answers, answer_lines, hex_number};
+use row_words::hex_number;
 use std::alloc::{AllocError, Global};
 use std::io;
 
@@ -64,36 +60,39 @@ fn push_replies(
     Ok(push_hex(text, sink.bytes())?)
 }
 
-/// The rows, of which nothing is kept.
-#[derive(Drop)]
-struct Rows;
-
-impl Answers for Rows {
-    fn push_answer(
-        &mut self,
-        alloc: Global,
-        text: &mut String,
-        line: &str,
-    ) -> Result<(), NoMemory> {
-        let row = Row::of(line);
-        let Some(size) = word_size(row.word) else {
-            return Ok(text.push_str(": no size of words")?);
-        };
-        let bytes = row.bytes(alloc)?;
-        match Transfers::read(alloc, bytes.as_slice(), size, row.range) {
-            Ok(transfers) => {
-                text.push_str(": ")?;
-                push_commands(alloc, text, &transfers)?;
-                push_replies(alloc, text, &row, transfers)
-            }
-            Err(PacketFault::Refused { byte, rule }) => {
-                Ok(write!(text, ": byte {byte} rule Y{rule}")?)
-            }
-            Err(PacketFault::NoMemory) => Err(NoMemory),
+/// Appends what is said of a row.
+fn push_answer(alloc: Global, text: &mut String, line: &str) -> Result<(), NoMemory> {
+    let row = Row::of(line);
+    let Some(size) = word_size(row.word) else {
+        return Ok(text.push_str(": no size of words")?);
+    };
+    let bytes = row.bytes(alloc)?;
+    match Transfers::read(alloc, bytes.as_slice(), size, row.range) {
+        Ok(transfers) => {
+            text.push_str(": ")?;
+            push_commands(alloc, text, &transfers)?;
+            push_replies(alloc, text, &row, transfers)
         }
+        Err(PacketFault::Refused { byte, rule }) => {
+            Ok(write!(text, ": byte {byte} rule Y{rule}")?)
+        }
+        Err(PacketFault::NoMemory) => Err(NoMemory),
     }
 }
 
-fn main(rt: HostRuntime) -> io::Result<()> {
-    answer_lines(&rt, &mut Rows)
+fn answer_of(alloc: Global, line: &str) -> Result<String, NoMemory> {
+    let mut text = String::new(alloc);
+    push_answer(alloc, &mut text, line)?;
+    Ok(text)
+}
+
+/// Tells each row, and what is said of it.
+pub(crate) fn tell_packets(rt: &HostRuntime, rows: &str) -> io::Result<()> {
+    for line in rows.lines() {
+        let Ok(answer) = answer_of(rt.alloc(), line) else {
+            return Err(io::ErrorKind::OutOfMemory.into());
+        };
+        println!(rt; "{line}{answer}")?;
+    }
+    Ok(())
 }
