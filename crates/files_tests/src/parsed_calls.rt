@@ -1,7 +1,7 @@
 //! Commands beside those of a parser of command lines: each is a subcommand, whose arguments stand by their places
 //! and are plain texts.
 
-use crate::words_of;
+use crate::calls::words_of;
 use clap::{Arg, ArgAction, Command};
 use routed_modules::Routed;
 use std::alloc::{AllocError, Global};

@@ -1,9 +1,18 @@
-//! Words, and what they ask for.
+//! The words of calls, and what they ask for.
 
-use crate::words_of;
 use routed_modules::Routed;
+use std::alloc::{AllocError, Global};
 use std::test::Fail;
 use task_words::{Task, read_words};
+
+/// Words of these texts.
+pub(crate) fn words_of(alloc: Global, texts: &[&str]) -> Result<Vec<String>, AllocError> {
+    let mut words = Vec::new(alloc);
+    for text in texts {
+        words.push(String::from_str(alloc, text)?)?;
+    }
+    Ok(words)
+}
 
 /// Words, and what they ask for.
 const TRIED: [(&[&str], Option<Task>); 56] = [
