@@ -1,14 +1,15 @@
 #!/usr/bin/env python3
-"""What crates/file_rows must print of its rows, from the files of its folder data/: judge_files.py <ROWS.
+"""What crates/text_rows must print of its rows of files, from the files of its folder data/: judge_files.py <ROWS.
 
 A row is the number of a word, a place and a count, or `all` and a limit. Word 0 is the program itself.
 
-    python3 bench/judge_files.py <crates/file_rows/stdin | cmp - crates/file_rows/stdout
+    files() { sed '1,/^:rows files/d;/^:rows/,$d' crates/text_rows/$1; }
+    files stdin | python3 bench/judge_files.py | cmp - <(files stdout)
 """
 import sys
 from pathlib import Path
 
-CRATE = Path(__file__).resolve().parent.parent / "crates" / "file_rows"
+CRATE = Path(__file__).resolve().parent.parent / "crates" / "text_rows"
 ROOM = 256
 
 

@@ -2,7 +2,7 @@
 """Judges packets of transactions, apart from the program: judge_packets.py ROWS prints what the rows of a file must get.
 
 Written from docs/FORMATS.md and the definitions. A row is the size of a host's words in bytes, how many bytes it reaches, how many write beats were
-accepted, the words that were given, and the bytes of packets, a dash for none; `crates/packet_rows` reads such rows. With --draw COUNT it prints
+accepted, the words that were given, and the bytes of packets, a dash for none; `crates/text_rows` reads such rows. With --draw COUNT it prints
 rows: first those below, which show each rule with its nearest neighbour, then drawn ones.
 """
 import random

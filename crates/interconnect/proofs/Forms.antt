@@ -15,7 +15,7 @@ use Rattle.link_rules.specs.PlanLinks.{IsStreamLink}
 use Rattle.stream_runs.specs.Ends.{Declared, AreAlike, pace_of}
 use Rattle.st_timing.specs.Ends.{declared, IsPaced}
 use Rattle.stream_path.specs.Joining.{FitsPorts, CanJoin}
-use Rattle.built_links.specs.Wires.{both_or_neither, has_same_beats, has_plain_ready, is_wire_stream}
+use Rattle.port_tables.specs.Wires.{both_or_neither, has_same_beats, has_plain_ready, is_wire_stream}
 use Rattle.port_tables.specs.EndFacts.{IsPlanned}
 use Rattle.interconnect.proofs.StreamEnds.{connection_of, start_known, finish_known}
 

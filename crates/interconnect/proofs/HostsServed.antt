@@ -32,8 +32,8 @@ use Rattle.mm_runs.specs.Packed.{ReadsEachTouchedWordOnce}
 use Rattle.mm_awake.specs.Onward.{prompt_window}
 use Rattle.mm_waits.specs.Windows.{host_window}
 use Rattle.memory_plans.specs.Systems.{side_of_host, side_of_agent, memory_system}
-use Rattle.mm_path.specs.Maps.{IsAgentOf}
-use Rattle.mm_path.specs.Shown.{silent_host, silent_agent, moment_in, standing_still}
+use Rattle.memory_plans.specs.Maps.{IsAgentOf}
+use Rattle.memory_plans.specs.Shown.{silent_host, silent_agent, moment_in, standing_still}
 use Rattle.mm_fabric.specs.declared.fabric.FabricParts.{FabricParts}
 use Rattle.mm_fabric.specs.Fabrics.{Fabric, IsFabric, seen_at_host, seen_at_agent, seen_in, FabricShows}
 use Rattle.port_tables.specs.Lists.{among_at}

@@ -26,7 +26,7 @@ use Rattle.port_tables.specs.declared.roles.PortRole.TheVariants as role
 use Rattle.port_tables.specs.declared.roles.RolePort.{RolePort}
 use Rattle.port_tables.specs.Ports.{is_output, bits_if, port_of, stream_ports, ends_of, ports_of}
 use Rattle.port_tables.specs.PortMaps.{HasKnownPorts, port_at, IsPortIf}
-use Rattle.built_links.specs.Wires.{is_wire_at, wires_before}
+use Rattle.port_tables.specs.Wires.{is_wire_at, wires_before}
 use Rattle.interconnect.specs.Streams.{low_line}
 use Rattle.interconnect.specs.Outputs.{IsInputIf, input_at}
 use Rattle.interconnect.specs.Joins.{AreInputs, wire_nets, low_at, AddsStream, HasLows, IsJoinedUpTo}

@@ -18,7 +18,7 @@ use Rattle.net_parts.specs.Growth.{StillWait}
 use Rattle.port_tables.specs.Lists.{slice_get-append, slice_get-front, take_one_more, nat_less}
 use Rattle.port_tables.specs.Ports.{ports_of, module_name}
 use Rattle.port_tables.specs.PortMaps.{HasKnownPorts}
-use Rattle.built_links.specs.Wires.{is_wire, is_wire_link, is_wire_at, wires_before}
+use Rattle.port_tables.specs.Wires.{is_wire, is_wire_link, is_wire_at, wires_before}
 use Rattle.interconnect.specs.Streams.{low_line}
 use Rattle.interconnect.specs.Joins.{low_at, low_lines, with_lows, AddsLow, AreLows, IsBegun}
 use Rattle.interconnect.proofs.StreamEnds.{connection_of, start_known, finish_known}

@@ -27,7 +27,7 @@ use Rattle.port_tables.specs.PortMaps.{HasKnownPorts, port_at}
 use Rattle.port_tables.specs.Ends.{IsStreamPlace}
 use Rattle.port_tables.specs.EndFacts.{IsPlanned, known_is, known_proper}
 use Rattle.port_tables.specs.Numbering.{stream_number, stream_at, ends_at}
-use Rattle.built_links.specs.Wires.{is_wire, is_wire_at, wires_before, is_wire_stream}
+use Rattle.port_tables.specs.Wires.{is_wire, is_wire_at, wires_before, is_wire_stream}
 use Rattle.interconnect.specs.Streams.{IsStream, IsWired}
 use Rattle.pruned_netlists.specs.Needed.{IsNeeded}
 use Rattle.pruned_netlists.specs.Pruned.{IsPruned}

@@ -29,7 +29,7 @@ use Rattle.port_tables.specs.Lists.{Among, among_at, among_filter}
 use Rattle.port_tables.specs.Ports.{role_word, is_forward, is_output, bits_if, port_of, port_name, stream_ports, has_bits, name_at, ports_of}
 use Rattle.port_tables.specs.PortMaps.{IsPortIf, HasKnownPorts, port_at}
 use Rattle.port_tables.specs.Ends.{IsStreamPlace}
-use Rattle.built_links.specs.Wires.{is_wire_stream, is_wire_as, is_wire_at, wires_before}
+use Rattle.port_tables.specs.Wires.{is_wire_stream, is_wire_as, is_wire_at, wires_before}
 use Rattle.interconnect.specs.Streams.{end_signals, dropped_signal, ServesStream, IsDrivenBy, IsJoined, IsWired, low_line}
 use Rattle.interconnect.specs.Outputs.{input_at}
 use Rattle.interconnect.specs.Joins.{wire_nets, source_roles, sink_roles, net_for, low_at, IsJoinedStream}

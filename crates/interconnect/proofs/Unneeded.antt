@@ -27,7 +27,7 @@ use Rattle.mm_runs.specs.Packed.{ReadsEachTouchedWordOnce}
 use Rattle.mm_awake.specs.Onward.{prompt_window}
 use Rattle.mm_waits.specs.Windows.{host_window}
 use Rattle.memory_plans.specs.Systems.{memory_system}
-use Rattle.mm_path.specs.Shown.{silent_host, silent_agent, moment_in, standing_still}
+use Rattle.memory_plans.specs.Shown.{silent_host, silent_agent, moment_in, standing_still}
 use Rattle.port_tables.specs.Ports.{EndName, port_name, name_at, is_forward, role_word}
 use Rattle.pruned_netlists.specs.Needed.{IsNeeded}
 use Rattle.pruned_netlists.specs.Pruned.{IsPruned, HasWholeRun, HasWholeState, AreNeededBelow, over_and_over}

@@ -7,7 +7,7 @@ use Rattle.link_rules.specs.Plans.{PlanTable}
 use Rattle.netlist.specs.Netlists.{Netlist, input_count}
 use Rattle.st_timing.specs.Ends.{declared}
 use Rattle.port_tables.specs.Ports.{name_at, ports_of, module_name}
-use Rattle.built_links.specs.Wires.{is_wire_stream, wires_before}
+use Rattle.port_tables.specs.Wires.{is_wire_stream, wires_before}
 use Rattle.interconnect.specs.Streams.{IsStream, ServesStream, IsWired}
 use Rattle.interconnect.specs.Memory.{ServesMemory}
 

@@ -22,7 +22,7 @@ use Rattle.port_tables.specs.declared.roles.PortRole.{PortRole}
 use Rattle.port_tables.specs.declared.roles.PortRole.TheVariants as role
 use Rattle.port_tables.specs.Ports.{ports_of, module_name}
 use Rattle.interconnect.specs.declared.outputs.Output.{Output}
-use Rattle.built_links.specs.Wires.{is_wire_at, wires_before}
+use Rattle.port_tables.specs.Wires.{is_wire_at, wires_before}
 use Rattle.interconnect.specs.Streams.{IsStream, low_line}
 use Rattle.interconnect.specs.Outputs.{input_at, outputs_by, AreDrivenAt, IsNoPortOf}
 use Rattle.interconnect.specs.Each.{IsNoPortOfEach}

@@ -20,7 +20,7 @@ use Rattle.mm_runs.specs.Packed.{ReadsEachTouchedWordOnce}
 use Rattle.mm_awake.specs.Onward.{prompt_window}
 use Rattle.mm_waits.specs.Windows.{host_window}
 use Rattle.memory_plans.specs.Systems.{memory_system}
-use Rattle.mm_path.specs.Shown.{silent_host, silent_agent, moment_in, standing_still}
+use Rattle.memory_plans.specs.Shown.{silent_host, silent_agent, moment_in, standing_still}
 use Rattle.port_tables.specs.Ports.{EndName, port_name, name_at}
 
 -- ---- what a run shows

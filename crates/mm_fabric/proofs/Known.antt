@@ -12,7 +12,7 @@ use Rattle.memory_sides.specs.Sides.{host_side, agent_side}
 use Rattle.memory_plans.specs.Systems.{memory_system, side_of_host, side_of_agent}
 use Rattle.mm_arbiter.specs.Machine.{AreApart, seats_from}
 use Rattle.mm_awake.specs.Fair.{are_apart}
-use Rattle.mm_path.specs.Shown.{silent_host, silent_agent}
+use Rattle.memory_plans.specs.Shown.{silent_host, silent_agent}
 use Rattle.mm_fabric.specs.Parts.{askers_of}
 use Rattle.mm_fabric.specs.Fabrics.{Fabric, IsFabric, seen_at_host, seen_at_agent, seen_in}
 use Rattle.mm_fabric.proofs.Seats.{seated_is_joined, seats_apart}

@@ -43,7 +43,7 @@ use Rattle.mm_awake.specs.PipeStages.{stage_of}
 use Rattle.mm_packed.specs.Packed.{RowsPack}
 use Rattle.mm_links.specs.Pipes.{PipeSides}
 use Rattle.mm_width.specs.Pairs.{needs_drop}
-use Rattle.mm_path.specs.Maps.{IsHostOf, IsAgentOf, RoutesAreMapped}
+use Rattle.memory_plans.specs.Maps.{IsHostOf, IsAgentOf, RoutesAreMapped}
 use Rattle.mm_fabric.specs.Trunks.{room_bits}
 use Rattle.mm_fabric.specs.Parts.{askers_of, commands_above, backs_above}
 use Rattle.mm_fabric.specs.Fabrics.{Fabric, IsFabric, seen_at_host, seen_at_agent, seen_in}

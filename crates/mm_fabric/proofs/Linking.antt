@@ -34,7 +34,7 @@ use Rattle.mm_arbiter.specs.Shown.{AreAskers}
 use Rattle.mm_arbiter.specs.Backs.{HostsFit}
 use Rattle.mm_arbiter.specs.Machine.{seats_from, AreApart}
 use Rattle.mm_awake.specs.Fair.{are_apart}
-use Rattle.mm_path.specs.Maps.{IsHostOf, IsAgentOf, HasHost, HasAgent, JoinsEnds}
+use Rattle.memory_plans.specs.Maps.{IsHostOf, IsAgentOf, HasHost, HasAgent, JoinsEnds}
 use Rattle.mm_width.specs.Pairs.{MayMeet}
 use Rattle.mm_fabric.specs.Asks.{asking}
 use Rattle.mm_fabric.specs.Links.{HasLinkBetween, IsLinkedHost, IsLinkedAgent, IsLinkedPlan}

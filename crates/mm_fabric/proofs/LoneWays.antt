@@ -24,7 +24,7 @@ use Rattle.mm_route.specs.Entries.{is_lone}
 use Rattle.mm_host.specs.Hosts.{reads_words}
 use Rattle.mm_host.specs.Reads.{is_unbounded}
 use Rattle.mm_arbiter.specs.declared.asker.Asker.{Asker}
-use Rattle.mm_path.specs.Maps.{IsHostOf, IsAgentOf, JoinsEnds}
+use Rattle.memory_plans.specs.Maps.{IsHostOf, IsAgentOf, JoinsEnds}
 use Rattle.mm_width.specs.Pairs.{is_wire_pair}
 use Rattle.mm_fabric.specs.declared.asks.AgentEnd.{AgentEnd}
 use Rattle.mm_fabric.specs.declared.begun.BegunHost.{BegunHost}

@@ -15,7 +15,7 @@ use Rattle.mm_machines.specs.Turns.{seats_of}
 use Rattle.command_nets.specs.declared.nets.CommandNets.{CommandNets}
 use Rattle.mm_arbiter.specs.declared.asker.Asker.{Asker}
 use Rattle.mm_arbiter.specs.Machine.{seats_from}
-use Rattle.mm_path.specs.Maps.{IsHostOf}
+use Rattle.memory_plans.specs.Maps.{IsHostOf}
 use Rattle.mm_width.specs.Pairs.{MayMeet}
 use Rattle.mm_fabric.specs.declared.begun.BegunHost.{BegunHost}
 use Rattle.mm_fabric.specs.declared.begun.HostEnd.{HostEnd}

@@ -32,7 +32,7 @@ use Rattle.mm_arbiter.specs.Forward.{ArbiterForward}
 use Rattle.mm_arbiter.specs.Forward.{owns as owned_by_arbiter}
 use Rattle.mm_arbiter.specs.Shown.{ShowAllSame as AllShowSame}
 use Rattle.mm_awake.specs.Fair.{are_apart}
-use Rattle.mm_path.specs.Shown.{standing_still, moment_in}
+use Rattle.memory_plans.specs.Shown.{standing_still, moment_in}
 use Rattle.mm_fabric.specs.declared.parts.Seat.{Seat}
 use Rattle.mm_fabric.specs.declared.parts.AgentPart.{AgentPart}
 use Rattle.mm_fabric.specs.Parts.{commands_below, commands_above, askers_of}

@@ -20,7 +20,7 @@ use Rattle.mm_route.specs.Forward.{as_many_commands}
 use Rattle.mm_agent.specs.Agents.{agent_lasts}
 use Rattle.mm_arbiter.specs.declared.asker.Asker.{Asker}
 use Rattle.mm_arbiter.specs.Machine.{seats_from}
-use Rattle.mm_path.specs.Maps.{IsAgentOf}
+use Rattle.memory_plans.specs.Maps.{IsAgentOf}
 use Rattle.mm_width.specs.Pairs.{MayMeet}
 use Rattle.mm_host.specs.Reads.{is_unbounded}
 use Rattle.mm_fabric.specs.declared.asks.AgentEnd.{AgentEnd}

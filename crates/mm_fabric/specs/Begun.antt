@@ -9,7 +9,7 @@ use Rattle.mm_route.specs.Shown.{AreCommandsOf, widths_below}
 use Rattle.mm_route.specs.Forward.{RouteForward, forward_nets}
 use Rattle.mm_host.specs.Hosts.{AreHostNets, reads_words}
 use Rattle.mm_host.specs.Reads.{is_unbounded}
-use Rattle.mm_path.specs.Maps.{IsHostOf}
+use Rattle.memory_plans.specs.Maps.{IsHostOf}
 use Rattle.mm_fabric.specs.Trunks.{owns, IsTrunk}
 use Rattle.mm_fabric.specs.Bounds.{needs_no_count}
 use Rattle.mm_fabric.specs.declared.begun.HostEnd.{HostEnd}

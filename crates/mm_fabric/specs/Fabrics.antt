@@ -13,8 +13,8 @@ use Rattle.mm_host.specs.Hosts.{host_view}
 use Rattle.mm_agent.specs.Agents.{agent_view}
 use Rattle.mm_arbiter.specs.Machine.{seats_from}
 use Rattle.mm_width.specs.Pairs.{MayMeet}
-use Rattle.mm_path.specs.Maps.{IsHostOf, IsAgentOf}
-use Rattle.mm_path.specs.Shown.{silent_host, silent_agent, moment_in, standing_still}
+use Rattle.memory_plans.specs.Maps.{IsHostOf, IsAgentOf}
+use Rattle.memory_plans.specs.Shown.{silent_host, silent_agent, moment_in, standing_still}
 use Rattle.mm_fabric.specs.declared.parts.Way.{Way}
 use Rattle.mm_fabric.specs.declared.parts.HostPart.{HostPart}
 use Rattle.mm_fabric.specs.declared.parts.Seat.{Seat}

@@ -13,7 +13,7 @@ use Rattle.mm_machines.specs.Turns.{seats_of}
 use Rattle.mm_arbiter.specs.declared.asker.Asker.{Asker}
 use Rattle.mm_arbiter.specs.Machine.{seats_from}
 use Rattle.mm_width.specs.Pairs.{MayMeet}
-use Rattle.mm_path.specs.Maps.{IsHostOf, IsAgentOf, HasHost, HasAgent, JoinsEnds}
+use Rattle.memory_plans.specs.Maps.{IsHostOf, IsAgentOf, HasHost, HasAgent, JoinsEnds}
 use Rattle.mm_fabric.specs.Askers.{MayAsk}
 use Rattle.mm_fabric.specs.Asks.{asking}
 

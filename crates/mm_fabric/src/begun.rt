@@ -12,10 +12,9 @@ use av_base::List;
 use command_nets::CommandNets;
 use iface_roles::HostPort;
 use link_rules::Plan;
-use memory_plans::host_routes;
+use memory_plans::{host_routes, routes_are_mapped};
 use memory_sides::Route;
 use mm_host::HostNets;
-use mm_path::routes_are_mapped;
 use netlist::{Builder, NetFault};
 use std::alloc::Global;
 

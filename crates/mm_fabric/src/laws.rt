@@ -8,8 +8,10 @@ ghost use Rattle.mm_fabric.specs.Links.{IsLinkedPlan};
 
 use address_map::{ends_are_joined, ends_have_one_number};
 use link_rules::memory_links_are_numbered;
-use memory_plans::{plans_are_memory_plans, routes_are_the_map};
-use mm_path::{plans_are_apart, plans_have_their_ends, spans_fit_ranges, words_fit_pairs};
+use memory_plans::{
+    plans_are_apart, plans_are_memory_plans, plans_have_their_ends, routes_are_the_map,
+    spans_fit_ranges, words_fit_pairs,
+};
 
 /// Each host has a route and each agent a host that asks, and all of them are along the plan's links.
 pub(crate) fn plans_are_linked()

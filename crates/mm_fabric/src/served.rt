@@ -21,7 +21,10 @@ ghost use Rattle.mm_waits.specs.Windows.{host_window};
 ghost use Rattle.mm_packed.specs.Packed.{RowsPack};
 ghost use Rattle.mm_fabric.specs.Fabrics.{Fabric, IsFabric, seen_in, FabricShows};
 
-use memory_plans::{plans_are_memory_plans, routes_are_the_map};
+use memory_plans::{
+    fit_commands_suit_agents, plans_are_apart, plans_are_memory_plans, routes_are_mapped,
+    routes_are_the_map,
+};
 use mm_arbiter::arbiter_ignores_answers;
 use mm_awake::rows::{
     machines_with_links_are_awake, machines_with_links_are_fair, what_rows_carry_fits,
@@ -30,7 +33,6 @@ use mm_awake::wired::pipes_have_stages;
 use mm_links::bursts::cut_shows_fit_beats;
 use mm_packed::packed_systems_read_words_once;
 use mm_parts::joins::routes_show_fit_beats;
-use mm_path::{fit_commands_suit_agents, plans_are_apart, routes_are_mapped};
 use mm_route::route_ignores_answers;
 use mm_waits::hosts::no_host_hangs;
 use mm_waits::prompt::alike_hosts_are_accepted;

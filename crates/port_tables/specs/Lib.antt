@@ -4,3 +4,4 @@ pub mod Ends
 pub mod EndFacts
 pub mod Numbering
 pub mod PortMaps
+pub mod Wires

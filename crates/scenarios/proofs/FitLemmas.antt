@@ -13,8 +13,8 @@ use Rattle.iface_roles.specs.Proper.{range_of, span_of}
 use Rattle.scenario_tables.specs.declared.statements.AgentStatement.TheVariants.{Latency}
 use Rattle.scenario_tables.specs.declared.statements.SourceBeat.{SourceBeat}
 use Rattle.scenario_tables.specs.Statements.{IsRest, longest_of, all_lanes, FitsCommand, FitsHost, FitsAgent, FitsStall, FitsPorts, FitsBeat, GoesOn, IsUnmarked}
-use Rattle.scenario_lines.specs.Words.{word_at}
-use Rattle.scenario_lines.specs.Spelling.{is_hexadecimal, hexadecimal_in, count_in, are_bytes, bytes_in, is_pattern, pattern_in}
+use Rattle.waves.specs.Words.{word_at}
+use Rattle.waves.specs.Spelling.{is_hexadecimal, hexadecimal_in, count_in, are_bytes, bytes_in, is_pattern, pattern_in}
 use Rattle.scenarios.specs.Hosts.{CanWrite, CanRead, is_rest, is_burst, fits_address, fits_enables, fits_command, fits_word, write_of, read_of}
 use Rattle.scenarios.specs.Agents.{CanFill, CanAnswer, CanWaitFor, fill_of, code_of, pattern_of}
 use Rattle.scenarios.specs.Streams.{IsShown, beat_of, fits_channel, fits_ports, goes_on, is_marked_well, keeps_packets}

@@ -8,11 +8,11 @@ use Rattle.scenario_tables.specs.declared.statements.HostStatement.TheVariants.{
 use Rattle.scenario_tables.specs.declared.statements.AgentStatement.TheVariants.{Stall as StallBy, Latency as LatencyOf}
 use Rattle.scenario_tables.specs.declared.statements.SourceStatement.TheVariants.{Beat as BeatOf, Gap as GapOf}
 use Rattle.scenario_tables.specs.Statements.{IsSourceScript}
-use Rattle.scenario_lines.specs.declared.keywords.Keyword.{Keyword}
-use Rattle.scenario_lines.specs.declared.keywords.Keyword.TheVariants.{Cycles, Write, Read, Idle, Fill, Code, Stall, Latency, Beat, Gap}
-use Rattle.scenario_lines.specs.Keywords.{keyword_in, fits_words}
-use Rattle.scenario_lines.specs.Words.{is_silent, is_clean, words_of, first_word, word_at}
-use Rattle.scenario_lines.specs.Spelling.{is_count, count_in, hexadecimal_in, bytes_in}
+use Rattle.waves.specs.declared.keywords.Keyword.{Keyword}
+use Rattle.waves.specs.declared.keywords.Keyword.TheVariants.{Cycles, Write, Read, Idle, Fill, Code, Stall, Latency, Beat, Gap}
+use Rattle.waves.specs.Keywords.{keyword_in, fits_words}
+use Rattle.waves.specs.Words.{is_silent, is_clean, words_of, first_word, word_at}
+use Rattle.waves.specs.Spelling.{is_count, count_in, hexadecimal_in, bytes_in}
 use Rattle.scenarios.specs.declared.faults.ScenarioRule.{ScenarioRule}
 use Rattle.scenarios.specs.declared.faults.ScenarioRule.TheVariants.{Spelling, Ranges, Beginning}
 use Rattle.scenarios.specs.declared.interfaces.NamedHost.{NamedHost}

@@ -5,8 +5,8 @@ use Rattle.std.proofs.Math.Pow.{pow_mono}
 use Rattle.std.proofs.lemmas.Bool.{and_parts}
 use Rattle.std.proofs.lemmas.Bool.Decides.{nat_tests}
 use Rattle.iface_roles.specs.Proper.{IsWordSize, span_of}
-use Rattle.scenario_lines.specs.Words.{word_at}
-use Rattle.scenario_lines.specs.Spelling.{is_hexadecimal, hexadecimal_in, are_bytes}
+use Rattle.waves.specs.Words.{word_at}
+use Rattle.waves.specs.Spelling.{is_hexadecimal, hexadecimal_in, are_bytes}
 use Rattle.scenario_tables.specs.Statements.{all_lanes}
 use Rattle.iface_roles.specs.declared.records.HostPort.{HostPort}
 use Rattle.iface_roles.specs.declared.records.AgentPort.{AgentPort}

@@ -7,8 +7,8 @@ use Rattle.iface_roles.specs.declared.records.HostPort.{HostPort}
 use Rattle.iface_roles.specs.declared.records.AgentPort.{AgentPort}
 use Rattle.iface_roles.specs.declared.records.StreamPort.{StreamPort}
 use Rattle.scenario_tables.specs.declared.statements.SourceStatement.{SourceStatement}
-use Rattle.scenario_lines.specs.Words.{word_at}
-use Rattle.scenario_lines.specs.Spelling.{is_count, count_in, is_pattern}
+use Rattle.waves.specs.Words.{word_at}
+use Rattle.waves.specs.Spelling.{is_count, count_in, is_pattern}
 use Rattle.scenarios.specs.declared.faults.ScenarioRule.{ScenarioRule}
 use Rattle.scenarios.specs.declared.faults.ScenarioRule.TheVariants.{Spelling, Ranges, Beginning, Transfers, Packets, Limits}
 use Rattle.scenarios.specs.Rules.{first_broken}

@@ -6,8 +6,8 @@ use Rattle.scenario_tables.specs.declared.statements.AgentStatement.{AgentStatem
 use Rattle.scenario_tables.specs.declared.statements.AgentStatement.TheVariants.{Stall, Latency, Fill, Code}
 use Rattle.scenario_tables.specs.declared.statements.Pattern.{Pattern}
 use Rattle.scenario_tables.specs.Statements.{stalls_of, latencies_of}
-use Rattle.scenario_lines.specs.Words.{word_at}
-use Rattle.scenario_lines.specs.Spelling.{is_hexadecimal, hexadecimal_in, is_count, count_in, are_bytes, bytes_in, is_pattern, pattern_in}
+use Rattle.waves.specs.Words.{word_at}
+use Rattle.waves.specs.Spelling.{is_hexadecimal, hexadecimal_in, is_count, count_in, are_bytes, bytes_in, is_pattern, pattern_in}
 use Rattle.scenarios.specs.declared.faults.ScenarioRule.{ScenarioRule}
 use Rattle.scenarios.specs.declared.faults.ScenarioRule.TheVariants.{Spelling, Ranges, Beginning, Limits}
 use Rattle.scenarios.specs.declared.interfaces.NamedAgent.{NamedAgent}

@@ -6,8 +6,8 @@ use Rattle.iface_roles.specs.Proper.{range_of}
 use Rattle.scenario_tables.specs.declared.statements.HostStatement.{HostStatement}
 use Rattle.scenario_tables.specs.declared.statements.HostStatement.TheVariants.{Idle, Write, Read}
 use Rattle.scenario_tables.specs.Statements.{longest_of, all_lanes}
-use Rattle.scenario_lines.specs.Words.{word_at}
-use Rattle.scenario_lines.specs.Spelling.{is_hexadecimal, hexadecimal_in, is_count, count_in}
+use Rattle.waves.specs.Words.{word_at}
+use Rattle.waves.specs.Spelling.{is_hexadecimal, hexadecimal_in, is_count, count_in}
 use Rattle.scenarios.specs.declared.faults.ScenarioRule.{ScenarioRule}
 use Rattle.scenarios.specs.declared.faults.ScenarioRule.TheVariants.{Spelling, Ranges, Beginning, Transfers, Limits}
 use Rattle.scenarios.specs.declared.interfaces.NamedHost.{NamedHost}

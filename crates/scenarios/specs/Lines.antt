@@ -2,11 +2,11 @@
 use Rattle.std.specs.Prelude.{ℕ, Bool, not, List, [], ◌∷◌, length, Option, Some, None, is_some, Ok, Err, if◌then◌else◌}
 use Rattle.iface_roles.specs.declared.kinds.Side.TheVariants.{Start, End}
 use Rattle.system_tables.specs.Tables.{SystemTable}
-use Rattle.scenario_lines.specs.declared.keywords.Keyword.{Keyword}
-use Rattle.scenario_lines.specs.declared.keywords.Keyword.TheVariants.{Cycles, Write, Read, Idle, Fill, Code, Stall, Latency, Beat, Gap}
-use Rattle.scenario_lines.specs.Keywords.{keyword_in, fits_words}
-use Rattle.scenario_lines.specs.Words.{is_silent, is_clean, words_of, first_word, word_at}
-use Rattle.scenario_lines.specs.Spelling.{is_count, count_in}
+use Rattle.waves.specs.declared.keywords.Keyword.{Keyword}
+use Rattle.waves.specs.declared.keywords.Keyword.TheVariants.{Cycles, Write, Read, Idle, Fill, Code, Stall, Latency, Beat, Gap}
+use Rattle.waves.specs.Keywords.{keyword_in, fits_words}
+use Rattle.waves.specs.Words.{is_silent, is_clean, words_of, first_word, word_at}
+use Rattle.waves.specs.Spelling.{is_count, count_in}
 use Rattle.scenarios.specs.declared.faults.ScenarioRule.{ScenarioRule}
 use Rattle.scenarios.specs.declared.faults.ScenarioRule.TheVariants.{Characters, Statements, Words, Interfaces, Spelling, Ranges, Beginning}
 use Rattle.scenarios.specs.declared.interfaces.NamedAgent.{NamedAgent}

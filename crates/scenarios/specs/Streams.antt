@@ -5,9 +5,9 @@ use Rattle.scenario_tables.specs.declared.statements.SourceBeat.{SourceBeat}
 use Rattle.scenario_tables.specs.declared.statements.SourceStatement.{SourceStatement}
 use Rattle.scenario_tables.specs.declared.statements.SourceStatement.TheVariants.{Beat, Gap}
 use Rattle.scenario_tables.specs.Statements.{open_behind}
-use Rattle.scenario_lines.specs.declared.marks.Flags.{Flags}
-use Rattle.scenario_lines.specs.Words.{word_at}
-use Rattle.scenario_lines.specs.Spelling.{is_hexadecimal, hexadecimal_in, count_in, flags_in}
+use Rattle.waves.specs.declared.marks.Flags.{Flags}
+use Rattle.waves.specs.Words.{word_at}
+use Rattle.waves.specs.Spelling.{is_hexadecimal, hexadecimal_in, count_in, flags_in}
 use Rattle.scenarios.specs.declared.faults.ScenarioRule.{ScenarioRule}
 use Rattle.scenarios.specs.declared.faults.ScenarioRule.TheVariants.{Spelling, Ranges, Beginning, Packets, Limits}
 use Rattle.scenarios.specs.declared.interfaces.NamedStream.{NamedStream}

@@ -2,8 +2,8 @@
 
 ghost use Rattle.std.specs.Prelude.{◌≡◌, ◌<◌, true, length, Some, None, Ok, OnOk, IfErr, IfOk, if◌then◌else◌};
 ghost use Rattle.iface_roles.specs.Proper.{IsBoundedAgent};
-ghost use Rattle.scenario_lines.specs.Spelling.{is_hexadecimal, are_bytes, is_count, count_in, bytes_in};
-ghost use Rattle.scenario_lines.specs.Words.{word_at};
+ghost use Rattle.waves.specs.Spelling.{is_hexadecimal, are_bytes, is_count, count_in, bytes_in};
+ghost use Rattle.waves.specs.Words.{word_at};
 ghost use Rattle.scenarios.specs.SoFar.{Breaks};
 ghost use Rattle.scenarios.specs.Agents.{CanFill, CanAnswer, CanWaitFor, fill_of, code_of, pattern_of, fits_fill, fill_rule, fill_in, fits_code, code_rule, code_in, stall_rule, has_stall, agent_stall_in, sink_stall_in, has_latency, is_latency, latency_rule, latency_in};
 
@@ -13,11 +13,11 @@ use crate::ports::span;
 use crate::so_far::SoFar;
 use av_base::NoMemory;
 use iface_roles::AgentPort;
-use scenario_lines::{
-    Words, are_bytes, bytes, count, hexadecimal, is_count, is_hexadecimal, is_pattern, pattern,
-};
 use scenario_tables::{AgentStatement, Pattern};
 use std::alloc::Global;
+use waves::{
+    Words, are_bytes, bytes, count, hexadecimal, is_count, is_hexadecimal, is_pattern, pattern,
+};
 
 /// Whether the bytes of a `fill` are within an agent's span.
 fn fits_fill(agent: &AgentPort, words: &Words) -> bool

@@ -3,14 +3,14 @@
 ghost use Rattle.std.specs.Prelude.{◌≡◌, true, Some, None, if◌then◌else◌};
 ghost use Rattle.std.specs.List.{list_all};
 ghost use Rattle.iface_roles.specs.Proper.{IsBoundedHost};
-ghost use Rattle.scenario_lines.specs.Spelling.{is_hexadecimal, is_count, count_in};
-ghost use Rattle.scenario_lines.specs.Words.{word_at};
+ghost use Rattle.waves.specs.Spelling.{is_hexadecimal, is_count, count_in};
+ghost use Rattle.waves.specs.Words.{word_at};
 ghost use Rattle.scenarios.specs.Hosts.{word_bits, fits_word, fits_command, spells_write, spells_read, can_write, can_read, write_rule, read_rule};
 
 use crate::faults::ScenarioRule;
 use crate::ports::{all_lanes, fits, longest, range};
 use iface_roles::HostPort;
-use scenario_lines::{Words, count, hexadecimal, is_count, is_hexadecimal};
+use waves::{Words, count, hexadecimal, is_count, is_hexadecimal};
 
 /// Whether all words that are left spell hexadecimal numbers.
 fn are_hexadecimal(words: &Words) -> bool

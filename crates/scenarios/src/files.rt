@@ -8,9 +8,9 @@ use crate::faults::{LineFault, ScenarioFault, ScenarioRule};
 use crate::one_line::read_line;
 use crate::so_far::SoFar;
 use link_rules::Plan;
-use scenario_lines::Lines;
 use scenario_tables::Scenario;
 use std::alloc::Global;
+use waves::Lines;
 
 /// Reads a scenario for a plan from the bytes of a file.
 #[tactic(auto, unfolding(crate::specs::Files::file_in))]

@@ -3,7 +3,7 @@
 ghost use Rattle.std.specs.Prelude.{◌≡◌, ◌<◌, true, map, length, Some, Ok, OnOk, IfErr, IfOk};
 ghost use Rattle.std.specs.List.{list_all};
 ghost use Rattle.iface_roles.specs.Proper.{IsBoundedHost};
-ghost use Rattle.scenario_lines.specs.Spelling.{is_hexadecimal, hexadecimal_in};
+ghost use Rattle.waves.specs.Spelling.{is_hexadecimal, hexadecimal_in};
 ghost use Rattle.scenarios.specs.SoFar.{Breaks};
 ghost use Rattle.scenarios.specs.Hosts.{CanWrite, CanRead, write_of, read_of, write_in, read_in, idle_in};
 
@@ -14,9 +14,9 @@ use crate::rests::{rest, rest_rule};
 use crate::so_far::SoFar;
 use av_base::{List, NoMemory};
 use iface_roles::HostPort;
-use scenario_lines::{Words, hexadecimal};
 use scenario_tables::HostStatement;
 use std::alloc::Global;
+use waves::{Words, hexadecimal};
 
 /// The numbers that all words that are left spell.
 fn numbers(alloc: Global, words: &Words) -> Result<List<u128>, NoMemory>

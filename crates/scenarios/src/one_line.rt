@@ -14,8 +14,8 @@ use crate::so_far::SoFar;
 use crate::sources::{beat, gap};
 use iface_roles::Side;
 use link_rules::Plan;
-use scenario_lines::{Keyword, Words, is_clean, is_count, is_silent};
 use std::alloc::Global;
+use waves::{Keyword, Words, is_clean, is_count, is_silent};
 
 fn broken(rule: ScenarioRule) -> Result<(), LineFault>
     ensures { result ≡ Err (Broken rule) }

@@ -1,12 +1,12 @@
 //! Numbers of cycles to wait, of hosts and of sources.
 
 ghost use Rattle.std.specs.Prelude.{◌≡◌, true, None, Some, if◌then◌else◌};
-ghost use Rattle.scenario_lines.specs.Words.{word_at};
-ghost use Rattle.scenario_lines.specs.Spelling.{is_count, count_in};
+ghost use Rattle.waves.specs.Words.{word_at};
+ghost use Rattle.waves.specs.Spelling.{is_count, count_in};
 ghost use Rattle.scenarios.specs.Hosts.{is_rest, rest_rule};
 
 use crate::faults::ScenarioRule;
-use scenario_lines::{Words, count, is_count};
+use waves::{Words, count, is_count};
 
 /// The number of cycles that a word spells, 1 to 65,536.
 pub(crate) fn cycles(word: &[u8]) -> Option<u32>

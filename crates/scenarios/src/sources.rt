@@ -11,8 +11,8 @@ use crate::ports::fits;
 use crate::rests::{rest, rest_rule};
 use crate::so_far::SoFar;
 use iface_roles::StreamPort;
-use scenario_lines::{Flags, Words, hexadecimal, is_hexadecimal};
 use scenario_tables::{SourceBeat, SourceStatement};
+use waves::{Flags, Words, hexadecimal, is_hexadecimal};
 
 fn spells_beat(words: &Words) -> bool
     ensures { result ≡ spells_beat words.now }

@@ -21,7 +21,7 @@ use Rattle.stream_runs.specs.Ends.{signal_or}
 use Rattle.mm_runs.specs.Views.{Levels, HostView, AgentView, levels_at}
 use Rattle.mm_runs.specs.Beginnings.{HostsAgree, AgentsAgree}
 use Rattle.memory_plans.specs.Systems.{memory_system}
-use Rattle.mm_path.specs.Shown.{silent_host, silent_agent}
+use Rattle.memory_plans.specs.Shown.{silent_host, silent_agent}
 use Rattle.port_tables.specs.Ports.{EndName, port_name, name_at}
 use Rattle.interconnect.specs.Memory.{level, host_view, agent_view, host_in, agent_in}
 use Rattle.interconnect.specs.Streams.{dropped_signal}

@@ -14,7 +14,7 @@ use Rattle.netlist.specs.Runs.{Run}
 use Rattle.mm_runs.specs.Views.{HostSide, AgentSide}
 use Rattle.memory_sides.specs.Sides.{host_side, agent_side}
 use Rattle.memory_plans.specs.Systems.{memory_system, side_of_host, side_of_agent}
-use Rattle.mm_path.specs.Shown.{silent_host, silent_agent}
+use Rattle.memory_plans.specs.Shown.{silent_host, silent_agent}
 use Rattle.port_tables.specs.Ports.{name_at}
 use Rattle.interconnect.specs.Memory.{host_view, agent_view, host_in, agent_in}
 use Rattle.scenario_tables.specs.Scenarios.{IsHostAt, IsAgentAt}

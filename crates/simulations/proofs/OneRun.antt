@@ -24,7 +24,7 @@ use Rattle.stream_runs.specs.View.{EndView, Beat, AgreeBefore, is_ready_cycle}
 use Rattle.mm_runs.specs.Views.{HostView, levels_at}
 use Rattle.mm_runs.specs.Beginnings.{HostsAgree}
 use Rattle.mm_runs.specs.Moment.{Moment, AgentSees}
-use Rattle.mm_path.specs.Shown.{moment_in, standing_still}
+use Rattle.memory_plans.specs.Shown.{moment_in, standing_still}
 use Rattle.port_tables.specs.EndFacts.{known_is}
 use Rattle.interconnect.specs.Memory.{host_in, agent_in, module_run}
 use Rattle.scenario_tables.specs.declared.statements.SourceStatement.{SourceStatement}

@@ -10,7 +10,7 @@ use Rattle.cycle_sim.specs.Standing.{IsClearedRun, with_cycle}
 use Rattle.port_tables.specs.Ports.{ports_of}
 use Rattle.port_rows.specs.Rows.{IsGivenRow}
 use Rattle.benches.specs.Present.{IsPresent}
-use Rattle.mm_path.specs.Shown.{standing_still}
+use Rattle.memory_plans.specs.Shown.{standing_still}
 
 chosen : {X : Type 0} (b : Bool) (x y : X) → b ≡ true → (if b then x else y) ≡ x
 chosen {X} true x y e = refl

@@ -6,7 +6,7 @@ use Rattle.std.proofs.lemmas.Bool.{eq-eqb, lt-ltb, ltb-true, ne_eqb, and_parts}
 use Rattle.std.proofs.lemmas.List.Folds.{list_all-append}
 use Rattle.waves.specs.Cuts.{line_feed, carriage_return, blank, pieces, without_return, ended, lines}
 use Rattle.waves.specs.CutLaws.{some_piece}
-use Rattle.scenario_lines.specs.Words.{is_printable, is_filled, is_clean, words_of}
+use Rattle.waves.specs.Words.{is_printable, is_filled, is_clean, words_of}
 
 -- printable, and no blank
 abbrev pub is_solid : ℕ → Bool

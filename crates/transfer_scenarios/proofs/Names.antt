@@ -17,7 +17,7 @@ use Rattle.address_map.specs.Maps.{hosts_of}
 use Rattle.link_rules.specs.Plans.{instance_name_at, interface_name_of, interface_name_at}
 use Rattle.map_text.specs.Text.{end_name}
 use Rattle.scenario_tables.specs.Scenarios.{IsHostAt}
-use Rattle.scenario_lines.specs.Words.{is_filled}
+use Rattle.waves.specs.Words.{is_filled}
 use Rattle.scenarios.specs.Interfaces.{as_host, host_at, host_named}
 use Rattle.transfer_scenarios.specs.Stated.{host_name}
 use Rattle.transfer_scenarios.proofs.Cutting.{is_solid, IsWord}

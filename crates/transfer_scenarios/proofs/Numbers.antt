@@ -8,8 +8,8 @@ use Rattle.std.proofs.lemmas.Fmt.{decimal_digit, decimal_step, first_decimal, de
 use Rattle.std.proofs.lemmas.List.Folds.{list_all-append}
 use Rattle.waves.specs.Digits.{is_decimal, is_digit, digit_value, number_behind}
 use Rattle.verilog_writer.specs.Text.{hex_digit, hex_digits}
-use Rattle.scenario_lines.specs.Words.{is_filled}
-use Rattle.scenario_lines.specs.Spelling.{is_hexadecimal, hexadecimal_in, is_count, count_in}
+use Rattle.waves.specs.Words.{is_filled}
+use Rattle.waves.specs.Spelling.{is_hexadecimal, hexadecimal_in, is_count, count_in}
 use Rattle.transfer_scenarios.proofs.Cutting.{is_solid, IsWord}
 
 pub both_pass : (p : ℕ → Bool) (one other : List ℕ) → list_all p one ≡ true → list_all p other ≡ true → list_all p (one ++ other) ≡ true

@@ -11,7 +11,7 @@ use Rattle.system_tables.specs.Tables.{SystemTable}
 use Rattle.scenario_tables.specs.declared.statements.HostStatement.{HostStatement}
 use Rattle.scenario_tables.specs.declared.statements.HostStatement.TheVariants.{Write}
 use Rattle.scenario_tables.specs.Statements.{all_lanes}
-use Rattle.scenario_lines.specs.Spelling.{hexadecimal_in}
+use Rattle.waves.specs.Spelling.{hexadecimal_in}
 use Rattle.scenarios.specs.Hosts.{word_bits}
 use Rattle.packet_bytes.specs.declared.codes.Code.{Code}
 use Rattle.packet_bytes.specs.declared.codes.Code.TheVariants.{WriteFixed, WriteIncrementing, ReadFixed, ReadIncrementing, NoTransaction}

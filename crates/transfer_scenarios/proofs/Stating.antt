@@ -13,10 +13,10 @@ use Rattle.verilog_writer.specs.Text.{hex_digits}
 use Rattle.scenario_tables.specs.declared.statements.HostStatement.{HostStatement}
 use Rattle.scenario_tables.specs.declared.statements.HostStatement.TheVariants.{Write, Read}
 use Rattle.scenario_tables.specs.Statements.{longest_of}
-use Rattle.scenario_lines.specs.declared.keywords.Keyword.TheVariants.{Cycles, Write as Writes, Read as Reads}
-use Rattle.scenario_lines.specs.Keywords.{keyword_in}
-use Rattle.scenario_lines.specs.Words.{is_silent, is_clean, words_of}
-use Rattle.scenario_lines.specs.Spelling.{is_hexadecimal, hexadecimal_in, is_count, count_in}
+use Rattle.waves.specs.declared.keywords.Keyword.TheVariants.{Cycles, Write as Writes, Read as Reads}
+use Rattle.waves.specs.Keywords.{keyword_in}
+use Rattle.waves.specs.Words.{is_silent, is_clean, words_of}
+use Rattle.waves.specs.Spelling.{is_hexadecimal, hexadecimal_in, is_count, count_in}
 use Rattle.scenarios.specs.declared.faults.ScenarioRule.{ScenarioRule}
 use Rattle.scenarios.specs.declared.faults.ScenarioRule.TheVariants.{Characters, Spelling, Ranges, Beginning, Transfers, Limits}
 use Rattle.scenarios.specs.declared.so_far.SoFar.{SoFar}

@@ -1,3 +1,5 @@
 pub mod RowLemmas
 pub mod Reading
 pub mod LawLemmas
+pub mod WordLemmas
+pub mod CountLemmas

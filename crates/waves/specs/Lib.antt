@@ -6,3 +6,6 @@ pub mod Waves
 pub mod Rules
 pub mod CutLaws
 pub mod DigitLaws
+pub mod Words
+pub mod Spelling
+pub mod Keywords

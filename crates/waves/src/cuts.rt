@@ -5,7 +5,7 @@ ghost use Rattle.std.specs.List.{prefix_len};
 ghost use Rattle.waves.specs.Cuts.{without_return, lines, texts, texts_from};
 
 /// How many bytes stand before the first that parts them.
-fn piece_len(bytes: &[u8], parting: u8) -> usize
+pub(crate) fn piece_len(bytes: &[u8], parting: u8) -> usize
     ensures length { result ≡ prefix_len (λ byte. not (byte == parting)) bytes.now }
     ensures within { result ≤ length bytes.now }
 {

@@ -1,4 +1,4 @@
-//! Values as waves files write them.
+//! Hexadecimal digits, and values as waves files write them.
 
 ghost use Rattle.std.specs.Prelude.{◌≡◌, ◌≤◌, ◌<◌, length, true};
 ghost use Rattle.std.specs.List.{list_all};
@@ -20,7 +20,7 @@ pub(crate) fn digit_value(byte: u8) -> u8
     if byte < 58 { byte - 48 } else { byte - 87 }
 }
 
-fn are_digits(text: &[u8]) -> bool
+pub(crate) fn are_digits(text: &[u8]) -> bool
     ensures { result ≡ list_all is_digit text.now }
 {
     'digits: for byte in text {
@@ -31,7 +31,7 @@ fn are_digits(text: &[u8]) -> bool
     true
 }
 
-fn number(text: &[u8]) -> u128
+pub(crate) fn number(text: &[u8]) -> u128
     requires digits { list_all is_digit text.now ≡ true }
     requires short { length text.now ≤ 32 }
     ensures { result ≡ number_behind 16 0 text.now }

@@ -3,7 +3,7 @@ use Rattle.std.proofs.lemmas.List.{length-map}
 use Rattle.link_rules.specs.declared.plan_links.StreamLink.{StreamLink}
 use Rattle.link_rules.specs.Links.{streams_of}
 use Rattle.link_rules.specs.PlanLinks.{stream_links}
-use Rattle.built_links.specs.Wires.{wires_before}
+use Rattle.port_tables.specs.Wires.{wires_before}
 use Rattle.interconnect.specs.Joins.{with_lows, AreLows}
 use Rattle.interconnect.proofs.StreamEnds.{link_at}
 use Rattle.interconnect.proofs.LowNets.{low_room, low_more}

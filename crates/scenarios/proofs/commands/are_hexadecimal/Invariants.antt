@@ -1,6 +1,6 @@
 use Rattle.std.proofs.Common.{◌≡◌, length}
 use Rattle.std.specs.List.{list_all}
-use Rattle.scenario_lines.specs.Spelling.{is_hexadecimal}
+use Rattle.waves.specs.Spelling.{is_hexadecimal}
 use Rattle.scenarios.proofs.commands.are_hexadecimal.Given as goal
 
 abbrev pub invariant-words : goal.invariant-words

@@ -1,6 +1,6 @@
 use Rattle.std.proofs.Common.{◌≡◌, length, true}
 use Rattle.std.specs.List.{list_all}
-use Rattle.scenario_lines.specs.Spelling.{is_hexadecimal}
+use Rattle.waves.specs.Spelling.{is_hexadecimal}
 use Rattle.scenarios.specs.Hosts.{fits_word}
 use Rattle.scenarios.proofs.commands.are_words.Given as goal
 

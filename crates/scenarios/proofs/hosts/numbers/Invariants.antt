@@ -1,6 +1,6 @@
 use Rattle.std.proofs.Common.{◌≡◌, ◌++◌, length, map, true}
 use Rattle.std.specs.List.{list_all}
-use Rattle.scenario_lines.specs.Spelling.{is_hexadecimal, hexadecimal_in}
+use Rattle.waves.specs.Spelling.{is_hexadecimal, hexadecimal_in}
 use Rattle.scenarios.proofs.hosts.numbers.Given as goal
 
 abbrev pub invariant-words : goal.invariant-words

@@ -1,5 +1,5 @@
 use Rattle.std.proofs.Common.{arith, ap, ◌∙◌}
-use Rattle.scenario_lines.specs.Spelling.{hexadecimal_in}
+use Rattle.waves.specs.Spelling.{hexadecimal_in}
 use Rattle.scenarios.proofs.PortLemmas.{enables_small}
 use Rattle.scenarios.proofs.hosts.write_of.Goals as goal
 

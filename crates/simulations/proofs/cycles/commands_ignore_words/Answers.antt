@@ -1,7 +1,7 @@
 use Rattle.std.proofs.Common.{◌≡◌, ℕ, ◌<◌, length, refl, sym, ap, subst, ◌∙◌}
 use Rattle.netlist.specs.Runs.{Cycle, SameState}
 use Rattle.mm_runs.specs.Moment.{Moment, AgentSees}
-use Rattle.mm_path.specs.Shown.{moment_in, standing_still}
+use Rattle.memory_plans.specs.Shown.{moment_in, standing_still}
 use Rattle.interconnect.specs.Memory.{module_run}
 use Rattle.cycle_sim.specs.Sims.{present}
 use Rattle.simulations.proofs.Beside.{has, inside}

@@ -1,9 +1,0 @@
-use Rattle.mm_path.proofs.Ends.{a_host, an_agent, ends_of}
-use Rattle.mm_path.proofs.laws.plans_have_their_ends.Goals as goal
-
-pub returns : goal.returns
-returns c = record {
-  hosts = λ plan is. a_host plan (c.ends_are_known.ensures.hosts plan.system is.system) c.proper_records_are_bounded.ensures.host;
-  agents = λ plan is. an_agent plan (c.ends_are_known.ensures.agents plan.system is.system) c.proper_records_are_bounded.ensures.agent;
-  links = λ plan is. ends_of plan (c.memory_links_are_numbered.ensures.links plan.system is.system);
-}

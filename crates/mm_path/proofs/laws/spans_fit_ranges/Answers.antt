@@ -1,5 +1,0 @@
-use Rattle.mm_path.proofs.Hosts.{spans_end}
-use Rattle.mm_path.proofs.laws.spans_fit_ranges.Goals as goal
-
-pub returns : goal.returns
-returns c = λ plan is k link at. spans_end plan is (c.memory_links_are_numbered.ensures.links plan.system is.system) k link at

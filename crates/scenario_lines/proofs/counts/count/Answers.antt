@@ -1,5 +1,0 @@
-use Rattle.scenario_lines.proofs.CountLemmas.{too_large}
-use Rattle.scenario_lines.proofs.counts.count.Goals as goal
-
-pub returns-then-text-gt5 : goal.returns-then-text-gt5
-returns-then-text-gt5 c = too_large c.args.text.now c.args.greatest c.if-text-gt5.true c.requires.spelled c.requires.small

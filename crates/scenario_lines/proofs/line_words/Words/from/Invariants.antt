@@ -1,5 +1,0 @@
-use Rattle.std.proofs.Common.{◌≡◌, drop}
-use Rattle.scenario_lines.proofs.line_words.Words.from.Given as goal
-
-abbrev pub invariant-skipped : goal.invariant-skipped
-invariant-skipped l = l.words ≡ drop l.counter l.self

@@ -1,3 +1,0 @@
-mod Agents
-mod Hosts
-mod Streams
