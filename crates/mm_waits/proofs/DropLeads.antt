@@ -318,10 +318,7 @@ module _ (target : Target) (room : ℕ) (top up down : Port) (state : DropState)
                   omega (arith, all, grow)
               by_kept true e h = let less = passed.1 in sent_next target room up down state end plan runs legal owed apart passed.0 (omega (arith, less, fit)) h
 
-  abbrev pub dropped_left : ℕ → ℕ
-  dropped_left c = value c
-
-  abbrev pub dropped_still : ℕ → ℕ → ℕ
+  abbrev dropped_still : ℕ → ℕ → ℕ
   dropped_still s c = if is_sent s c then 0 else if since drained s c then kept_value c else value c + (2 * longest + 1)
 
   when_sent : (s c : ℕ) → is_sent s c ≡ true → dropped_still s c ≡ 0
@@ -355,7 +352,7 @@ module _ (target : Target) (room : ℕ) (top up down : Port) (state : DropState)
       by_since true e = let is = when_kept s (suc c) unsent e in let few = few_kept (suc c) (omega (arith, fit)) in omega (arith, is, few)
       by_since false e = let is = when_held s (suc c) unsent e in omega (arith, is)
 
-  pub drop_leads : LeadsBy target top down waits dropped_left dropped_still (2 * most + 2 * longest + 3) end
+  pub drop_leads : LeadsBy target top down waits value dropped_still (2 * most + 2 * longest + 3) end
   drop_leads = record {
     few = λ c fit. (let few = few_value c fit in omega (arith, few));
     stays = λ c fit none. stays_value c fit none (takes up c) refl;

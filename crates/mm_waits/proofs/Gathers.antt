@@ -1,5 +1,5 @@
 -- What gathers reads: a read is held back while many are under way, and while no word is owed below their words are given out one by one.
-use Rattle.std.proofs.Common.{◌≡◌, ℕ, zero, suc, ◌+◌, ◌*◌, ◌<◌, ◌≤◌, Bool, true, false, not, ◌&&◌, ◌||◌, length, if◌then◌else◌, arith, refl, sym, ap, ◌∙◌, IsTrue, IsFalse}
+use Rattle.std.proofs.Common.{◌≡◌, ℕ, zero, suc, ◌+◌, ◌*◌, ◌<◌, ◌≤◌, Bool, true, false, not, ◌||◌, length, if◌then◌else◌, arith, refl, sym, ap, ◌∙◌, IsTrue, IsFalse}
 use Rattle.histories.specs.History.{is_raised}
 use Rattle.mm_runs.specs.Commands.{shows}
 use Rattle.mm_machines.specs.Link.{Target, Port, AreLegalAt, takes, taken_at, marked_at, closes, is_last_joined, words_at, words_owed}

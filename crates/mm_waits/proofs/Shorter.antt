@@ -33,7 +33,6 @@ shorter_arbiter system agent up down end less h part = record {
   in_order = λ c fit. part.in_order c (omega (arith, fit, h));
 }
 
--- and what takes few steps takes no more than so many times as many
 pub shorter_steps : (port : Port) (good : ℕ → Bool) (longest : ℕ) (rest : ℕ → ℕ) (end less : ℕ) → less ≤ end → HasStepsLeft port good longest rest end → HasStepsLeft port good longest rest less
 shorter_steps port good longest rest end less h has = record {
   some = λ c fit. has.some c (omega (arith, fit, h));
@@ -52,12 +51,3 @@ at_least n m h = grows n
     grows : (n : ℕ) → n ≤ n * m
     grows zero = omega arith
     grows (suc n) = let more = grows n in let all : suc n * m ≡ n * m + m = omega arith in omega (arith, more, all, h)
-
-pub more_steps : (port : Port) (good : ℕ → Bool) (longest many : ℕ) (rest : ℕ → ℕ) (end : ℕ) → 1 ≤ many → HasStepsLeft port good longest rest end → HasStepsLeft port good (longest * many) rest end
-more_steps port good longest many rest end some has = record {
-  some = has.some;
-  few = λ c fit. (let few = has.few c fit in let times = at_least longest many some in omega (arith, few, times));
-  fewer = has.fewer;
-  stays = has.stays;
-  gaps = has.gaps;
-}

@@ -3,8 +3,6 @@ use Rattle.std.specs.Prelude.{ℕ, ◌+◌, ◌*◌, max}
 use Rattle.mm_runs.specs.Views.{System}
 use Rattle.mm_runs.specs.Operations.{pieces}
 use Rattle.mm_runs.specs.Onward.{longest_of}
-use Rattle.mm_awake.specs.Onward.{round_by}
-use Rattle.mm_waits.specs.Waits.{waits_quietly}
 
 -- at an agent's words: for each beat its pieces, and the cycles in which the words of a wide one are given out
 abbrev pub fitted_steps : System → ℕ → ℕ → ℕ
@@ -14,7 +12,3 @@ fitted_steps system agent host =
 -- and where beats without a lane are dropped, a cycle without one for each beat, and two more
 abbrev pub row_steps : System → ℕ → ℕ → ℕ
 row_steps system agent host = 2 * fitted_steps system agent host + 2
-
--- of a host whose bursts are cut beside hosts behind any links
-abbrev pub row_window : System → ℕ → ℕ → ℕ
-row_window system agent host = waits_quietly (longest_of system host) (round_by (row_steps system agent) system agent host) system agent

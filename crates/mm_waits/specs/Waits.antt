@@ -1,17 +1,13 @@
 -- How long a command may wait behind a pipe of stages, and for its words.
-use Rattle.std.specs.Prelude.{ℕ, zero, suc, ◌+◌, ◌*◌, ◌<◌, ◌≤◌, ◌≡◌, Bool, not, ◌&&◌, max, List, length, IsFalse, IsTrue}
+use Rattle.std.specs.Prelude.{ℕ, zero, suc, ◌+◌, ◌*◌, ◌<◌, ◌≤◌, ◌≡◌, Bool, not, ◌&&◌, length, IsFalse, IsTrue}
 use Rattle.mm_runs.specs.Views.{System, Run}
 use Rattle.mm_runs.specs.Awake.{owes, longest_wait}
 use Rattle.histories.specs.History.{is_raised}
 use Rattle.mm_runs.specs.Commands.{shows}
 use Rattle.mm_machines.specs.Link.{Target, Port, takes, taken_at, operations_among, words_at, words_owed}
 use Rattle.mm_parts.specs.Steps.{is_gone}
-use Rattle.mm_links.specs.Selects.{IsSelectPlan, RunsAsSelect}
-use Rattle.mm_links.specs.Splits.{SplitState, RunsAsSplit}
-use Rattle.mm_runs.specs.Operations.{pieces}
-use Rattle.mm_awake.specs.Wires.{IsWire}
 use Rattle.mm_runs.specs.Onward.{longest_of}
-use Rattle.mm_awake.specs.Onward.{standing_by, round_of_others, round_by, is_good}
+use Rattle.mm_awake.specs.Onward.{standing_by, round_of_others, is_good}
 
 -- where an agent owes nothing by the end of a cycle, all words that were asked above its part by then have come by the end of the next one
 abbrev pub WordsComeSoon : System → Run → ℕ → Port → ℕ → Type 0
@@ -66,20 +62,3 @@ word_time system agent = agent_pipe_time system agent + system.stages + 3
 -- each beat of the others may bring its words, while which a link may hold another back
 abbrev pub standing_quietly : ℕ → System → ℕ → ℕ
 standing_quietly round system agent = standing_by round system agent + word_time system agent * (round + 1)
-
-abbrev pub waits_quietly : ℕ → ℕ → System → ℕ → ℕ
-waits_quietly most round system agent = (2 * most + 1) * (standing_quietly round system agent + 1) + 2 * agent_pipe_time system agent + system.stages + 6
-
--- the beats to which a burst comes at an agent's words
-abbrev pub steps_of : System → ℕ → ℕ → ℕ
-steps_of system agent host = longest_of system host * max 1 (pieces (system.host host).shape (system.agent agent).shape)
-
--- of a host whose bursts are cut beside hosts of narrower and wider words
-abbrev pub fitted_window : System → ℕ → ℕ → ℕ
-fitted_window system agent host = waits_quietly (longest_of system host) (round_by (steps_of system agent) system agent host) system agent
-
--- a lane selector, a splitter, or a wire
-pub data SelectsOrSplits (target : Target) (up down : Port) : Type 0 where
-  selects : (many room : ℕ) (offsets : ℕ → List ℕ) → IsSelectPlan target up.shape down.shape many → 1 < room → RunsAsSelect room up down offsets → SelectsOrSplits target up down
-  splits : (room : ℕ) (state : SplitState) → 0 < room → RunsAsSplit room up down state → SelectsOrSplits target up down
-  fits : IsWire up down → SelectsOrSplits target up down

@@ -5,7 +5,7 @@ use Rattle.mm_awake.specs.Onward.{round_by}
 use Rattle.mm_waits.specs.Neighbours.{fitted_steps, row_steps}
 use Rattle.mm_waits.specs.Watched.{waits_for_words}
 
--- what is still to be taken at the agent's words, twice where a beat of it may be kept behind them, and as much again until that one is sent
+-- those of its own beats at the agent's words, twice where one of them may be kept behind, and as many again until that one is sent
 abbrev pub own_steps : System → ℕ → ℕ → ℕ
 own_steps system agent host = 4 * fitted_steps system agent host + 3
 

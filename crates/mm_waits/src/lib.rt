@@ -1,12 +1,11 @@
-//! No host hangs beside its neighbours, behind a pipe of stages and at any agent: a wanted command moves on itself.
+//! No host hangs, at any agent and behind any links and stages: a wanted command moves on itself.
 #![tactic(auto)]
 
 pub mod hosts;
 pub mod neighbours;
 pub mod prompt;
-pub mod watched;
 
-ghost use Rattle.std.specs.Prelude.{◌≡◌, ℕ, Bool, suc, ◌+◌, ◌<◌, ◌≤◌, IsTrue};
+ghost use Rattle.std.specs.Prelude.{ℕ, ◌+◌, ◌<◌, IsTrue};
 ghost use Rattle.mm_runs.specs.Views.{System, Run, Responses};
 ghost use Rattle.mm_runs.specs.Whole.{IsLegalRun};
 ghost use Rattle.mm_runs.specs.Order.{is_joined};
@@ -19,11 +18,11 @@ ghost use Rattle.mm_awake.specs.Wires.{IsWire};
 ghost use Rattle.mm_awake.specs.Theorem.{Boundaries, States, LinkRanks, ArePlanned, AreMachines, IsBuilt};
 ghost use Rattle.mm_awake.specs.RowSystem.{RowPorts, AreRows, boundaries_of};
 ghost use Rattle.mm_runs.specs.Onward.{MovesWithin, NoHostHangs};
-ghost use Rattle.mm_awake.specs.Onward.{round_by, round_of_others, is_good};
+ghost use Rattle.mm_awake.specs.Onward.{round_by, is_good};
 ghost use Rattle.mm_awake.specs.Steps.{HasStepsLeft};
 ghost use Rattle.mm_machines.specs.Lines.{target_of};
 ghost use Rattle.mm_waits.specs.Watched.{LeadsBy, may_wait, waits_for_words};
-ghost use Rattle.mm_waits.specs.Waits.{WordsComeSoon, LeadsDown, waits_by, waits_quietly, waiting_window, cut_window, fitted_window, is_quiet, SelectsOrSplits};
+ghost use Rattle.mm_waits.specs.Waits.{WordsComeSoon, LeadsDown, waits_by, waiting_window, cut_window, is_quiet};
 
 /// Where an agent, with readdatavalid or at any fixed latency, owes nothing by the end of a cycle, all words that were asked above the part next to it have come by the end of the next one.
 pub fn words_come_soon()
@@ -35,7 +34,7 @@ pub fn words_come_soon()
     mm_awake::hosts::words_go_up()
 }
 
-/// In a system of machines, a host whose beats are shown before an agent's arbiter at once doesn't hang, for any agent and any number of stages, whatever links its neighbours have, as long as the commands of each of these come to few steps there: in good cycles, or at least in those in which no word is owed behind the arbiter. Nor does one whose beats may wait for its words there.
+/// In a system of machines, a host whose beats are shown before an agent's arbiter at once doesn't hang, for any agent and any number of stages, whatever links its neighbours have, as long as the commands of each of these come to few steps there in good cycles. Nor does one whose beats may wait for its words there, beside neighbours of which this holds in those good cycles in which no word is owed behind the arbiter.
 pub fn hosts_beside_links_move()
     ensures good { (responses : Responses) (system : System) (run : Run) (inside : Boundaries) (states : States) (ranks : LinkRanks) (end agent host most : ℕ) (held : ℕ → ℕ) (steps : ℕ → ℕ) (rest : ℕ → ℕ → ℕ)
         → IsBuilt responses system run inside states ranks (end + 2) → IsLegalRun system run (end + 2) → agent < system.agents
@@ -43,12 +42,6 @@ pub fn hosts_beside_links_move()
         → ((other : ℕ) → HasStepsLeft (inside.upper other agent 0) (is_good system run agent) (steps other) (rest other) (end + 2))
         → IsTrue (is_joined system agent host) → host < system.hosts
         → MovesWithin (waits_by most (round_by steps system agent host) system agent) system run agent host end }
-    ensures quiet { (responses : Responses) (system : System) (run : Run) (inside : Boundaries) (states : States) (ranks : LinkRanks) (end agent host most : ℕ) (held : ℕ → ℕ) (steps : ℕ → ℕ) (rest : ℕ → ℕ → ℕ)
-        → IsBuilt responses system run inside states ranks (end + 2) → IsLegalRun system run (end + 2) → agent < system.agents
-        → LeadsDown (target_of system agent) (inside.upper host agent (inside.links host agent)) (inside.upper host agent 0) held most (end + 2)
-        → ((other : ℕ) → HasStepsLeft (inside.upper other agent 0) (is_quiet system run agent (inside.lower agent system.stages).port) (steps other) (rest other) (end + 1))
-        → IsTrue (is_joined system agent host) → host < system.hosts
-        → MovesWithin (waits_quietly most (round_by steps system agent host) system agent) system run agent host end }
     ensures words { (responses : Responses) (system : System) (run : Run) (inside : Boundaries) (states : States) (ranks : LinkRanks) (end agent host most : ℕ) (left : ℕ → ℕ) (still : ℕ → ℕ → ℕ) (steps : ℕ → ℕ) (rest : ℕ → ℕ → ℕ)
         → IsBuilt responses system run inside states ranks (end + 2) → IsLegalRun system run (end + 2) → agent < system.agents
         → LeadsBy (target_of system agent) (inside.upper host agent (inside.links host agent)) (inside.upper host agent 0) (may_wait system run agent (inside.upper host agent 0)) left still most (end + 1)
@@ -106,21 +99,6 @@ pub fn no_cut_host_hangs()
         → NoHostHangs (cut_window system) system run end }
 {
     cut_hosts_move();
-    mm_awake::rows::machines_with_links_are_built()
-}
-
-/// And beside hosts of narrower and wider words too, whose beats a lane selector or a splitter makes those of the agent, no host hangs whose bursts alone are cut.
-pub fn hosts_beside_fitted_ones_move()
-    ensures { (responses : Responses) (system : System) (run : Run) (ports : RowPorts) (states : States) (end agent host : ℕ)
-        → ArePlanned system (boundaries_of ports) states → AreMachines responses system run (boundaries_of ports) states (end + 2) → AreRows system run ports (end + 2) → IsLegalRun system run (end + 2) → agent < system.agents
-        → ((other : ℕ) → IsTrue (is_joined system agent other) → SelectsOrSplits (target_of system agent) (ports.below_cutter other agent) (ports.above_dropper other agent))
-        → ((other : ℕ) → IsTrue (is_joined system agent other) → IsWire (ports.above_dropper other agent) (ports.before_arbiter other agent))
-        → IsWire (ports.below_cutter host agent) (ports.before_arbiter host agent) → IsTrue (is_joined system agent host) → host < system.hosts
-        → MovesWithin (fitted_window system agent host) system run agent host end }
-{
-    hosts_beside_links_move();
-    crate::watched::fitted_hosts_take_few_steps();
-    mm_awake::hosts::routes_take_few_steps();
     mm_awake::rows::machines_with_links_are_built()
 }
 

@@ -1,6 +1,6 @@
-//! No host hangs beside neighbours whose beats are dropped before the arbiter, and whose reads are gathered.
+//! How many steps a command comes to behind the links of its row.
 
-ghost use Rattle.std.specs.Prelude.{◌≡◌, ℕ, suc, ◌+◌, ◌*◌, ◌<◌, ◌≤◌, not, Bool, ◌&&◌, false, IsTrue, IsFalse};
+ghost use Rattle.std.specs.Prelude.{◌≡◌, ℕ, ◌+◌, ◌*◌, ◌<◌, ◌≤◌, not, Bool, ◌&&◌, false, IsTrue, IsFalse};
 ghost use Rattle.mm_runs.specs.Views.{System, Run, Responses};
 ghost use Rattle.mm_runs.specs.Whole.{IsLegalRun};
 ghost use Rattle.mm_runs.specs.Order.{is_joined};
@@ -12,12 +12,10 @@ ghost use Rattle.histories.specs.History.{is_raised};
 ghost use Rattle.mm_links.specs.Gathers.{GatherState, RunsAsGather};
 ghost use Rattle.mm_links.specs.Drops.{DropState, RunsAsDrop, IsDropPlan};
 ghost use Rattle.mm_awake.specs.Steps.{HasStepsLeft};
-ghost use Rattle.mm_awake.specs.Wires.{IsWire};
 ghost use Rattle.mm_awake.specs.Theorem.{States, ArePlanned, AreMachines};
 ghost use Rattle.mm_awake.specs.RowSystem.{RowPorts, AreRows, boundaries_of};
-ghost use Rattle.mm_runs.specs.Onward.{MovesWithin};
 ghost use Rattle.mm_waits.specs.Waits.{is_quiet};
-ghost use Rattle.mm_waits.specs.Neighbours.{fitted_steps, row_steps, row_window};
+ghost use Rattle.mm_waits.specs.Neighbours.{fitted_steps, row_steps};
 
 /// Where beats without a lane are dropped a command comes to at most two steps for each of its own and two more: one beat is kept, and a word that it owes by itself may hold back what stands above.
 /// While no word is owed below, none is owed above but such a one.
@@ -70,18 +68,5 @@ pub fn rows_take_few_steps()
     mm_links::drops::drop_owes_its_words();
     droppers_take_few_steps();
     fitted_rows_take_few_steps();
-    mm_awake::rows::machines_with_links_are_built()
-}
-
-/// Beside such neighbours no host hangs whose bursts alone are cut, or which is wired: at any agent, and behind any number of stages.
-pub fn hosts_beside_rows_move()
-    ensures { (responses : Responses) (system : System) (run : Run) (ports : RowPorts) (states : States) (end agent host : ℕ)
-        → ArePlanned system (boundaries_of ports) states → AreMachines responses system run (boundaries_of ports) states (end + 2) → AreRows system run ports (end + 2) → IsLegalRun system run (end + 2) → agent < system.agents
-        → IsWire (ports.below_cutter host agent) (ports.before_arbiter host agent) → IsTrue (is_joined system agent host) → host < system.hosts
-        → MovesWithin (row_window system agent host) system run agent host end }
-{
-    crate::hosts_beside_links_move();
-    mm_awake::hosts::routes_take_few_steps();
-    rows_take_few_steps();
     mm_awake::rows::machines_with_links_are_built()
 }

@@ -19,7 +19,7 @@ use Rattle.mm_awake.specs.Steps.{HasStepsLeft, WaitsItsTurn}
 use Rattle.mm_awake.specs.Theorem.{Boundaries, States, LinkRanks, IsBuilt, approach_of}
 use Rattle.mm_awake.specs.Ways.{count_in}
 use Rattle.mm_waits.specs.Watched.{LeadsBy, may_wait, stands_or_owes, waits_for_words}
-use Rattle.mm_waits.specs.Waits.{agent_pipe_time, waits_by, waits_quietly, standing_quietly, word_time, is_quiet}
+use Rattle.mm_waits.specs.Waits.{agent_pipe_time, waits_by, standing_quietly, word_time, is_quiet}
 use Rattle.mm_waits.proofs.Bits.{no_both, no_true, none_taken, some_or_none}
 use Rattle.mm_waits.proofs.Flush.{pipe_flushes, pipe_words, shorter_front}
 use Rattle.mm_waits.proofs.Cuts.{times_more}
@@ -295,24 +295,6 @@ returns-clause-good c = λ responses system run inside states ranks end agent ho
           (flushes d responses system run inside states ranks (end + 2) agent built legal there from (from + size) (omega (arith, fits)) good)
           (standing_by (round_by steps system agent host) system agent)
           (λ start n first few waits. few_cycles d responses system run inside states ranks (end + 2) agent built legal there steps rest have host joined low start n (omega (arith, few, fits)) (λ k low high. good k (omega (arith, first, low)) (omega (arith, few, high))) (turn_waits (λ h. inside.upper h agent 0) host start n waits))
-          (omega arith))
-    ]
-
-pub returns-clause-quiet : goal.returns-clause-quiet
-returns-clause-quiet c = λ responses system run inside states ranks end agent host most held steps rest built legal there leads have joined low from number fits wanted.
-    let size = waits_quietly most (round_by steps system agent host) system agent in
-    let good : (k : ℕ) → from ≤ k → k < from + size → IsTrue (is_good system run agent k) = λ k first last. all_so _ _ _ (wanted k first last).bursts (wanted k first last).ready (wanted k first last).answered in
-    elim (some_or_none (λ j. moves_on system run agent host number (from + j)) size) [
-      | inl found ↦ (from + found.0, omega arith, omega (arith, found.1), found.2)
-      | inr none ↦
-          let d = (goal.at.returns-clause-quiet c).After-agent_machine_is_a_part in
-          absurd (never_stuck system run agent host (end + 2) (inside.upper host agent (inside.links host agent)) (λ h. inside.upper h agent 0) (inside.lower agent system.stages) (inside.lower agent 0) (stands_there (inside.upper host agent 0)) held (held_still (target_of system agent) (inside.upper host agent (inside.links host agent)) (inside.upper host agent 0) held most (end + 2) leads) most (agent_pipe_time system agent) system.stages
-          (between d responses system run inside states ranks (end + 2) agent built legal there host (stands_there (inside.upper host agent 0)) held (held_still (target_of system agent) (inside.upper host agent (inside.links host agent)) (inside.upper host agent 0) held most (end + 2) leads) most low (shorter_lead (end + 2) (end + 2 - 1) (omega arith) (leads_at_once (target_of system agent) (inside.upper host agent (inside.links host agent)) (inside.upper host agent 0) held most (end + 2) leads)))
-          from size number (omega (arith, fits)) wanted
-          (λ k first last. (let same : from + (k - from) ≡ k = omega (arith, first) in subst (λ x. IsFalse (moves_on system run agent host number x)) same (none (k - from) (omega (arith, first, last)))))
-          (flushes d responses system run inside states ranks (end + 2) agent built legal there from (from + size) (omega (arith, fits)) good)
-          (standing_quietly (round_by steps system agent host) system agent)
-          (λ start n first few waits. few_quiet_cycles d responses system run inside states ranks (end + 2) agent built legal there (end + 1) (omega arith) steps rest have host joined low (stands_there (inside.upper host agent 0)) held (held_still (target_of system agent) (inside.upper host agent (inside.links host agent)) (inside.upper host agent 0) held most (end + 2) leads) most (shorter_lead (end + 2) (end + 2 - 1) (omega arith) (leads_at_once (target_of system agent) (inside.upper host agent (inside.links host agent)) (inside.upper host agent 0) held most (end + 2) leads)) start n (omega (arith, few, fits)) (λ k low high. good k (omega (arith, first, low)) (omega (arith, few, high))) (turn_waits (λ h. inside.upper h agent 0) host start n waits))
           (omega arith))
     ]
 
