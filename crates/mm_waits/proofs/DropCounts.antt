@@ -1,34 +1,26 @@
 -- What drops beats without a lane hands on: the operations of all beats but a kept one, and the words of all reads but one that came just now.
-use Rattle.std.proofs.Common.{◌≡◌, ℕ, zero, suc, ◌+◌, ◌-◌, ◌*◌, ◌<◌, ◌≤◌, Bool, true, false, not, ◌&&◌, ◌||◌, List, [], ◌∷◌, ◌++◌, length, map, filter, flat_map, nat_eq, nat_lt, min, ◌/◌, if◌then◌else◌, arith, refl, sym, ap, ap₂, ◌∙◌, subst, zero-mul, append-nil, IsTrue, IsFalse}
+use Rattle.std.proofs.Common.{◌≡◌, ℕ, zero, suc, ◌+◌, ◌-◌, ◌*◌, ◌<◌, ◌≤◌, Bool, true, false, not, ◌&&◌, ◌||◌, List, [], ◌∷◌, ◌++◌, length, map, nat_eq, nat_lt, if◌then◌else◌, arith, refl, sym, ap, ap₂, ◌∙◌, subst, append-nil, IsTrue, IsFalse}
 use Rattle.std.specs.List.{list_any}
 use Rattle.std.proofs.lemmas.Bool.{and_parts}
 use Rattle.std.proofs.lemmas.List.{length-map}
 use Rattle.histories.specs.History.{is_raised, one_if, numbers}
 use Rattle.mm_runs.specs.Views.{Shape, Levels, levels_at}
 use Rattle.mm_runs.specs.Views.Kind.{Writes}
-use Rattle.mm_runs.specs.Laws.{same_pieces}
-use Rattle.mm_runs.specs.Operations.{Beat, filled_lanes, filled_of_piece, operation_at, is_enabled, pieces}
+use Rattle.mm_runs.specs.Operations.{Beat, filled_lanes, operation_at, is_enabled}
 use Rattle.mm_runs.specs.Commands.{Burst, shows, burst_before, byte_address, read_beat}
 use Rattle.mm_machines.specs.Link.{Target, Port, AreLegalAt, AnswersAreOwed, takes, taken_at, marked_at, is_nonempty, operations_among, operations_in, words_at, words_owed}
 use Rattle.mm_machines.specs.Machines.{Raw, raw_at}
 use Rattle.mm_links.specs.Drops.{DropState, RunsAsDrop, IsDropPlan, any_lane, sends, accepted, keeps, standing_at, sent_beat}
 use Rattle.mm_waits.proofs.Bits.{no_true, takes_shows, none_taken, one_taken, numbers_length}
-use Rattle.mm_waits.proofs.Drops.{now, kept_then, one_read, one_read_below, owed_are}
+use Rattle.mm_waits.proofs.Drops.{filled_are, now, kept_then, one_read, one_read_below, owed_are, words_above}
 use Rattle.mm_waits.proofs.Rows.{words_by}
 use Rattle.mm_waits.proofs.Taken.{more_operations}
 
 -- ---- a beat with a lane has as many operations as a word has bytes, another none
 
 lane_count : (target lower : Shape) (enables : ℕ) → 0 < lower.word_bytes → target.word_bytes ≡ lower.word_bytes → target.has_enables ≡ false → length (filled_lanes lower target enables) ≡ lower.word_bytes * one_if (any_lane lower enables)
-lane_count target lower enables some same none =
-    let one : pieces lower target ≡ 1 = ap (λ n. lower.word_bytes / min lower.word_bytes n) same ∙ same_pieces lower some in
-    let start = zero-mul (min lower.word_bytes target.word_bytes) in
-    let size : min lower.word_bytes target.word_bytes ≡ lower.word_bytes = omega arith in
-    ap (λ n. length (flat_map (filled_of_piece lower target enables) (numbers 0 n))) one ∙ ap₂ (λ from n. body target.has_enables from n) start size ∙ ap (λ h. body h 0 lower.word_bytes) none ∙ by_any (any_lane lower enables) lower.word_bytes
+lane_count target lower enables some same none = ap (λ (l : List ℕ). length l) (filled_are target lower enables some same none) ∙ by_any (any_lane lower enables) lower.word_bytes
   where
-    body : Bool → ℕ → ℕ → ℕ
-    body h from n = length ((if h then filter (is_enabled enables) (numbers from n) else if list_any (is_enabled enables) (numbers from n) then numbers from n else []) ++ [])
-
     by_any : (b : Bool) (n : ℕ) → length ((if b then numbers 0 n else []) ++ []) ≡ n * one_if b
     by_any true n = ap length (append-nil (numbers 0 n)) ∙ numbers_length 0 n ∙ omega arith
     by_any false n = omega arith
@@ -207,18 +199,6 @@ module _ (target : Target) (room : ℕ) (up down : Port) (state : DropState) (en
 
   -- ---- words
 
-  words_above : (c : ℕ) → c < end → length (words_at up (suc c)) + length (words_at down c) ≡ length (words_at up c) + length (words_at down (suc c)) + one_if (state.own c)
-  words_above c fit =
-      let high = words_by up c in
-      let low = words_by down c in
-      let valid : one_if (is_raised (up.answers.valid c)) ≡ one_if (state.own c) + one_if (is_raised (down.answers.valid c)) = ap one_if (runs.valid c) ∙ by_own (state.own c) (is_raised (down.answers.valid c)) (apart c fit) in
-      omega (arith, high, low, valid)
-    where
-      by_own : (o v : Bool) → (o ≡ true → v ≡ false) → one_if (o || v) ≡ one_if o + one_if v
-      by_own true true f = let e = f refl in absurd cc
-      by_own true false f = refl
-      by_own false v f = omega arith
-
   -- the word of a read of its own comes in the next cycle
   pub words_come : (c d : ℕ) → c < d → d ≤ end → words_owed down c ≤ length (words_at down d) → words_owed up c ≤ length (words_at up d)
   words_come c d later fit all =
@@ -230,11 +210,11 @@ module _ (target : Target) (room : ℕ) (up down : Port) (state : DropState) (en
       come_on : (n : ℕ) → suc (c + n) ≤ end → length (words_at up c) + length (words_at down (suc (c + n))) + one_if (state.own c) ≤ length (words_at up (suc (c + n))) + length (words_at down c)
       come_on zero fit =
           let same : c + 0 ≡ c = omega arith in
-          let one = words_above c (omega (arith, fit)) in
+          let one = words_above target room up down state end plan runs legal owed apart c (omega (arith, fit)) in
           subst (λ k. length (words_at up c) + length (words_at down (suc k)) + one_if (state.own c) ≤ length (words_at up (suc k)) + length (words_at down c)) (sym same) (omega (arith, one))
       come_on (suc n) fit =
           let more = come_on n (omega (arith, fit)) in
-          let one = words_above (suc (c + n)) (omega (arith, fit)) in
+          let one = words_above target room up down state end plan runs legal owed apart (suc (c + n)) (omega (arith, fit)) in
           let low = words_by down (suc (c + n)) in
           let same : suc (c + suc n) ≡ suc (suc (c + n)) = omega arith in
           subst (λ k. length (words_at up c) + length (words_at down k) + one_if (state.own c) ≤ length (words_at up k) + length (words_at down c)) (sym same) (omega (arith, more, one, low))

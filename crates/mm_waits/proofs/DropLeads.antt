@@ -3,7 +3,7 @@ use Rattle.std.proofs.Common.{◌≡◌, ℕ, suc, ◌+◌, ◌*◌, ◌<◌, �
 use Rattle.std.proofs.lemmas.Bool.{and_parts, or_left, or_right}
 use Rattle.histories.specs.History.{is_raised, one_if}
 use Rattle.mm_runs.specs.Commands.{shows}
-use Rattle.mm_machines.specs.Link.{Target, Port, AreLegalAt, AnswersAreOwed, takes, taken_at, marked_at, is_nonempty, operations_among, words_at, words_owed}
+use Rattle.mm_machines.specs.Link.{Target, Port, AreLegalAt, AnswersAreOwed, takes, taken_at, marked_at, is_nonempty, operations_among}
 use Rattle.mm_parts.specs.Steps.{is_gone}
 use Rattle.mm_links.specs.Drops.{DropState, RunsAsDrop, IsDropPlan, any_lane, sends, accepted, keeps, owes_itself, standing_at}
 use Rattle.mm_awake.specs.Steps.{HasStepsLeft}
@@ -11,7 +11,7 @@ use Rattle.mm_waits.specs.Watched.{LeadsBy, stands_or_owes}
 use Rattle.mm_waits.proofs.Bits.{no_true, no_both, both, not_by, any_of, found_below, takes_shows}
 use Rattle.mm_waits.proofs.DropCounts.{all_sent, sent_next, words_come}
 use Rattle.mm_waits.proofs.Drops.{IsKeptNow, IsPassed, IsGone, now, goes_in, kept_then, none_kept, none_own, swallows_at, kept_open, none_read, none_gone_above}
-use Rattle.mm_waits.proofs.Leads.{Drains, operations_grow, owed_grows, since, since_found, not_since, waits_to_drain}
+use Rattle.mm_waits.proofs.Leads.{Drains, come_before, operations_grow, owed_grows, since, since_found, not_since, waits_to_drain}
 use Rattle.mm_waits.proofs.Rows.{not_closed}
 use Rattle.ranks.specs.Junction.{any_below}
 
@@ -370,7 +370,7 @@ module _ (target : Target) (room : ℕ) (top up down : Port) (state : DropState)
         let until = sent.until in
         let come = words_come target room up down state end plan runs legal owed apart c d later (omega (arith, fit)) all in
         let asked = owed_grows up sent.cycle c until in
-        come_above s sent.cycle d sent.from (drains.come sent.cycle d (omega (arith, until, later)) fit sent.empty (omega (arith, asked, come))));
+        come_before top s sent.cycle d sent.from (drains.come sent.cycle d (omega (arith, until, later)) fit sent.empty (omega (arith, asked, come))));
   }
     where
       few_still : (s : ℕ) → s ≤ end → (b : Bool) → is_sent s s ≡ b → (d : Bool) → since drained s s ≡ d → dropped_still s s ≤ 2 * most + 2 * longest + 3
@@ -414,7 +414,3 @@ module _ (target : Target) (room : ℕ) (top up down : Port) (state : DropState)
               let next = when_kept s (suc c) en (or_right _ (since drained s c) ed) in
               let goes = goes_kept c fit (still_kept s c e ed) et stops (takes up c) refl in
               omega (arith, is, next, goes)
-
-      come_above : (s j d : ℕ) → s ≤ j → (words_owed top j ≤ length (words_at top d)) ⊎ IsTrue (is_raised (top.answers.valid d)) → (words_owed top s ≤ length (words_at top d)) ⊎ IsTrue (is_raised (top.answers.valid d))
-      come_above s j d near (inl all) = let asked = owed_grows top s j near in inl (omega (arith, asked, all))
-      come_above s j d near (inr word) = inr word

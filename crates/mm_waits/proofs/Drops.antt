@@ -158,16 +158,20 @@ module _ (target : Target) (port : Port) where
 
 -- ---- a lane is an operation
 
-lanes_are : (target lower : Shape) (enables : ℕ) → 0 < lower.word_bytes → target.word_bytes ≡ lower.word_bytes → target.has_enables ≡ false → is_nonempty (filled_lanes lower target enables) ≡ any_lane lower enables
-lanes_are target lower enables some same none =
+-- all of a word where one is enabled
+pub filled_are : (target lower : Shape) (enables : ℕ) → 0 < lower.word_bytes → target.word_bytes ≡ lower.word_bytes → target.has_enables ≡ false → filled_lanes lower target enables ≡ (if any_lane lower enables then numbers 0 lower.word_bytes else []) ++ []
+filled_are target lower enables some same none =
     let one : pieces lower target ≡ 1 = ap (λ n. lower.word_bytes / min lower.word_bytes n) same ∙ same_pieces lower some in
     let start = zero-mul (min lower.word_bytes target.word_bytes) in
     let size : min lower.word_bytes target.word_bytes ≡ lower.word_bytes = omega arith in
-    ap (λ n. is_nonempty (flat_map (filled_of_piece lower target enables) (numbers 0 n))) one ∙ ap₂ (λ from n. body target.has_enables from n) start size ∙ ap (λ h. body h 0 lower.word_bytes) none ∙ by_any (any_lane lower enables) lower.word_bytes some
+    ap (λ n. flat_map (filled_of_piece lower target enables) (numbers 0 n)) one ∙ ap₂ (λ from n. body target.has_enables from n) start size ∙ ap (λ h. body h 0 lower.word_bytes) none
   where
-    body : Bool → ℕ → ℕ → Bool
-    body h from n = is_nonempty ((if h then filter (is_enabled enables) (numbers from n) else if list_any (is_enabled enables) (numbers from n) then numbers from n else []) ++ [])
+    body : Bool → ℕ → ℕ → List ℕ
+    body h from n = (if h then filter (is_enabled enables) (numbers from n) else if list_any (is_enabled enables) (numbers from n) then numbers from n else []) ++ []
 
+lanes_are : (target lower : Shape) (enables : ℕ) → 0 < lower.word_bytes → target.word_bytes ≡ lower.word_bytes → target.has_enables ≡ false → is_nonempty (filled_lanes lower target enables) ≡ any_lane lower enables
+lanes_are target lower enables some same none = ap is_nonempty (filled_are target lower enables some same none) ∙ by_any (any_lane lower enables) lower.word_bytes some
+  where
     by_any : (b : Bool) (n : ℕ) → 0 < n → is_nonempty ((if b then numbers 0 n else []) ++ []) ≡ b
     by_any b zero h = absurd (omega (arith, h))
     by_any true (suc n) h = refl
@@ -609,6 +613,18 @@ module _ (target : Target) (room : ℕ) (up down : Port) (state : DropState) (en
       let few = few_words down end owed c fit in
       omega (arith, before, next, asked, words, few)
 
+  pub words_above : (c : ℕ) → c < end → length (words_at up (suc c)) + length (words_at down c) ≡ length (words_at up c) + length (words_at down (suc c)) + one_if (state.own c)
+  words_above c fit =
+      let high = words_by up c in
+      let low = words_by down c in
+      let valid : one_if (is_raised (up.answers.valid c)) ≡ one_if (state.own c) + one_if (is_raised (down.answers.valid c)) = ap one_if (runs.valid c) ∙ by_own (state.own c) (is_raised (down.answers.valid c)) (apart c fit) in
+      omega (arith, high, low, valid)
+    where
+      by_own : (o v : Bool) → (o ≡ true → v ≡ false) → one_if (o || v) ≡ one_if o + one_if v
+      by_own true true f = let e = f refl in absurd cc
+      by_own true false f = refl
+      by_own false v f = omega arith
+
   -- what is owed above is owed below, or by itself
   pub owed_are : (c : ℕ) → c ≤ end → words_owed up c + length (words_at down c) ≡ length (words_at up c) + words_owed down c + one_if (state.own c)
   owed_are zero fit = let none : one_if (state.own 0) ≡ 0 = ap one_if runs.own_begins in omega (arith, none)
@@ -617,16 +633,8 @@ module _ (target : Target) (room : ℕ) (up down : Port) (state : DropState) (en
       let above = asks_above c fit in
       let below = asks_below c fit in
       let split = split_at c in
-      let words = words_by down c in
-      let given = words_by up c in
-      let valid = by_own (state.own c) (is_raised (down.answers.valid c)) (apart c fit) in
-      let same : one_if (is_raised (up.answers.valid c)) ≡ one_if (state.own c || is_raised (down.answers.valid c)) = ap one_if (runs.valid c) in
-      omega (arith, before, above, below, split, words, given, valid, same)
-    where
-      by_own : (o v : Bool) → (o ≡ true → v ≡ false) → one_if (o || v) ≡ one_if o + one_if v
-      by_own true true f = let e = f refl in absurd cc
-      by_own true false f = refl
-      by_own false v f = omega arith
+      let given = words_above c fit in
+      omega (arith, before, above, below, split, given)
 
   pub none_read : (c : ℕ) → c ≤ end → IsFalse (is_gone down c) → state.reads c ≡ 0
   none_read c fit quiet =

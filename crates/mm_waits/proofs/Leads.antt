@@ -62,6 +62,11 @@ owed_grows port c d h = prefix_length (prefix_flat_map (λ (m : Marked). m.trans
 pub operations_grow : (target : Target) (port : Port) (c d : ℕ) → c ≤ d → length (operations_among target port.shape (taken_at port c)) ≤ length (operations_among target port.shape (taken_at port d))
 operations_grow target port c d h = prefix_length (prefix_flat_map (λ m. operations_in target port.shape m) (before_prefix (λ k. only_if (takes port k) (marked_at port k)) c d h))
 
+-- so what is asked earlier comes no later
+pub come_before : (port : Port) (s c d : ℕ) → s ≤ c → (words_owed port c ≤ length (words_at port d)) ⊎ IsTrue (is_raised (port.answers.valid d)) → (words_owed port s ≤ length (words_at port d)) ⊎ IsTrue (is_raised (port.answers.valid d))
+come_before port s c d near (inl all) = let asked = owed_grows port s c near in inl (omega (arith, asked, all))
+come_before port s c d near (inr now) = inr now
+
 -- ---- what takes no beat before all that it took is sent
 
 -- `drained` says that all that was taken above is sent, and `left` is how many steps what stands or is held there is still to take
@@ -138,7 +143,7 @@ module _ (target : Target) (top bottom : Port) (waits drained : ℕ → Bool) (l
     come = λ s c d near later fit none all. (let found = drained_then s c near (omega (arith, later, fit)) none in
         let high = found.2 in
         let asked = owed_grows bottom found.0 c high in
-        come_above s found.0 d found.1 (drains.come found.0 d (omega (arith, high, later)) fit found.3 (omega (arith, asked, all))));
+        come_before top s found.0 d found.1 (drains.come found.0 d (omega (arith, high, later)) fit found.3 (omega (arith, asked, all))));
   }
     where
       few_still : (s : ℕ) → s ≤ end → (b : Bool) → since drained s s ≡ b → still_left s s ≤ most
@@ -165,10 +170,6 @@ module _ (target : Target) (top bottom : Port) (waits drained : ℕ → Bool) (l
           let next = when_held s (suc c) en in
           let goes = drains.goes c fit (held s c near fit e) (or_right (shows top.commands.signals c) (not (drained c)) (not_by (drained c) (not_since drained s c near e))) stops in
           omega (arith, is, next, goes)
-
-      come_above : (s j d : ℕ) → s ≤ j → (words_owed top j ≤ length (words_at top d)) ⊎ IsTrue (is_raised (top.answers.valid d)) → (words_owed top s ≤ length (words_at top d)) ⊎ IsTrue (is_raised (top.answers.valid d))
-      come_above s j d near (inl all) = let asked = owed_grows top s j near in inl (omega (arith, asked, all))
-      come_above s j d near (inr now) = inr now
 
 -- where a beat is shown or held above, it is shown below, or what waits here does so for another reason
 module _ (target : Target) (top bottom : Port) (held : ℕ → ℕ) (most end : ℕ) (leads : LeadsDown target top bottom held most end) where

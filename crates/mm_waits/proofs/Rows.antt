@@ -116,3 +116,9 @@ cut_at_words many up down (cutter reach longest state plan runs) at c shown kind
         let count : down.commands.count c ≡ beats_of (reach all.address) all.left = ap (λ (r : Raw). r.levels.count) e in
         let few = few_of (reach all.address) all.left many (near all.address) some in
         omega (arith, count, few)
+
+-- ---- words of the two sides of a cutter
+
+pub cut_words : (up down : Port) → CutsBursts up down → (down.shape.word_bytes ≡ up.shape.word_bytes) × (0 < up.shape.word_bytes)
+cut_words up down (cutter reach longest state plan runs) = (plan.same, plan.some)
+cut_words up down (no_cutter wired) = (sym (ap (λ (p : Port). p.shape.word_bytes) wired.wire.same), wired.some)

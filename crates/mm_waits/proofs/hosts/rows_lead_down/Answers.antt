@@ -9,7 +9,7 @@ use Rattle.mm_machines.specs.Lines.{target_of}
 use Rattle.mm_machines.specs.Link.{Target, Port, AreLegalAt, AnswersAreOwed}
 use Rattle.mm_links.specs.Selects.{EnablesFit}
 use Rattle.mm_awake.specs.Onward.{is_good}
-use Rattle.mm_awake.specs.Rows.{CutsBursts, CutsBursts.cutter, CutsBursts.no_cutter, FitsWords, FitsWords.selector, FitsWords.gatherer, FitsWords.splitter, FitsWords.no_width, DropsBeats, DropsBeats.dropper, DropsBeats.no_dropper, GathersBelowCut}
+use Rattle.mm_awake.specs.Rows.{CutsBursts, FitsWords, FitsWords.selector, FitsWords.gatherer, FitsWords.splitter, FitsWords.no_width, DropsBeats, DropsBeats.dropper, DropsBeats.no_dropper, GathersBelowCut}
 use Rattle.mm_awake.specs.RowSystem.{RowPorts, AreRows, boundaries_of}
 use Rattle.mm_awake.specs.Steps.{HasStepsLeft}
 use Rattle.mm_awake.specs.Theorem.{ArePlanned, AreMachines, States, LinkRanks, IsBuilt}
@@ -24,17 +24,13 @@ use Rattle.mm_waits.proofs.GatherFits.{fits_for, gatherer_fits, parts_of_wide}
 use Rattle.mm_waits.proofs.Joined.{cuts_lead}
 use Rattle.mm_waits.proofs.Leads.{Drains, drains_lead, waits_more}
 use Rattle.mm_waits.proofs.OneBeat.{enables_below}
-use Rattle.mm_waits.proofs.Rows.{few_words, wire_owed}
+use Rattle.mm_waits.proofs.Rows.{cut_words, few_words, wire_owed}
 use Rattle.mm_waits.proofs.SelectFits.{select_fits}
 use Rattle.mm_waits.proofs.Shorter.{shorter_legal}
 use Rattle.mm_waits.proofs.SplitFits.{split_fits}
 use Rattle.mm_waits.proofs.Wire.{wire_self}
 use Rattle.mm_waits.proofs.hosts.rows_lead_down.Goals.{After-machines_with_links_are_built}
 use Rattle.mm_waits.proofs.hosts.rows_lead_down.Goals as goal
-
-cut_words : (up down : Port) → CutsBursts up down → (down.shape.word_bytes ≡ up.shape.word_bytes) × (0 < up.shape.word_bytes)
-cut_words up down (cutter reach longest state plan runs) = (plan.same, plan.some)
-cut_words up down (no_cutter wired) = (sym (ap (λ (p : Port). p.shape.word_bytes) wired.wire.same), wired.some)
 
 module _ (c : After-machines_with_links_are_built) (responses : Responses) (system : System) (run : Run) (ports : RowPorts) (states : States) (end before : ℕ) (next : end ≡ suc before) (agent host : ℕ) (planned : ArePlanned system (boundaries_of ports) states)
     (machines : AreMachines responses system run (boundaries_of ports) states end) (rows : AreRows system run ports end) (legal : IsLegalRun system run end) (there : agent < system.agents) (low : host < system.hosts)

@@ -1,5 +1,4 @@
 use Rattle.std.proofs.lemmas.Bool.{and_parts}
-use Rattle.std.proofs.lemmas.Nat.{div-mul-add}
 use Rattle.std.proofs.Common.{ap, ap₂, max, min, ◌/◌, ◌*◌, ℕ, zero, suc, ◌≡◌, ◌+◌, ◌<◌, ◌≤◌, ◌∙◌, Bool, true, false, not, arith, refl, sym, subst, IsTrue, IsFalse}
 use Rattle.mm_runs.specs.Views.{System, Run, Responses}
 use Rattle.mm_runs.specs.Operations.{pieces}
@@ -17,29 +16,17 @@ use Rattle.mm_awake.specs.Theorem.{ArePlanned, AreMachines, States, LinkRanks, I
 use Rattle.mm_waits.specs.Neighbours.{fitted_steps}
 use Rattle.mm_waits.specs.Waits.{is_quiet}
 use Rattle.mm_waits.proofs.Bits.{no_both, no_true}
-use Rattle.mm_waits.proofs.Rows.{in_fewer, of_most, wire_owed, few_words, cut_at_words}
+use Rattle.mm_waits.proofs.GatherFits.{parts_of_wide}
+use Rattle.mm_waits.proofs.Rows.{in_fewer, of_most, wire_owed, few_words, cut_at_words, cut_words}
 use Rattle.mm_waits.proofs.Selects.{open_when_quiet}
 use Rattle.mm_waits.proofs.Shorter.{shorter_legal, shorter_steps, shorter_reads, at_least}
 use Rattle.mm_waits.proofs.Splits.{splits_when_quiet}
 use Rattle.mm_waits.proofs.neighbours.fitted_rows_take_few_steps.Goals.{After-machines_with_links_are_built}
 use Rattle.mm_waits.proofs.neighbours.fitted_rows_take_few_steps.Goals as goal
 
-cut_words : (up down : Port) → CutsBursts up down → (down.shape.word_bytes ≡ up.shape.word_bytes) × (0 < up.shape.word_bytes)
-cut_words up down (cutter reach longest state plan runs) = (plan.same, plan.some)
-cut_words up down (no_cutter wired) = (sym (ap (λ (p : Port). p.shape.word_bytes) wired.wire.same), wired.some)
-
 not_true : (b : Bool) → IsTrue (not b) → IsFalse b
 not_true true h = absurd (no_true h)
 not_true false h = refl
-
-quotient : (wide narrow many : ℕ) → wide ≡ many * narrow → 0 < narrow → 1 ≤ many → many ≤ wide / min wide narrow
-quotient wide narrow many whole some more =
-    let times = at_least narrow many more in
-    let turned : many * narrow ≡ narrow * many = omega arith in
-    let least : min wide narrow ≡ narrow = omega (arith, times, whole, turned) in
-    let all : many * narrow ≡ many * narrow + 0 = omega arith in
-    let is : wide / min wide narrow ≡ many = ap₂ (λ (x y : ℕ). x / y) (whole ∙ all) least ∙ div-mul-add many narrow 0 some in
-    omega (arith, is)
 
 module _ (c : After-machines_with_links_are_built) (responses : Responses) (system : System) (run : Run) (ports : RowPorts) (states : States) (end before : ℕ) (next : end ≡ suc before) (agent other : ℕ) (planned : ArePlanned system (boundaries_of ports) states)
     (machines : AreMachines responses system run (boundaries_of ports) states end) (rows : AreRows system run ports end) (legal : IsLegalRun system run end) (there : agent < system.agents) (low : other < system.hosts)
@@ -138,7 +125,9 @@ module _ (c : After-machines_with_links_are_built) (responses : Responses) (syst
 
   wide_words : (many : ℕ) → (system.agent agent).shape.word_bytes ≡ many * middle.shape.word_bytes → 0 < middle.shape.word_bytes → 1 ≤ many → many ≤ words
   wide_words many whole some more =
-      quotient (system.agent agent).shape.word_bytes (system.host other).shape.word_bytes many (whole ∙ ap (λ n. many * n) middle_words) (let same = middle_words in omega (arith, same, some)) more
+      let same = middle_words in
+      let is = parts_of_wide (system.agent agent).shape (system.host other).shape many (whole ∙ ap (λ n. many * n) middle_words) (omega (arith, same, some)) more in
+      omega (arith, is)
 
   some_parts : 1 ≤ parts
   some_parts = omega arith
