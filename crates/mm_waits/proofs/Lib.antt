@@ -13,6 +13,7 @@ pub mod Moves
 pub mod Cuts
 pub mod Cycles
 pub mod Selects
+pub mod Alike
 pub mod Joined
 pub mod SplitCounts
 pub mod Splits

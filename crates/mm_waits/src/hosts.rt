@@ -36,6 +36,7 @@ pub fn no_host_hangs()
         → NoHostHangs (host_window system) system run end }
 {
     crate::hosts_beside_links_move();
+    crate::wired_hosts_move();
     crate::neighbours::rows_take_few_steps();
     rows_lead_down();
     mm_awake::rows::machines_with_links_are_built()
