@@ -1,12 +1,14 @@
 -- Hosts in turn, and hosts that hang, computed.
-use Rattle.std.proofs.Common.{ℕ, zero, suc, ◌<◌, ◌≤◌, ◌≡◌, [], arith, tests, refl, sym, ap, subst, length, filter, not, nat_le, nat_eq, ◌&&◌, ◌||◌, None, IsTrue}
+use Rattle.std.proofs.Common.{ℕ, zero, suc, ◌<◌, ◌≤◌, ◌≡◌, [], arith, tests, refl, sym, ap, subst, length, filter, not, nat_le, nat_eq, ◌&&◌, ◌||◌, None, IsTrue, IsFalse, ◌+◌, ◌-◌}
 use Rattle.std.proofs.lemmas.Bool.{and_parts}
 use Rattle.histories.specs.Below.{each_below}
 use Rattle.mm_runs.specs.Views.{System, Run}
 use Rattle.mm_runs.specs.Order.{Owner}
-use Rattle.mm_runs.specs.Awake.{IsWanted, serves, ServesWithin, Throughout, Sometime, IsPassedByFew, begun, begun_by_others, is_oldest, are_finished_before, commands_begun, ServesDefaultWithin, is_wanted_at_default, is_given_from, is_written_to, moves_on_at_default, MovesAtDefaultWithin}
+use Rattle.mm_runs.specs.Awake.{IsWanted, serves, ServesWithin, Throughout, Sometime, IsPassedByFew, begun, begun_by_others, is_oldest, are_finished_before, commands_begun, owes, ServesDefaultWithin, is_wanted_at_default, is_given_from, is_written_to, moves_on_at_default, MovesAtDefaultWithin}
 use Rattle.mm_examples.proofs.EmptyRead.{no_true}
-use Rattle.mm_runs.specs.Onward.{moves_on, MovesWithin}
+use Rattle.mm_runs.specs.Legal.{host_accepts}
+use Rattle.mm_runs.specs.Onward.{moves_on, MovesWithin, IsPrompt, IsLacking, AcceptsWithin}
+use Rattle.histories.specs.History.{is_raised}
 use Rattle.mm_examples.specs.HostRuns.{shared, turns_run, hanging_run, forgetful_run, crowded_run, nowhere, silent_run}
 
 six : (P : ℕ → Type 0) → P 0 → P 1 → P 2 → P 3 → P 4 → P 5 → (c : ℕ) → c < 6 → P c
@@ -124,3 +126,36 @@ pub silent_stuck : MovesAtDefaultWithin 3 nowhere silent_run 0 6 → ⊥
 silent_stuck moves =
     let found = moves 2 1 (omega arith) (λ c low high. six (λ c. 2 ≤ c → IsTrue (is_wanted_at_default nowhere silent_run 0 1 c)) (λ low. early (omega arith) low) (λ low. early (omega arith) low) (λ low. refl) (λ low. refl) (λ low. refl) (λ low. refl) c (omega (arith, high)) low) in
     six (λ c. 2 ≤ c → IsTrue (moves_on_at_default nowhere silent_run 0 1 c) → ⊥) (λ low. early (omega arith) low) (λ low. early (omega arith) low) (λ low h. cc) (λ low h. cc) (λ low h. cc) (λ low h. cc) found.0 (omega (arith, found.2)) found.1 found.3
+
+-- ---- beats that are accepted soon
+
+four : (P : ℕ → Type 0) → P 0 → P 1 → P 2 → P 3 → (c : ℕ) → c < 4 → P c
+four P a b d e c h = each_below P 4 c ((((tt, a), b), d), e) h
+
+pub turns_prompt : IsPrompt shared turns_run 0 1 4
+turns_prompt = record {
+  ready = λ c low. four (λ c. IsFalse (is_raised ((turns_run.at_agent 0).waitrequest c))) refl refl refl refl c low;
+  answers = λ c low none. four (λ c. IsFalse (owes shared turns_run 0 (c + 1 - 1))) refl refl refl refl c (omega (arith, low));
+}
+
+pub turns_accept : AcceptsWithin 2 shared turns_run 0 0 4
+turns_accept from number inside lacking =
+    each_below (λ c. Sometime c 2 (λ c. IsTrue (host_accepts (turns_run.at_host 0) c))) 3 from (((tt, (1, omega arith, omega arith, refl)), (1, omega arith, omega arith, refl)), (3, omega arith, omega arith, refl)) (omega (arith, inside))
+
+pub one_accepts_too_few : AcceptsWithin 1 shared turns_run 0 0 4 → ⊥
+one_accepts_too_few accepts =
+    let found = accepts 0 1 (omega arith) (λ c low high. each_below (λ c. IsLacking shared turns_run 0 0 1 c) 1 c (tt, record { oldest = refl; for_agent = refl; lacking = refl; bursts = refl; passes = refl }) (omega (arith, high))) in
+    each_below (λ c. IsTrue (host_accepts (turns_run.at_host 0) c) → ⊥) 1 found.0 (tt, λ h. cc) (omega (arith, found.2)) found.3
+
+pub hanging_prompt : IsPrompt shared hanging_run 0 1 6
+hanging_prompt = record {
+  ready = λ c low. six (λ c. IsFalse (is_raised ((hanging_run.at_agent 0).waitrequest c))) refl refl refl refl refl refl c low;
+  answers = λ c low none. six (λ c. IsFalse (owes shared hanging_run 0 (c + 1 - 1))) refl refl refl refl refl refl c (omega (arith, low));
+}
+
+pub hanging_stands : AcceptsWithin 3 shared hanging_run 0 0 6 → ⊥
+hanging_stands accepts =
+    let found = accepts 2 1 (omega arith) (λ c low high. six (λ c. IsLacking shared hanging_run 0 0 1 c) (record { oldest = refl; for_agent = refl; lacking = refl; bursts = refl; passes = refl }) (record { oldest = refl; for_agent = refl; lacking = refl; bursts = refl; passes = refl })
+    (record { oldest = refl; for_agent = refl; lacking = refl; bursts = refl; passes = refl }) (record { oldest = refl; for_agent = refl; lacking = refl; bursts = refl; passes = refl })
+    (record { oldest = refl; for_agent = refl; lacking = refl; bursts = refl; passes = refl }) (record { oldest = refl; for_agent = refl; lacking = refl; bursts = refl; passes = refl }) c (omega (arith, high))) in
+    six (λ c. IsTrue (host_accepts (hanging_run.at_host 0) c) → ⊥) (λ h. cc) (λ h. cc) (λ h. cc) (λ h. cc) (λ h. cc) (λ h. cc) found.0 (omega (arith, found.2)) found.3

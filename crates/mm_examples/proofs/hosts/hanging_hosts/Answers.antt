@@ -1,4 +1,4 @@
-use Rattle.mm_examples.proofs.HostRuns.{hanging_served, forgetful_served, crowded_served, crowded_passed, hanging_stuck, forgetful_stuck, crowded_stuck, silent_served, silent_stuck}
+use Rattle.mm_examples.proofs.HostRuns.{hanging_served, forgetful_served, crowded_served, crowded_passed, hanging_stuck, forgetful_stuck, crowded_stuck, silent_served, silent_stuck, hanging_prompt, hanging_stands}
 use Rattle.mm_examples.proofs.hosts.hanging_hosts.Goals as goal
 
 pub returns-clause-awake : goal.returns-clause-awake
@@ -21,3 +21,6 @@ returns-clause-default c = silent_served
 
 pub returns-clause-silent : goal.returns-clause-silent
 returns-clause-silent c = silent_stuck
+
+pub returns-clause-standing : goal.returns-clause-standing
+returns-clause-standing c = (hanging_prompt, hanging_stands)
