@@ -7,21 +7,12 @@ done
 # further words of the synthesis
 synthesis=
 
-# Runs yosys with some words, and says what it said where it fails.
-weighs() {
-  yosys -q -p "$1" >"$folder/said" 2>&1 || { cat "$folder/said" >&2; exit 1; }
-}
-
-# The words that make tables of 6 inputs of a module, from its files: gates first, so that few tables follow one another. A memory ends a path.
-tables() {
-  echo "read_verilog ${*:2}; synth -flatten -top $1 -run begin:fine; chtype -set memory t:\$mem_v2; synth -run fine:check; abc -lut 6"
-}
-
-# A module and its files: `LOGIC FLIPFLOPS LEVELS MEMORY`. A bit of memory counts as a logic cell; MEMORY says how many of these are such.
+# A module and its files: `LOGIC FLIPFLOPS LEVELS MEMORY`. A bit of memory counts as a logic cell; MEMORY says how many of these are such. A memory
+# ends a path.
 cells_of() {
   local module=$1 files=${*:2}
-  weighs "read_verilog $files; synth_intel_alm -family cyclonev $synthesis -top $module; tee -q -o $folder/cells stat"
-  weighs "$(tables "$module" "$files"); tee -q -o $folder/levels ltp -noff"
+  yosys -q -p "read_verilog $files; synth_intel_alm -family cyclonev $synthesis -top $module; tee -q -o $folder/cells stat" >"$folder/said" 2>&1 || { cat "$folder/said" >&2; exit 1; }
+  yosys -q -p "read_verilog $files; synth -flatten -top $module -run begin:fine; chtype -set memory t:\$mem_v2; synth -lut 6 -run fine:check; tee -q -o $folder/levels ltp -noff" >"$folder/said" 2>&1 || { cat "$folder/said" >&2; exit 1; }
   awk '/MISTRAL_FF/ { registers += $2 } /MISTRAL_(ALUT|NOT|MLAB)/ { logic += $2 } END { printf "%d %d ", logic, registers }' "$folder/cells"
   grep -o 'length=[0-9]*' "$folder/levels" | tail -n 1 | cut -d= -f2 | tr '\n' ' '
   awk '/MISTRAL_MLAB/ { memory += $2 } END { print memory + 0 }' "$folder/cells"

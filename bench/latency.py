@@ -1,12 +1,12 @@
 #!/usr/bin/env python3
 """How long commands take beside hosts that ask without a break, and how long one may stand: latency.py [SYSTEMS [CYCLES]], or latency.py FOLDER.
 
-Runs drawn systems in bus_model.py, 200 of 400 cycles where nothing is said. Of each command there is its life, from the cycle in which its
+Runs drawn systems in bus_model.py, 200 of 200 cycles where nothing is said. Of each command there is its life, from the cycle in which its
 first beat is shown to the one in which its last beat is accepted, its last operation taken or its last word given; and how long it stood: cycles
 in a row in which it was the oldest unfinished one of its host, its agent neither raised waitrequest nor owed a word, each write burst for the
 agent went on, and still the command didn't move. A line for each kind of system has the longest life, and the longest stand with the cycles of
 one round of its agent, how many hosts stood longer than theirs, and the window within which a command moves on. A stand that is as long
-as its window ends the run with status 1; the windows are longer than such runs, so the round is what a stand is to be compared with.
+as its window ends the run with status 1. Where an agent's hosts aren't all plain the windows are longer than such runs: the round says more there.
 
 With a FOLDER of scripts, of which one is a system's, the window of each of its connections of hosts and agents is printed.
 """
@@ -20,56 +20,82 @@ from typing import NamedTuple
 import bus_model
 from script_systems import commands_of, component_of
 
-SYSTEMS, CYCLES = 200, 400
+SYSTEMS, CYCLES = 200, 200
+
+
+class Side(NamedTuple):
+    """What a window rests on of a host or an agent: the bytes of a word, byte enables, of a host its burstcount, of an agent its longest wait time."""
+
+    bytes: int
+    enables: bool
+    burst: int = 0
+    wait: int = 0
+
+    def longest(self):
+        return 1 << max(self.burst, 1) - 1
 
 
 class Sizes(NamedTuple):
-    """What a window rests on: of each host the bytes of a word and the beats of its longest burst, of each agent the bytes of a word and its
-    longest wait time, the shares of each host by agent, and the stages."""
+    """And of a system: the sides of its hosts and its agents, of each agent the shares of its hosts, and the stages."""
 
     hosts: dict
     agents: dict
     shares: dict
     stages: int
 
+    def is_alike(self, host, agent):
+        """Whether a host's plain commands reach the agent one for one."""
+        return host.bytes == agent.bytes and not host.burst and (agent.enables or not host.enables)
+
 
 def host_window(sizes, agent, host):
-    """`host_window` of crates/mm_waits/specs/Windows.antt, with the names that it has there."""
-    word, wait = sizes.agents[agent]
-    stages = sizes.stages
+    """`host_window` of crates/mm_waits/specs/Windows.antt, with the names that the pieces have there."""
+    below, stages, others = sizes.agents[agent], sizes.stages, [each for each in sizes.shares[agent] if each != host]
 
     def fitted_steps(each):
         # for each beat, and for one more, its pieces at the agent's words, and the cycles in which the words of a wide one are given out
-        own, longest = sizes.hosts[each]
-        return (longest + 1) * (own // min(own, word) + word // min(own, word))
+        own, piece = sizes.hosts[each], min(sizes.hosts[each].bytes, below.bytes)
+        return (own.longest() + 1) * (own.bytes // piece + below.bytes // piece)
 
-    # one round of the others: for each share the steps of a command, with a cycle for each beat without a lane, and two more
-    around = sum(shares * (2 * fitted_steps(each) + 2) for each, shares in sizes.shares[agent].items() if each != host)
+    def round_by(steps):
+        # a round of the others: for each share the steps of a command
+        return sum(sizes.shares[agent][each] * steps(each) for each in others)
+
+    def standing_by(around):
+        # a beat stands for so many cycles, each beat of the others with its wait states, a cycle in which its word comes, and one for each stage
+        return around * (below.wait + stages + 2) + below.wait + stages + 1
+
+    # in so many cycles an agent that doesn't stall takes all that stands in the stages: two beats for each
+    pipe_time = sum(2 * (below.wait + stage + 2) for stage in range(stages))
+    # twice that, and the way of a word up
+    behind = 2 * pipe_time + stages + 6
+    if all(sizes.is_alike(sizes.hosts[each], below) for each in sizes.shares[agent]):
+        # `waiting_window`: all are wired to the arbiter
+        return standing_by(round_by(lambda each: sizes.hosts[each].longest())) + 1 + behind
+    # `row_window`: the others' steps, with a cycle for each beat without a lane, and two more
+    around = round_by(lambda each: 2 * fitted_steps(each) + 2)
     # what is still to be taken of the host's own, twice where a beat of it may be kept, and as much again until that one is sent
     own_steps = 4 * fitted_steps(host) + 3
-    # in so many cycles an agent that doesn't stall takes all that stands in the stages: two beats for each
-    pipe_time = sum(2 * (wait + stage + 2) for stage in range(stages))
     # by then all words have come that were asked behind an arbiter
     word_time = pipe_time + stages + 3
-    # a beat stands for so many cycles, each beat of the others with its wait states, a cycle in which its word comes, and one for each stage
-    standing_by = around * (wait + stages + 2) + wait + stages + 1
-    # and each may bring its words, while which a link may hold another back
-    standing_quietly = standing_by + word_time * (around + 1)
-    # so for each step, before which all words may have to come; then twice what stands in the stages, and the way of a word up
-    return (2 * own_steps + 1) * (standing_quietly + word_time + 1) + 2 * pipe_time + stages + 6
+    # each beat of the others may bring its words, while which a link may hold another back
+    standing_quietly = standing_by(around) + word_time * (around + 1)
+    # so for each step, before which all words may have to come
+    return (2 * own_steps + 1) * (standing_quietly + word_time + 1) + behind
 
 
 def one_round(sizes, agent, host):
     """What isn't proved: the beats of the others' shares, one of its own, and those that stages hold, at the agent's pace."""
-    word, wait = sizes.agents[agent]
-    steps = {each: longest * max(1, own // word) for each, (own, longest) in sizes.hosts.items()}
+    below = sizes.agents[agent]
+    steps = {each: side.longest() * max(1, side.bytes // below.bytes) for each, side in sizes.hosts.items()}
     around = sum(shares * steps[each] for each, shares in sizes.shares[agent].items() if each != host)
-    return (around + 2 * sizes.stages + 1) * (wait + 1) + 2 * sizes.stages + 1
+    return (around + 2 * sizes.stages + 1) * (below.wait + 1) + 2 * sizes.stages + 1
 
 
 def sizes_of_row(row):
-    hosts = {number: (host.bytes, host.longest()) for number, host in enumerate(row.hosts)}
-    agents = {number: (agent.bytes, 0 if agent.wait else max(agent.readwait, agent.writewait)) for number, agent in enumerate(row.agents)}
+    hosts = {number: Side(host.bytes, host.enables, burst=host.burst) for number, host in enumerate(row.hosts)}
+    waits = [0 if agent.wait else max(agent.readwait, agent.writewait) for agent in row.agents]
+    agents = {number: Side(agent.bytes, agent.enables, wait=waits[number]) for number, agent in enumerate(row.agents)}
     return Sizes(hosts, agents, {number: dict(agent.seats) for number, agent in enumerate(row.agents)}, row.stages)
 
 
@@ -255,9 +281,11 @@ def accesses(draw, bits, burst, agents, count, busy):
 
 # bits of the hosts, bits of the agents, bits of burstcount at hosts and agents
 KINDS = {
-    "wires": ([32], [32], [0, 2, 3], [3]),
+    "plain": ([32], [32], [0], [0]),
+    "plain, stages": ([32], [32], [0], [0]),
+    "bursts": ([32], [32], [0, 2, 3], [3]),
     "wait times": ([32], [32], [0], [0]),
-    "stages": ([32], [32], [0, 2, 3], [3]),
+    "bursts, stages": ([32], [32], [0, 2, 3], [3]),
     "bursts cut": ([32], [32], [3, 4], [0, 1, 2]),
     "wide to narrow": ([32, 64, 128], [8, 16, 32], [0, 0, 3], [0]),
     "narrow to wide": ([8, 16, 32], [32, 64, 128], [0], [0]),
@@ -275,7 +303,7 @@ def drawn(kind, number, cycles):
     agents, shares = draw.choice([1, 1, 2]), [draw.choice([1, 1, 2, 3]) for _ in hosts]
     drops, fixed, busy = kind == "lanes dropped", kind == "wait times", draw.random() < 0.5
     words = [agent_word(draw, each, draw.choice(agent_bits), draw.choice(agent_bursts), shares, not drops, fixed, busy) for each in range(agents)]
-    stages = draw.choice([1, 2, 4]) if kind == "stages" else draw.choice([0, 0, 1]) if kind == "mixed" else 0
+    stages = draw.choice([1, 2, 4]) if "stages" in kind else draw.choice([0, 0, 1]) if kind == "mixed" else 0
     text = [host_word(*hosts[0])] + words + [f"stages={stages}", str(cycles)]
     for number, (width, burst) in enumerate(hosts):
         text += ([host_word(width, burst, valid=burst > 0 or draw.random() < 0.8)] if number else []) + list(accesses(draw, width, burst, agents, cycles, busy))
@@ -314,8 +342,8 @@ def sizes_of_scripts(scripts):
         instance, interface = name.split(".")
         end = components.get(instances[instance], {}).get(interface)
         if end and end.kind in ends:
-            longest_wait = 0 if end.has("waitrequest") else max(end.number("readWaitTime", 1), end.number("writeWaitTime", 0))
-            ends[end.kind][name] = (end.word() // 8, end.longest() if end.kind == "host" else longest_wait)
+            wait = 0 if end.has("waitrequest") else max(end.number("readWaitTime", 1), end.number("writeWaitTime", 0))
+            ends[end.kind][name] = Side(end.word() // 8, end.has("byteenable"), end.width("burstcount"), wait)
         return end
 
     for words in commands_of(system):

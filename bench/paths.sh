@@ -3,8 +3,8 @@
 #
 # A level is a table of 6 inputs, as yosys maps the module. A row has the longest path of each kind: from a host's command (c), an agent's waitrequest
 # (w), readdatavalid (v) or word (d), or a register or a memory (r), to the command at an agent (c), a host's waitrequest (w), readdatavalid (v) or
-# word (d), or again a register or a memory (r); then the longest of all. Below ours is the module by hand of
-# by_hand/ where there is one. A PART is one of those named at the end, or one row, as "share 4 0". Not part of the gate.
+# word (d), or again a register or a memory (r); then the longest of all. Below ours is the module of by_hand/ where there is one. A PART is one
+# of those named at the end, or one row, as "share 4 0". Not part of the gate.
 set -eu
 top=$(cd -- "$(dirname -- "$0")/.." && pwd)
 program=$(readlink -f -- "${1:-$top/avalon}")
@@ -12,10 +12,11 @@ export PYTHONDONTWRITEBYTECODE=1
 source "$top/bench/cells.sh"
 further=("$top"/bench/by_hand/{arbiter,bursts,crossbar,packs,widths}.v)
 
-# What it is, its module and its files.
+# What it is, its module and its files. Gates are made first, and tables of them, so that few follow one another. A memory ends a path.
 levels() {
-  local what=$1 module=$2
-  weighs "$(tables "$module" "${@:3}"); write_json $folder/tables.json"
+  local what=$1 module=$2 files=${*:3}
+  local gates="synth -flatten -top $module -run begin:fine; chtype -set memory t:\$mem_v2; synth -run fine:check"
+  yosys -q -p "read_verilog $files; $gates; abc -lut 6; write_json $folder/tables.json" >"$folder/said" 2>&1 || { cat "$folder/said" >&2; exit 1; }
   "$top/bench/paths.py" "$folder/tables.json" | awk -v what="$what" '{
     printf "%-44s", what
     for (field = 1; field <= NF; field++) printf "%4s", $field
