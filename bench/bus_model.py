@@ -346,12 +346,14 @@ class Splitter:
     """From wide words to narrow ones: the pieces that have a lane go one by one, and a wide word is given as the last of its pieces comes, with
     the greatest of their codes.
 
-    All reads under way have the same pieces: one with others waits until no word is owed.
+    All reads under way have the same pieces: one with others waits until no word is owed. Pieces that aren't read hold what was kept there, the
+    last one of the wide word what comes.
     """
 
     def __init__(self, host, agent, room):
         self.wide, self.narrow, self.room = host.bytes, agent.bytes, room
-        self.place, self.pieces, self.reads, self.words = 0, [], 0, []
+        self.place, self.pieces, self.reads = 0, [], 0
+        self.come, self.kept, self.code = 0, 0, 0
 
     def piece(self, command, number):
         lanes = command.lanes >> number * self.narrow & (1 << self.narrow) - 1
@@ -378,16 +380,22 @@ class Splitter:
         self.gone = self.shown.kind is not None and not wait
         self.accepted = self.command.kind is not None and self.opens and (not self.parts or self.gone and self.last)
         self.came, given = word, None
-        if word is not None and len(self.words) + 1 >= len(self.pieces):
-            words = self.words + [word]
-            bits = sum(each.bits << 8 * number * self.narrow for number, each in zip(self.pieces, words))
-            given = Word(bits, max(each.code for each in words))
+        if word is not None:
+            self.filled, self.greatest = self.fill(self.pieces[self.come], word.bits), max(self.code, word.code)
+            if self.come + 1 >= len(self.pieces):
+                given = Word(self.filled | word.bits << 8 * (self.wide - self.narrow), self.greatest)
         self.given = given is not None
         return not self.accepted, given
 
+    def fill(self, number, bits):
+        """The pieces below the last one of the wide word, with these bits where the piece with the number is one of them."""
+        at, each, whole = 8 * number * self.narrow, (1 << 8 * self.narrow) - 1, (1 << 8 * (self.wide - self.narrow)) - 1
+        return (self.kept & ~(each << at) | bits << at) & whole
+
     def edge(self):
         if self.came is not None:
-            self.words = [] if self.given else self.words + [self.came]
+            self.kept = self.filled
+            self.come, self.code = (0, 0) if self.given else (self.come + 1, self.greatest)
         if self.gone and self.command.kind == "r":
             self.pieces = self.parts
         self.reads += (self.accepted and self.command.kind == "r") - self.given
