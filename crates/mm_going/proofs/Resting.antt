@@ -10,7 +10,7 @@ use Rattle.mm_runs.specs.Commands.{Transfer, shows, presents, is_held, is_of_rea
 use Rattle.mm_runs.specs.Legal.{AreLegal, AreOwed, IsLegalAgent, host_accepts, is_under_way, words_asked}
 use Rattle.mm_runs.specs.Beginnings.{RunsAgreeBefore}
 use Rattle.mm_runs.specs.Whole.{IsLegalRun}
-use Rattle.mm_going.specs.Going.{HostRests, AgentRests, AreAtRest, rested, rested_on}
+use Rattle.mm_going.specs.Going.{HostRests, AgentRests, AreAtRest, ModuleShowsAlike, rested, rested_on}
 
 -- the last of so many cycles, or an earlier one
 last_or_earlier : (c end : ℕ) → c < suc end → (c ≡ end) ⊎ (c < end)
@@ -123,6 +123,7 @@ run_further system run end legal rest = record {
 pub record RestLaws : Type 0 where
   pub rests : (system : System) (run : Run) (end : ℕ) → AreAtRest system (rested run end) end
   pub begins : (run : Run) (end : ℕ) → RunsAgreeBefore run (rested run end) end
+  pub shown : (run : Run) (end : ℕ) → ModuleShowsAlike run (rested run end)
   pub legal : (system : System) (one two : Run) (end : ℕ) → RunsAgreeBefore one two end → IsLegalRun system one end → IsLegalRun system two end
 
 module _ (laws : RestLaws) where
@@ -166,3 +167,19 @@ module _ (laws : RestLaws) where
   pub begins_on : (run : Run) (end more : ℕ) → RunsAgreeBefore run (rested_on run end more) end
   begins_on run end zero = itself run end
   begins_on run end (suc more) = then_agree run (rested_on run end more) _ end (end + more) (omega arith) (begins_on run end more) (laws.begins (rested_on run end more) (end + more))
+
+  -- ---- what the module shows
+
+  pub shown_on : (run : Run) (end more : ℕ) → ModuleShowsAlike run (rested_on run end more)
+  shown_on run end zero = record { waitrequest = λ h. refl; readdata = λ h. refl; readdatavalid = λ h. refl; response = λ h. refl; commands = λ a. refl; grant = λ a. refl }
+  shown_on run end (suc more) =
+      let first = shown_on run end more in
+      let second = laws.shown (rested_on run end more) (end + more) in
+      record {
+        waitrequest = λ h. first.waitrequest h ∙ second.waitrequest h;
+        readdata = λ h. first.readdata h ∙ second.readdata h;
+        readdatavalid = λ h. first.readdatavalid h ∙ second.readdatavalid h;
+        response = λ h. first.response h ∙ second.response h;
+        commands = λ a. first.commands a ∙ second.commands a;
+        grant = λ a. first.grant a ∙ second.grant a;
+      }

@@ -26,6 +26,15 @@ pub record AreAtRest (system : System) (run : Run) (cycle : ℕ) : Type 0 where
 
 -- ---- the same as a run: what the module shows stays, and in one cycle the components rest
 
+-- in two runs the module shows the same in each cycle, whatever the components do
+pub record ModuleShowsAlike (one two : Run) : Type 0 where
+  pub waitrequest : (h : ℕ) → (one.at_host h).waitrequest ≡ (two.at_host h).waitrequest
+  pub readdata : (h : ℕ) → (one.at_host h).readdata ≡ (two.at_host h).readdata
+  pub readdatavalid : (h : ℕ) → (one.at_host h).readdatavalid ≡ (two.at_host h).readdatavalid
+  pub response : (h : ℕ) → (one.at_host h).response ≡ (two.at_host h).response
+  pub commands : (a : ℕ) → (one.at_agent a).signals ≡ (two.at_agent a).signals
+  pub grant : (a : ℕ) → (one.at_agent a).grant ≡ (two.at_agent a).grant
+
 -- the signal stands on in a cycle where a beat waits
 abbrev pub resting : Bool → (ℕ → ℕ) → ℕ → ℕ
 resting waits signal zero = 0
