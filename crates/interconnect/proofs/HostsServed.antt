@@ -41,6 +41,7 @@ use Rattle.port_tables.specs.Ports.{name_at, ports_of}
 use Rattle.port_tables.specs.PortMaps.{HasKnownPorts}
 use Rattle.interconnect.specs.Memory.{host_view, agent_view, host_in, agent_in, module_run, CanShow, ServesMemory}
 use Rattle.interconnect.specs.Fabrics.{HasFabric}
+use Rattle.interconnect.specs.Going.{LegalRunsGoOn}
 use Rattle.interconnect.proofs.Driving.{nat_cases, extends-refl}
 use Rattle.interconnect.proofs.Apart.{host_end, agent_end}
 use Rattle.interconnect.proofs.Links.{LinkLaws, of_connection, start_known, end_known, host_below, host_has_link, agent_has_link}
@@ -69,7 +70,7 @@ pub record AgreeAt (one two : MemoryRun) (c : ℕ) : Type 0 where
   pub hosts : (h : ℕ) → HostsAgreeAt (one.at_host h) (two.at_host h) c
   pub agents : (a : ℕ) → AgentsAgreeAt (one.at_agent a) (two.at_agent a) c
 
-agree_before : (one two : MemoryRun) (end : ℕ) → ((c : ℕ) → c < end → AgreeAt one two c) → RunsAgreeBefore one two end
+pub agree_before : (one two : MemoryRun) (end : ℕ) → ((c : ℕ) → c < end → AgreeAt one two c) → RunsAgreeBefore one two end
 agree_before one two end each = record {
   hosts = λ h. record {
     signals = λ c below. ((each c below).hosts h).signals;
@@ -113,14 +114,14 @@ host_itself x c = record { signals = refl; waitrequest = refl; readdata = refl; 
 agent_itself : (x : AgentView) (c : ℕ) → AgentsAgreeAt x x c
 agent_itself x c = record { signals = refl; waitrequest = refl; readdata = refl; readdatavalid = refl; response = refl; grant = refl }
 
-abbrev host_by : PlanTable → Netlist → Run → ℕ → Option EndId → HostView
+abbrev pub host_by : PlanTable → Netlist → Run → ℕ → Option EndId → HostView
 host_by plan netlist run h o = option_map_or (λ (end : EndId). host_view netlist run ((memory_system plan).host h).word_bytes (name_at plan.system end)) o silent_host
 
-abbrev agent_by : PlanTable → Netlist → Run → ℕ → Option EndId → AgentView
+abbrev pub agent_by : PlanTable → Netlist → Run → ℕ → Option EndId → AgentView
 agent_by plan netlist run a o = option_map_or (λ (end : EndId). agent_view netlist run ((memory_system plan).agent a).word_bytes (name_at plan.system end)) o silent_agent
 
 -- a module shows the same in two runs that are the same in a cycle
-module_same : (plan : PlanTable) (netlist : Netlist) (run other : Run) (c : ℕ) → cycle_of other c ≡ cycle_of run c → AgreeAt (module_run plan netlist run) (module_run plan netlist other) c
+pub module_same : (plan : PlanTable) (netlist : Netlist) (run other : Run) (c : ℕ) → cycle_of other c ≡ cycle_of run c → AgreeAt (module_run plan netlist run) (module_run plan netlist other) c
 module_same plan netlist run other c same = record { hosts = λ h. host h (slice_get (hosts_of plan.system) h); agents = λ a. agent a (slice_get (agents_of plan.system) a) }
   where
     host : (h : ℕ) (o : Option EndId) → HostsAgreeAt (host_by plan netlist run h o) (host_by plan netlist other h o) c
@@ -295,7 +296,8 @@ sees : (one two : AgentView) (c : ℕ) → AgentsAgreeAt one two c →
     this ≡ that
 sees one two c h = (let a = h.signals in let b = h.grant in cc)
 
-module _ (plan : PlanTable) (netlist : Netlist) (m : IsMemoryIn plan netlist) (fabrics : FabricLaws plan) (runs : RunLaws) (goes_on : (run : Run) (cycles : ℕ) → IsRun netlist run cycles → GoesOn netlist run cycles) where
+module _ (plan : PlanTable) (netlist : Netlist) (m : IsMemoryIn plan netlist) (fabrics : FabricLaws plan) (runs : RunLaws) (goes_on : (run : Run) (cycles : ℕ) → IsRun netlist run cycles → GoesOn netlist run cycles)
+    (going : LegalRunsGoOn plan netlist) where
   abbrev pub whole : System
   whole = memory_system plan
 
@@ -367,6 +369,17 @@ module _ (plan : PlanTable) (netlist : Netlist) (m : IsMemoryIn plan netlist) (f
         runs.accepts (prompt_window whole) whole (seen_in plan made on.endless) (module_run plan netlist run) cycles (runs.turned _ _ (cycles + 2) a)
         (fabrics.accepts netlist made is_made netlist (extends-refl netlist) on.endless on.is_run cycles (runs.legal whole _ _ (cycles + 2) a legal))
 
+    -- a run that goes on legally loses nothing at its end
+    awake_whole : (run : Run) (cycles : ℕ) → IsRun netlist run cycles → IsLegalRun whole (module_run plan netlist run) cycles → NeverIdles whole (module_run plan netlist run) cycles
+    awake_whole run cycles r legal =
+        let on = going run cycles 2 r legal in
+        runs.awake whole (module_run plan netlist on.longer) (module_run plan netlist run) cycles (runs.turned _ _ cycles on.same) (awake_there on.longer cycles on.is_run on.legal)
+
+    moves_whole : (run : Run) (cycles : ℕ) → IsRun netlist run cycles → IsLegalRun whole (module_run plan netlist run) cycles → NoHostHangs (host_window whole) whole (module_run plan netlist run) cycles
+    moves_whole run cycles r legal =
+        let on = going run cycles 2 r legal in
+        runs.onward (host_window whole) whole (module_run plan netlist on.longer) (module_run plan netlist run) cycles (runs.turned _ _ cycles on.same) (moves_there on.longer cycles on.is_run on.legal)
+
     fair_there : (run : Run) (cycles : ℕ) → IsRun netlist run cycles → IsLegalRun whole (module_run plan netlist run) cycles → IsFair whole (module_run plan netlist run) cycles
     fair_there run cycles r legal =
         let on = goes_on run cycles r in
@@ -409,8 +422,8 @@ module _ (plan : PlanTable) (netlist : Netlist) (m : IsMemoryIn plan netlist) (f
     served_there = record {
       kept = fabrics.kept;
       safe = safe_there;
-      awake = awake_there;
-      moves = moves_there;
+      awake = awake_whole;
+      moves = moves_whole;
       accepts = accepts_there;
       fair = fair_there;
       reads_back = λ run cycles host agent contents here there r legal acts.

@@ -51,7 +51,7 @@ pub record AgentsAgreeAt (one two : AgentView) (c : ℕ) : Type 0 where
   pub response : one.response c ≡ two.response c
   pub grant : one.grant c ≡ two.grant c
 
-same_levels : {a b d e f g a' b' d' e' f' g' : ℕ} → a ≡ a' → b ≡ b' → d ≡ d' → e ≡ e' → f ≡ f' → g ≡ g' →
+pub same_levels : {a b d e f g a' b' d' e' f' g' : ℕ} → a ≡ a' → b ≡ b' → d ≡ d' → e ≡ e' → f ≡ f' → g ≡ g' →
     let one : Levels = record { read = a; write = b; address = d; word = e; enables = f; count = g } in
     let other : Levels = record { read = a'; write = b'; address = d'; word = e'; enables = f'; count = g' } in
     one ≡ other

@@ -18,6 +18,7 @@ pub mod Shown
 pub mod Served
 pub mod HostsShown
 pub mod HostsServed
+pub mod Feeding
 pub mod HostsDriven
 pub mod Unneeded
 pub mod Modules

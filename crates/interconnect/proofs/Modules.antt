@@ -34,6 +34,7 @@ use Rattle.pruned_netlists.specs.Pruned.{IsPruned}
 use Rattle.pruned_netlists.specs.Inputs.{inputs_needed}
 use Rattle.settled_netlists.specs.Settled.{IsSettled}
 use Rattle.interconnect.proofs.Unneeded.{Replaces, KeepsWires, pruned_replaces, settled_replaces, pruned_keeps, settled_keeps, memory_as, stream_as, wired_as, counted_at}
+use Rattle.interconnect.specs.Going.{LegalRunsGoOn}
 use Rattle.interconnect.specs.Joins.{IsJoinedUpTo}
 use Rattle.interconnect.specs.Interconnect.{IsInterconnect}
 use Rattle.interconnect.proofs.Weights.{HasFewLinks, memory_few}
@@ -174,9 +175,10 @@ all_driven plan netlist w k width o =
 module_few : (plan : PlanTable) (netlist : Netlist) → IsWhole plan netlist → length netlist.lines ≤ weight_of plan.system
 module_few plan netlist w = let most = w.upto.few in let inputs = w.known.inputs_by_ends in let memory = memory_few plan.system w.few_links in omega (arith, most, inputs, memory)
 
-pub interconnect_is : (plan : PlanTable) (netlist : Netlist) → FabricLaws plan → RunLaws → ((run : Run) (cycles : ℕ) → IsRun netlist run cycles → GoesOn netlist run cycles) → IsWhole plan netlist → IsInterconnect plan netlist
+pub interconnect_is : (plan : PlanTable) (netlist : Netlist) → FabricLaws plan → RunLaws → ((run : Run) (cycles : ℕ) → IsRun netlist run cycles → GoesOn netlist run cycles)
+    → LegalRunsGoOn plan netlist → IsWhole plan netlist → IsInterconnect plan netlist
 unfolding place_of_stream joined_in
-interconnect_is plan netlist fabrics runs goes_on w =
+interconnect_is plan netlist fabrics runs goes_on going w =
     let system = plan.system in
     record {
       name = w.upto.name;
@@ -185,7 +187,7 @@ interconnect_is plan netlist fabrics runs goes_on w =
       wired = λ number connection source sink is wire. is_wired system number connection netlist (joined_in plan number connection source sink netlist w is) wire
           (w.upto.lows (wires_before system number) (wire_below system number is.place is.place_is (wire_at system connection is.place source sink is.connection_is is.source_is is.sink_is wire)));
       streams = λ number connection source sink is. is_served system number connection netlist (joined_in plan number connection source sink netlist w is);
-      memory = served plan netlist (memory_in plan netlist w) fabrics runs goes_on;
+      memory = served plan netlist (memory_in plan netlist w) fabrics runs goes_on going;
     }
 
 -- ---- with constants for settled nets, and without what no output depends on

@@ -133,13 +133,13 @@ memory_as plan whole pruned p h = record {
   safe = λ run cycles is legal. (let w = p.runs run cycles is in
       let same = same_memory plan whole pruned w.whole_run run w.signals in
       subst (λ (m : MemoryRun). IsSafe AreCodes (memory_system plan) m cycles) same (h.safe w.whole_run cycles w.is_run (subst (λ (m : MemoryRun). IsLegalRun (memory_system plan) m cycles) (sym same) legal)));
-  awake = λ run cycles is legal. (let w = p.runs run (cycles + 2) is in
+  awake = λ run cycles is legal. (let w = p.runs run cycles is in
       let same = same_memory plan whole pruned w.whole_run run w.signals in
-      subst (λ (m : MemoryRun). NeverIdles (memory_system plan) m cycles) same (h.awake w.whole_run cycles w.is_run (subst (λ (m : MemoryRun). IsLegalRun (memory_system plan) m (cycles + 2)) (sym same) legal)));
-  moves = λ run cycles is legal. (let w = p.runs run (cycles + 2) is in
+      subst (λ (m : MemoryRun). NeverIdles (memory_system plan) m cycles) same (h.awake w.whole_run cycles w.is_run (subst (λ (m : MemoryRun). IsLegalRun (memory_system plan) m cycles) (sym same) legal)));
+  moves = λ run cycles is legal. (let w = p.runs run cycles is in
       let same = same_memory plan whole pruned w.whole_run run w.signals in
       subst (λ (m : MemoryRun). NoHostHangs (host_window (memory_system plan)) (memory_system plan) m cycles) same
-      (h.moves w.whole_run cycles w.is_run (subst (λ (m : MemoryRun). IsLegalRun (memory_system plan) m (cycles + 2)) (sym same) legal)));
+      (h.moves w.whole_run cycles w.is_run (subst (λ (m : MemoryRun). IsLegalRun (memory_system plan) m cycles) (sym same) legal)));
   accepts = λ run cycles is legal. (let w = p.runs run (cycles + 2) is in
       let same = same_memory plan whole pruned w.whole_run run w.signals in
       subst (λ (m : MemoryRun). AcceptsSoon (prompt_window (memory_system plan)) (memory_system plan) m cycles) same

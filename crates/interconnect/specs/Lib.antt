@@ -1,5 +1,6 @@
 pub mod Streams
 pub mod Memory
+pub mod Going
 pub mod Outputs
 pub mod Each
 pub mod Hosts

@@ -90,9 +90,9 @@ pub record ServesMemory (plan : PlanTable) (netlist : Netlist) : Type 0 where
   pub kept : IsMemoryPlan (memory_system plan)
   pub safe : (run : Run) (cycles : ℕ) → IsRun netlist run cycles → IsLegalRun (memory_system plan) (module_run plan netlist run) cycles
       → IsSafe AreCodes (memory_system plan) (module_run plan netlist run) cycles
-  pub awake : (run : Run) (cycles : ℕ) → IsRun netlist run (cycles + 2) → IsLegalRun (memory_system plan) (module_run plan netlist run) (cycles + 2)
+  pub awake : (run : Run) (cycles : ℕ) → IsRun netlist run cycles → IsLegalRun (memory_system plan) (module_run plan netlist run) cycles
       → NeverIdles (memory_system plan) (module_run plan netlist run) cycles
-  pub moves : (run : Run) (cycles : ℕ) → IsRun netlist run (cycles + 2) → IsLegalRun (memory_system plan) (module_run plan netlist run) (cycles + 2)
+  pub moves : (run : Run) (cycles : ℕ) → IsRun netlist run cycles → IsLegalRun (memory_system plan) (module_run plan netlist run) cycles
       → NoHostHangs (host_window (memory_system plan)) (memory_system plan) (module_run plan netlist run) cycles
   pub accepts : (run : Run) (cycles : ℕ) → IsRun netlist run (cycles + 2) → IsLegalRun (memory_system plan) (module_run plan netlist run) (cycles + 2)
       → AcceptsSoon (prompt_window (memory_system plan)) (memory_system plan) (module_run plan netlist run) cycles

@@ -3,6 +3,7 @@ ghost use Rattle.interconnect.specs.Interconnect.{IsInterconnect};
 ghost use Rattle.port_tables.specs.PortMaps.{AreTold};
 ghost use Rattle.pruned_netlists.specs.Needed.{IsNeeded};
 
+use crate::going::legal_runs_go_on;
 use crate::memory::join_memory;
 use crate::streams::{join_streams, low_nets};
 use address_map::{ends_are_joined, ends_have_one_number};
@@ -48,6 +49,7 @@ pub fn build(alloc: Global, plan: &Plan) -> Result<Built, NoMemory>
     packed_runs_agree();
     memory_is_read_back();
     goes_on();
+    legal_runs_go_on(plan);
     proper_records_are_bounded();
     ports_are_known(plan);
     let ports = PortMap::make(alloc, plan)?;

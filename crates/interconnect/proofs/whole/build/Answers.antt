@@ -70,7 +70,8 @@ returns-clause-module c =
       fair = c.same_beginnings.ensures.fair;
       packed = c.packed_runs_agree.ensures;
       reads = c.memory_is_read_back.ensures;
-    }) (c.goes_on.ensures c.join_streams.new.builder c.well_made-2.ensures) whole))
+    }) (c.goes_on.ensures c.join_streams.new.builder c.well_made-2.ensures)
+    (c.legal_runs_go_on.ensures c.join_streams.new.builder c.well_made-2.ensures whole.upto.ports) whole))
 
 pub returns-clause-needed : goal.returns-clause-needed
 returns-clause-needed c = c.in_ok-module.ensures.needed
