@@ -3,8 +3,8 @@
 
 A net is dead where no output port rests on it. A bit of a register is constant where it has the value of its reset in each cycle of every
 run, and so is a bit of a memory's words where only 0 is ever written to it: as many such bits as hold one another up, found bit by bit in three
-values. A third of the systems are workloads, the others the drawn ones of latency.py, with `response` at hosts and agents as is drawn. Each
-system with something left is told, and then the sums; `whole` are registers of which each bit is constant.
+values. A third of the systems are workloads, the others the drawn ones of latency.py that aren't plain, with `response` at hosts and agents as is
+drawn. Each system with something left is told, and then the sums; `whole` are registers of which each bit is constant.
 """
 import random
 import re
@@ -164,7 +164,7 @@ def scripts_of(number, systems):
     """What a system is called, and its scripts, its system's first."""
     if number % 3 == 0:
         return f"workload {number // 3}", scripts_of_workload(number // 3)
-    kinds, draw = list(latency.KINDS), random.Random(number)
+    kinds, draw = [kind for kind in latency.KINDS if not kind.startswith("plain")], random.Random(number)
     kind = kinds[number % len(kinds)]
     row = latency.drawn(kind, number, 1)
     for host in row.hosts:

@@ -24,7 +24,7 @@ SYSTEMS, CYCLES = 200, 200
 
 
 class Side(NamedTuple):
-    """What a window rests on of a host or an agent: the bytes of a word, byte enables, of a host its burstcount, of an agent its longest wait time."""
+    """What a window rests on of a host or an agent: the bytes of a word, byte enables, a host's burstcount, an agent's longest wait time."""
 
     bytes: int
     enables: bool
@@ -283,9 +283,9 @@ def accesses(draw, bits, burst, agents, count, busy):
 KINDS = {
     "plain": ([32], [32], [0], [0]),
     "plain, stages": ([32], [32], [0], [0]),
-    "bursts": ([32], [32], [0, 2, 3], [3]),
+    "wires": ([32], [32], [0, 2, 3], [3]),
     "wait times": ([32], [32], [0], [0]),
-    "bursts, stages": ([32], [32], [0, 2, 3], [3]),
+    "stages": ([32], [32], [0, 2, 3], [3]),
     "bursts cut": ([32], [32], [3, 4], [0, 1, 2]),
     "wide to narrow": ([32, 64, 128], [8, 16, 32], [0, 0, 3], [0]),
     "narrow to wide": ([8, 16, 32], [32, 64, 128], [0], [0]),
