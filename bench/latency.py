@@ -6,7 +6,8 @@ first beat is shown to the one in which its last beat is accepted, its last oper
 in a row in which it was the oldest unfinished one of its host, its agent neither raised waitrequest nor owed a word, each write burst for the
 agent went on, and still the command didn't move. A line for each kind of system has the longest life, and the longest stand with the cycles of
 one round of its agent, how many hosts stood longer than theirs, and the window within which a command moves on. A stand that is as long
-as its window ends the run with status 1. Where an agent's hosts aren't all plain the windows are longer than such runs: the round says more there.
+as its window ends the run with status 1. So does a wait that is as long as its bound: cycles in a row in which beats of the oldest command lack and none
+is accepted, whatever words the agent owes, where the agent never raises waitrequest and all its hosts are plain (longest wait, and its bound). Where an agent's hosts aren't all plain the windows are longer than such runs: the round says more there.
 
 With a FOLDER of scripts, of which one is a system's, the window of each of its connections of hosts and agents is printed.
 """
@@ -84,6 +85,13 @@ def host_window(sizes, agent, host):
     return (2 * own_steps + 1) * (standing_quietly + word_time + 1) + behind
 
 
+def prompt_window(sizes, agent, host, late):
+    """`prompt_window` of crates/mm_awake/specs/Onward.antt, where all hosts are plain and the agent owes nothing after `late` cycles in which it takes nothing."""
+    below, stages = sizes.agents[agent], sizes.stages
+    around = sum(shares for each, shares in sizes.shares[agent].items() if each != host)
+    return around * (below.wait + stages + 2) + below.wait + stages + 1 + late * (around + 2 * stages + 1)
+
+
 def one_round(sizes, agent, host):
     """What isn't proved: the beats of the others' shares, one of its own, and those that stages hold, at the agent's pace."""
     below = sizes.agents[agent]
@@ -117,7 +125,7 @@ class Watched:
         self.number, self.host, self.row, self.route = number, host, row, route
         self.commands, self.last = deque(), None
         self.issued, self.taken = [0] * len(row.agents), [0] * len(row.agents)
-        self.asked = self.given = self.stood = 0
+        self.asked = self.given = self.stood = self.waited = 0
 
     def place_of(self, access):
         address = access.address * (self.host.bytes if self.host.counts_words else 1)
@@ -157,6 +165,12 @@ class Watched:
         """Whether a write burst for the agent is under way and no beat is shown."""
         return shown is None and bool(self.commands) and self.commands[-1].beats > 0 and self.commands[-1].place == agent
 
+    def waits(self, accepted, goes_on):
+        """For how many cycles beats of the oldest command have lacked, whose burst goes on, and none was accepted."""
+        lacks = goes_on and bool(self.commands) and self.commands[0].beats > 0 and (self.last.kind == "w" or self.host.valid)
+        self.waited = self.waited + 1 if lacks and not accepted else 0
+        return self.waited
+
     def sees(self, cycle, wanted, accepted, taken, given):
         """What went by: whether the agent of the oldest command lets it move, a beat accepted, the bytes that each agent took, a word given. Told
         are how long that command has stood, and the lives of those that are finished."""
@@ -195,20 +209,20 @@ class Owed:
 
 
 def run(row):
-    """Of each command that stands: (cycles, agent, host); of each that is finished its life."""
+    """By agent and host the longest stand and the longest wait, and the lives of the commands that are finished."""
     hosts = [bus_model.Host(host, accesses) for host, accesses in zip(row.hosts, row.accesses)]
     memories = [bus_model.Memory(number, agent) for number, agent in enumerate(row.agents)]
     system = bus_model.System(row)
     watched = [Watched(number, host, row, system.routes[number]) for number, host in enumerate(row.hosts)]
     owed = [Owed(agent) for agent in row.agents]
-    stands, lives = {}, []
+    stands, longest_waits, lives = {}, {}, []
     for cycle in range(row.cycles):
         shown = [host.shows() for host in hosts]
         commands = system.below(shown)
         waits = [memory.waits(cycle, command) for memory, command in zip(memories, commands)]
         words = [memory.gives(cycle) for memory in memories]
         told = system.above(waits, words)
-        taken, free = [{} for _ in hosts], []
+        taken, free, goes_on = [{} for _ in hosts], [], []
         for each, access in zip(watched, shown):
             each.shows(cycle, access)
         for number, (command, agent) in enumerate(zip(commands, row.agents)):
@@ -218,10 +232,14 @@ def run(row):
                 taken[command.tag][number] = bin(lanes).count("1") * (command.left if command.kind == "r" else 1)
             owes = owed[number].edge(cycle, command.left if accepts and command.kind == "r" else 0, words[number] is not None)
             stalls = bool(agent.wait) and waits[number]
-            free.append(not owes and not stalls and not any(each.burst_waits(number, access) for each, access in zip(watched, shown)))
+            goes_on.append(not any(each.burst_waits(number, access) for each, access in zip(watched, shown)))
+            free.append(not owes and not stalls and goes_on[-1])
         for number, (each, access, (wait, word)) in enumerate(zip(watched, shown, told)):
             oldest = each.commands[0] if each.commands else None
             wanted = oldest is not None and oldest.place is not None and free[oldest.place]
+            if oldest is not None and oldest.place is not None:
+                waited = each.waits(access is not None and not wait, goes_on[oldest.place])
+                longest_waits[oldest.place, number] = max(longest_waits.get((oldest.place, number), 0), waited)
             stood, ended = each.sees(cycle, wanted, access is not None and not wait, taken[number], word is not None)
             if wanted:
                 stands[oldest.place, number] = max(stands.get((oldest.place, number), 0), stood)
@@ -232,7 +250,7 @@ def run(row):
             host.sees(access, wait, word)
         system.edge()
     assert all(each.kept for each in hosts + memories), "a rule was broken"
-    return stands, lives
+    return stands, longest_waits, lives
 
 
 # ---- what is drawn
@@ -313,21 +331,31 @@ def drawn(kind, number, cycles):
 
 
 def measured(kind, systems, cycles):
-    """The longest stand with its window, and the longest life, of so many systems of a kind."""
-    longest, over, ended = (0, 0, 0), 0, []
+    """The longest stand with its window, the longest wait with its bound, and the longest life, of so many systems of a kind."""
+    longest, longest_wait, over, ended = (0, 0, 0), (0, 0), 0, []
     for number in range(systems):
         row = drawn(kind, number, cycles)
-        stands, lives = run(row)
+        stands, waits, lives = run(row)
         ended += lives
+        sizes = sizes_of_row(row)
+        for (agent, host), waited in waits.items():
+            side = row.agents[agent]
+            if set(str(side.wait or 0)) != {"0"} or not all(sizes.is_alike(sizes.hosts[each], sizes.agents[agent]) for each in sizes.shares[agent]):
+                continue
+            bound = prompt_window(sizes, agent, host, max(side.latency, 1))
+            if waited >= bound:
+                print(f"{kind}, system {number}: a beat of host {host} waited at agent {agent} for {waited} cycles, and its bound is {bound}")
+                sys.exit(1)
+            longest_wait = max(longest_wait, (waited, -bound))
         for (agent, host), stood in stands.items():
-            sizes = sizes_of_row(row)
             window, rounds = host_window(sizes, agent, host), one_round(sizes, agent, host)
             if stood >= window:
                 print(f"{kind}, system {number}: a command of host {host} stood at agent {agent} for {stood} cycles, and its window has {window}")
                 sys.exit(1)
             longest, over = max(longest, (stood, -rounds, -window)), over + (stood > rounds)
     stood, rounds, window = map(abs, longest)
-    print(f"{kind:<16} {systems:7} {systems * cycles:8} {len(ended):9} {max(ended):7} {stood:6} {rounds:6} {over:5} {window:8}", flush=True)
+    print(f"{kind:<16} {systems:7} {systems * cycles:8} {len(ended):9} {max(ended):7} {stood:6} {rounds:6} {over:5} {window:8}"
+          + (f" {longest_wait[0]:6} {-longest_wait[1]:6}" if longest_wait[1] else f" {'-':>6} {'-':>6}"), flush=True)
 
 
 # ---- the windows of a system that is given
@@ -367,13 +395,16 @@ def windows(folder):
     for agent, hosts in sizes.shares.items():
         for host in hosts:
             print(f"{host} at {agent}: moves on within {host_window(sizes, agent, host)} cycles")
+            if all(sizes.is_alike(sizes.hosts[each], sizes.agents[agent]) for each in hosts):
+                first, more = prompt_window(sizes, agent, host, 0), prompt_window(sizes, agent, host, 1) - prompt_window(sizes, agent, host, 0)
+                print(f"  a beat is accepted within {first} + {more} L cycles, where the agent never waits and answers within L")
 
 
 def main(first=str(SYSTEMS), cycles=str(CYCLES)):
     if not first.isdigit():
         windows(Path(first))
         return
-    print(f"{'kind':<16} {'systems':>7} {'cycles':>8} {'commands':>9} {'life':>7} {'stand':>6} {'round':>6} {'over':>5} {'window':>8}")
+    print(f"{'kind':<16} {'systems':>7} {'cycles':>8} {'commands':>9} {'life':>7} {'stand':>6} {'round':>6} {'over':>5} {'window':>8} {'wait':>6} {'bound':>6}")
     for place, kind in enumerate(KINDS):
         systems = (int(first) + len(KINDS) - 1 - place) // len(KINDS)
         measured(kind, systems, int(cycles))
