@@ -160,7 +160,7 @@ def value_of(side, nets, values, kept):
 
 # ---- the systems
 
-def scripts_of(number, systems):
+def scripts_of(number):
     """What a system is called, and its scripts, its system's first."""
     if number % 3 == 0:
         return f"workload {number // 3}", scripts_of_workload(number // 3)
@@ -188,7 +188,7 @@ def generated(program, scripts):
 def main(program, systems="300"):
     program, sums = str(Path(program).resolve()), [0] * 7
     for number in range(int(systems)):
-        name, scripts = scripts_of(number, int(systems))
+        name, scripts = scripts_of(number)
         text = generated(program, scripts)
         dead, (registers, memories) = text.dead(), text.constants()
         bits = {f"n{net}": bin(mask & ones(text.nets[net][0])).count("1") for net, mask in registers.items()}

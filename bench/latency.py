@@ -48,55 +48,61 @@ class Sizes(NamedTuple):
         """Whether a host's plain commands reach the agent one for one."""
         return host.bytes == agent.bytes and not host.burst and (agent.enables or not host.enables)
 
+    def are_alike(self, agent):
+        return all(self.is_alike(self.hosts[each], self.agents[agent]) for each in self.shares[agent])
+
+    def round_by(self, agent, host, steps):
+        """A round of the others: for each share the steps of a command."""
+        return sum(shares * steps(each) for each, shares in self.shares[agent].items() if each != host)
+
+    def standing_by(self, agent, around):
+        """For so many cycles a beat stands, each beat of the others with its wait states, a cycle in which its word comes, and one for each stage."""
+        wait, stages = self.agents[agent].wait, self.stages
+        return around * (wait + stages + 2) + wait + stages + 1
+
+    def longest(self, host):
+        return self.hosts[host].longest()
+
 
 def host_window(sizes, agent, host):
     """`host_window` of crates/mm_waits/specs/Windows.antt, with the names that the pieces have there."""
-    below, stages, others = sizes.agents[agent], sizes.stages, [each for each in sizes.shares[agent] if each != host]
+    below, stages = sizes.agents[agent], sizes.stages
 
     def fitted_steps(each):
         # for each beat, and for one more, its pieces at the agent's words, and the cycles in which the words of a wide one are given out
         own, piece = sizes.hosts[each], min(sizes.hosts[each].bytes, below.bytes)
         return (own.longest() + 1) * (own.bytes // piece + below.bytes // piece)
 
-    def round_by(steps):
-        # a round of the others: for each share the steps of a command
-        return sum(sizes.shares[agent][each] * steps(each) for each in others)
-
-    def standing_by(around):
-        # a beat stands for so many cycles, each beat of the others with its wait states, a cycle in which its word comes, and one for each stage
-        return around * (below.wait + stages + 2) + below.wait + stages + 1
-
     # in so many cycles an agent that doesn't stall takes all that stands in the stages: two beats for each
     pipe_time = sum(2 * (below.wait + stage + 2) for stage in range(stages))
     # twice that, and the way of a word up
     behind = 2 * pipe_time + stages + 6
-    if all(sizes.is_alike(sizes.hosts[each], below) for each in sizes.shares[agent]):
+    if sizes.are_alike(agent):
         # `waiting_window`: all are wired to the arbiter
-        return standing_by(round_by(lambda each: sizes.hosts[each].longest())) + 1 + behind
+        return sizes.standing_by(agent, sizes.round_by(agent, host, sizes.longest)) + 1 + behind
     # `row_window`: the others' steps, with a cycle for each beat without a lane, and two more
-    around = round_by(lambda each: 2 * fitted_steps(each) + 2)
+    around = sizes.round_by(agent, host, lambda each: 2 * fitted_steps(each) + 2)
     # what is still to be taken of the host's own, twice where a beat of it may be kept, and as much again until that one is sent
     own_steps = 4 * fitted_steps(host) + 3
     # by then all words have come that were asked behind an arbiter
     word_time = pipe_time + stages + 3
     # each beat of the others may bring its words, while which a link may hold another back
-    standing_quietly = standing_by(around) + word_time * (around + 1)
+    standing_quietly = sizes.standing_by(agent, around) + word_time * (around + 1)
     # so for each step, before which all words may have to come
     return (2 * own_steps + 1) * (standing_quietly + word_time + 1) + behind
 
 
 def prompt_window(sizes, agent, host, late):
     """`prompt_window` of crates/mm_awake/specs/Onward.antt, where all hosts are plain and the agent owes nothing after `late` cycles in which it takes nothing."""
-    below, stages = sizes.agents[agent], sizes.stages
-    around = sum(shares for each, shares in sizes.shares[agent].items() if each != host)
-    return around * (below.wait + stages + 2) + below.wait + stages + 1 + late * (around + 2 * stages + 1)
+    around = sizes.round_by(agent, host, sizes.longest)
+    return sizes.standing_by(agent, around) + late * (around + 2 * sizes.stages + 1)
 
 
 def one_round(sizes, agent, host):
     """What isn't proved: the beats of the others' shares, one of its own, and those that stages hold, at the agent's pace."""
     below = sizes.agents[agent]
     steps = {each: side.longest() * max(1, side.bytes // below.bytes) for each, side in sizes.hosts.items()}
-    around = sum(shares * steps[each] for each, shares in sizes.shares[agent].items() if each != host)
+    around = sizes.round_by(agent, host, steps.get)
     return (around + 2 * sizes.stages + 1) * (below.wait + 1) + 2 * sizes.stages + 1
 
 
@@ -340,7 +346,7 @@ def measured(kind, systems, cycles):
         sizes = sizes_of_row(row)
         for (agent, host), waited in waits.items():
             side = row.agents[agent]
-            if set(str(side.wait or 0)) != {"0"} or not all(sizes.is_alike(sizes.hosts[each], sizes.agents[agent]) for each in sizes.shares[agent]):
+            if set(str(side.wait or 0)) != {"0"} or not sizes.are_alike(agent):
                 continue
             bound = prompt_window(sizes, agent, host, max(side.latency, 1))
             if waited >= bound:
@@ -395,7 +401,7 @@ def windows(folder):
     for agent, hosts in sizes.shares.items():
         for host in hosts:
             print(f"{host} at {agent}: moves on within {host_window(sizes, agent, host)} cycles")
-            if all(sizes.is_alike(sizes.hosts[each], sizes.agents[agent]) for each in hosts):
+            if sizes.are_alike(agent):
                 first, more = prompt_window(sizes, agent, host, 0), prompt_window(sizes, agent, host, 1) - prompt_window(sizes, agent, host, 0)
                 print(f"  a beat is accepted within {first} + {more} L cycles, where the agent never waits and answers within L")
 
