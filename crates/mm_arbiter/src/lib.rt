@@ -1,4 +1,13 @@
 //! The nets that let hosts take turns at an agent, as equations.
+//!
+//! Of the hosts that ask one goes on in its cycle, by weighted round robin over whole commands: the holder of the turn
+//! while its command is open, or while it asks and has shares left, and else the next one that asks, in the order of the
+//! seats, which then holds the turn. The others wait. A word goes to the host whose tag it bears.
+//!
+//! - State: a bit for each host, which of them holds the turn (at first the last one), the shares that it has left, in 6
+//!   bits, and one bit inside a command. One host alone is a wire, and keeps nothing.
+//! - Cycles: none are added, and none is lost where the turn goes on.
+//! - Limits: 1 to 128 hosts, each with 1 to 63 shares.
 #![tactic(auto)]
 
 mod arbiter;

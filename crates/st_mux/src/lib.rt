@@ -1,4 +1,11 @@
 //! Multiplexers and demultiplexers as equations.
+//!
+//! A multiplexer leads one input at a time to the output, packet by packet and in turn, with its number as the channel; a
+//! demultiplexer leads each beat to the output that has the number of its channel.
+//!
+//! - State: of a multiplexer the input that it led last, and a bit that it has to stay with it; of a demultiplexer none.
+//! - Cycles: none are added, and none is lost where the input changes.
+//! - Limits: up to 16 inputs or outputs.
 #![tactic(auto)]
 
 pub mod demux;

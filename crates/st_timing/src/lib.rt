@@ -1,4 +1,14 @@
 //! The stages of a stream between two ready latencies, as equations with the law that each keeps.
+//!
+//! `ReadyDelay` shows ready some cycles late, towards a larger ready latency. `ReadyBuffer`, behind a latency, and
+//! `AllowanceBuffer`, behind an allowance above it, hold the beats that still come when ready has fallen, and lead to
+//! latency 0. `TieReady` shows ready always, before a sink that is always ready. `timing_of` tells which of the last three
+//! a source needs, if any.
+//!
+//! - State: of a delay a bit of ready for each cycle; of a buffer behind latency L up to L + 1 beats, their count, that of
+//!   free places and L bits of ready; behind allowance A up to A + 2 beats and their count. Of a tie none.
+//! - Cycles: none for a beat, and a beat goes in each cycle.
+//! - Limits: latencies of up to 8 cycles, and allowances of up to 16.
 #![tactic(auto)]
 
 pub mod allowance;
