@@ -9,7 +9,7 @@ ghost use Rattle.command_nets.specs.Nets.{AreCommandNets};
 ghost use Rattle.read_queues.specs.Held.{owns_queue, AreWordsOf};
 ghost use Rattle.mm_agent.specs.Agents.{AreAgentNets, BearsOneTag, AreMadeNets, read_of, counts_words, needs_queue, count_of, count_bits};
 ghost use Rattle.mm_agent.specs.Reads.{held_queue, IsReadQueue};
-ghost use Rattle.mm_agent.specs.Forms.{part_nets, agent_nets, agent_memories, HasNoRoom, owns, sets, traffic_of, IsAgentPart, IgnoresAnswer, RunsAsAgent};
+ghost use Rattle.mm_agent.specs.Forms.{part_nets, agent_nets, agent_memories, HasNoRoom, owns, sets, traffic_of, IsAgentPart, AnyQueueGoesOn, IgnoresAnswer, RunsAsAgent};
 
 use crate::answers::{answer_tag, give_answer};
 use crate::fields::place_address;
@@ -159,6 +159,7 @@ fn emit_around(
     ensures part { IfOk result (λ made. IsAgentPart builder.new several port.now nets.now command.now made) }
     ensures one_tag { IfOk result (λ made. several ≡ false → made.answer_tag ≡ command.now.tag) }
     ensures registers { IfOk result (λ made. (n : ℕ) → owns made n → IsRegister builder.new n) }
+    ensures queue { IfOk result (AnyQueueGoesOn builder.new port.now command.now) }
     ensures machine { IfOk result (λ made. RunsAsAgent builder.new port.now nets.now command.now made) }
     ensures grows { GrowsInMemory 50 0 builder.old builder.new }
     ensures waits { (n : ℕ) → ¬ owns_queue queue n → IsWaiting builder.old n → IsWaiting builder.new n }
@@ -194,6 +195,7 @@ fn emit_queued(
     ensures part { IfOk result (λ made. IsAgentPart builder.new several port.now nets.now command.now made) }
     ensures one_tag { IfOk result (λ made. several ≡ false → made.answer_tag ≡ command.now.tag) }
     ensures registers { IfOk result (λ made. (n : ℕ) → owns made n → IsRegister builder.new n) }
+    ensures queue { IfOk result (AnyQueueGoesOn builder.new port.now command.now) }
     ensures machine { IfOk result (λ made. RunsAsAgent builder.new port.now nets.now command.now made) }
     ensures grows { GrowsInMemory 60 1 builder.old builder.new }
     ensures waits { StillWait builder.old builder.new }
@@ -232,6 +234,7 @@ pub fn emit_agent(
     ensures one_tag { IfOk result (λ made. several ≡ false → made.answer_tag ≡ command.now.tag) }
     ensures registers { IfOk result (λ made. (n : ℕ) → owns made n → IsRegister builder.new n) }
     ensures ignores { IfOk result (λ made. IgnoresAnswer builder.new command.now made) }
+    ensures queue { IfOk result (AnyQueueGoesOn builder.new port.now command.now) }
     ensures machine { IfOk result (λ made. RunsAsAgent builder.new port.now nets.now command.now made) }
     ensures grows { GrowsInMemory (agent_nets several port.now) (agent_memories several port.now) builder.old builder.new }
     ensures grows_alone { needs_queue several port.now ≡ false → GrowsBy (agent_nets several port.now) builder.old builder.new }

@@ -6,3 +6,4 @@ pub mod Machine
 pub mod Same
 pub mod Ignores
 pub mod Wider
+pub mod Passes

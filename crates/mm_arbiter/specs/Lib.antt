@@ -8,3 +8,4 @@ pub mod Backward
 pub mod Backs
 pub mod Machine
 pub mod Wider
+pub mod Passes

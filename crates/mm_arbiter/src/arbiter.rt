@@ -10,6 +10,7 @@ ghost use Rattle.mm_arbiter.specs.Forward.{owns, ArbiterKeeps, ArbiterForward, a
 ghost use Rattle.mm_arbiter.specs.Backward.{AreBelowNets, lone_back, back_nets};
 ghost use Rattle.mm_arbiter.specs.Backs.{HostsFit};
 ghost use Rattle.mm_arbiter.specs.Machine.{seats_from, AreApart, BearsTag, ArbiterBackward, RunsAsArbiter};
+ghost use Rattle.mm_arbiter.specs.Passes.{PassesOn};
 ghost use Rattle.command_nets.specs.declared.nets.CommandNets.{CommandNets};
 
 use crate::asker::Asker;
@@ -113,6 +114,8 @@ pub fn finish_arbiter(
     ensures made { IfOk result (λ backs. ArbiterBackward askers.now held.now below.now word_bits backs.items builder.new) }
     ensures machine { IfOk result (λ backs. (commands : List CommandNets) (command : CommandNets) → length commands ≡ length askers.now
         → ArbiterForward askers.now commands command held.now builder.new → RunsAsArbiter builder.new askers.now commands command below.now backs.items) }
+    ensures passes { IfOk result (λ backs. (commands : List CommandNets) (command : CommandNets) → length commands ≡ length askers.now
+        → ArbiterForward askers.now commands command held.now builder.new → PassesOn builder.new askers.now commands command below.now backs.items) }
     ensures grows { GrowsBy (back_nets (length askers.now)) builder.old builder.new }
     ensures waits { (n : ℕ) → ¬ owns held.now n → IsWaiting builder.old n → IsWaiting builder.new n }
     ensures no_more_wait { OnOk result (WaitsWithout (owns held.now) builder.old builder.new) }

@@ -75,6 +75,9 @@ returns-then-needs_queue-clause-ignores c =
     (λ made part. ignores c.args.several c.args.port.now c.args.nets.now c.emit_queued.new.builder c.args.command.now made c.requires.port part)
     c.emit_queued.ensures.part
 
+pub returns-then-needs_queue-clause-queue : goal.returns-then-needs_queue-clause-queue
+returns-then-needs_queue-clause-queue c = c.emit_queued.ensures.queue
+
 pub returns-then-needs_queue-clause-machine : goal.returns-then-needs_queue-clause-machine
 returns-then-needs_queue-clause-machine c = c.emit_queued.ensures.machine
 
@@ -130,6 +133,12 @@ returns-else-needs_queue-clause-ignores c =
 
 no_queue_goes_on : (netlist : Netlist) (port : AgentPort) (command : CommandNets) (made : AgentMade) → held_queue made.reads ≡ None → AnyQueueGoesOn netlist port command made
 no_queue_goes_on netlist port command made none queue is = absurd (cc)
+
+pub returns-else-needs_queue-clause-queue : goal.returns-else-needs_queue-clause-queue
+returns-else-needs_queue-clause-queue c =
+    if_ok c.emit_part.result _ (AnyQueueGoesOn c.emit_part.new.builder c.args.port.now c.args.command.now)
+    (λ made queue. no_queue_goes_on c.emit_part.new.builder c.args.port.now c.args.command.now made queue)
+    c.emit_part.ensures.queue
 
 pub returns-else-needs_queue-clause-machine : goal.returns-else-needs_queue-clause-machine
 returns-else-needs_queue-clause-machine c =

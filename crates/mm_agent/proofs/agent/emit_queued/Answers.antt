@@ -128,6 +128,9 @@ returns-clause-part c = c.emit_around.ensures.part
 pub returns-clause-registers : goal.returns-clause-registers
 returns-clause-registers c = c.emit_around.ensures.registers
 
+pub returns-clause-queue : goal.returns-clause-queue
+returns-clause-queue c = c.emit_around.ensures.queue
+
 pub returns-clause-machine : goal.returns-clause-machine
 returns-clause-machine c = c.emit_around.ensures.machine
 

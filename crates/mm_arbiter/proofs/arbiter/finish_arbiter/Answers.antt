@@ -9,6 +9,8 @@ use Rattle.mm_arbiter.specs.Backward.{RoundBackward}
 use Rattle.mm_arbiter.specs.Machine.{ArbiterBackward, RunsAsArbiter}
 use Rattle.mm_arbiter.proofs.Picks.{both_ok}
 use Rattle.mm_arbiter.proofs.Machine.{nets_are_an_arbiter, nets_are_a_wire, one_asker, ok_of}
+use Rattle.mm_arbiter.specs.Passes.{PassesOn}
+use Rattle.mm_arbiter.proofs.Passes.{round_passes, wire_passes}
 use Rattle.mm_arbiter.proofs.arbiter.finish_arbiter.Goals as goal
 
 pub returns-in-None-clause-machine : goal.returns-in-None-clause-machine
@@ -18,6 +20,13 @@ returns-in-None-clause-machine c =
     (λ backs is commands command same f.
     nets_are_a_wire c.lone_arbiter_is_a_wire.ensures c.args.builder.now c.args.askers.now commands command c.args.below.now backs.items
     (one_asker c.args.held.now.round (length c.args.askers.now) c.requires.held.kind c.in-None.is c.requires.some_askers) (f.alone c.in-None.is) c.requires.tag is)
+    c.back_to_one.ensures.made
+
+pub returns-in-None-clause-passes : goal.returns-in-None-clause-passes
+returns-in-None-clause-passes c =
+    if_ok c.back_to_one.result _ (λ backs. (commands : List CommandNets) (command : CommandNets) → length commands ≡ length c.args.askers.now → ArbiterForward c.args.askers.now commands command c.args.held.now c.args.builder.now
+    → PassesOn c.args.builder.now c.args.askers.now commands command c.args.below.now backs.items)
+    (λ backs is commands command same f. wire_passes c.args.builder.now c.args.askers.now commands command c.args.below.now backs.items (f.alone c.in-None.is) is)
     c.back_to_one.ensures.made
 
 pub returns-in_ok-step_turns-in-Some-clause-made : goal.returns-in_ok-step_turns-in-Some-clause-made
@@ -38,6 +47,15 @@ returns-in_ok-step_turns-in-Some-clause-machine c =
     nets_are_an_arbiter c.all_backs.new.builder c.args.askers.now commands command c.args.held.now c.in-Some.round c.args.below.now c.args.word_bits backs.items c.in-Some.is f
     (record { steps = λ run cycles r. c.in_ok-step_turns-in-Some.ensures.value run cycles (c.all_backs.ensures.adds.grows.extends.runs run cycles r); given = given }) same count c.requires.some_askers c.requires.apart)
     c.all_backs.ensures.count c.all_backs.ensures.made
+
+pub returns-in_ok-step_turns-in-Some-clause-passes : goal.returns-in_ok-step_turns-in-Some-clause-passes
+returns-in_ok-step_turns-in-Some-clause-passes c =
+    if_ok c.all_backs.result _ (λ backs. (commands : List CommandNets) (command : CommandNets) → length commands ≡ length c.args.askers.now → ArbiterForward c.args.askers.now commands command c.args.held.now c.all_backs.new.builder
+    → PassesOn c.all_backs.new.builder c.args.askers.now commands command c.args.below.now backs.items)
+    (λ backs given commands command same f.
+    round_passes c.all_backs.new.builder c.args.askers.now commands command c.args.held.now c.in-Some.round c.args.below.now c.args.word_bits backs.items c.in-Some.is f
+    (record { steps = λ run cycles r. c.in_ok-step_turns-in-Some.ensures.value run cycles (c.all_backs.ensures.adds.grows.extends.runs run cycles r); given = given }) same c.requires.some_askers)
+    c.all_backs.ensures.made
 
 pub returns-in_ok-step_turns-in-Some-clause-grows : goal.returns-in_ok-step_turns-in-Some-clause-grows
 returns-in_ok-step_turns-in-Some-clause-grows c = grows_within 2 _ _ _ _ _ c.step_turns.ensures.grows (adds_grow _ _ _ c.all_backs.ensures.adds) (omega arith)
