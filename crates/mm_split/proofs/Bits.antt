@@ -1,12 +1,15 @@
 -- Bits that tests make, and small sums.
-use Rattle.std.proofs.Common.{ℕ, zero, suc, ◌<◌, ◌≤◌, ◌≡◌, ◌+◌, ◌-◌, ◌*◌, ◌/◌, ◌%◌, ◌^◌, max, Bool, true, false, not, if◌then◌else◌, ◌==◌, nat_lt, arith, refl, sym, ap, ap₂, subst, ◌∙◌}
+use Rattle.std.proofs.Common.{ℕ, zero, suc, ◌<◌, ◌≤◌, ◌≡◌, ◌+◌, ◌-◌, ◌*◌, ◌/◌, ◌%◌, ◌^◌, max, Bool, true, false, not, ◌&&◌, if◌then◌else◌, ◌==◌, nat_lt, arith, refl, sym, ap, ap₂, subst, ◌∙◌}
 use Rattle.std.proofs.lemmas.Bool.{eqb-true, eqb-false, ne_eqb, lt-ltb, le-ltb, ltb-true, ltb-false}
 use Rattle.std.proofs.lemmas.Nat.{pow-add, pow_pos}
-use Rattle.std.proofs.Math.Nat.{mod-eq_of_lt, max-eq_left, max-eq_right, div-lt_iff_lt-mul, div-eq_of_lt}
+use Rattle.std.proofs.Math.Nat.{mod-eq_of_lt, max-eq_left, max-eq_right, div-lt_iff_lt-mul, div-eq_of_lt, mul_comm, mul-le-mul_left, mul-div_cancel_left}
 use Rattle.net_parts.specs.Growth.{fit_nets}
 use Rattle.std.proofs.Math.Pow.{pow_mono}
 use Rattle.histories.specs.History.{is_raised, one_if}
 use Rattle.command_nets.specs.Levels.{level_is}
+use Rattle.command_nets.specs.Groups.{chosen_raised}
+use Rattle.mm_split.specs.Pieces.{lane, is_marked}
+use Rattle.mm_split.proofs.Numbers.{power_within}
 
 pub some_or : (x one other : ℕ) → (if nat_lt 0 x then other else one) ≡ (if x == 0 then one else other)
 some_or zero one other = refl
@@ -100,3 +103,29 @@ counted width count one comes goes five few unit =
     moved count _ _ comes goes
     (ap₂ (λ x y. (count + x) % 2 ^ y) unit five ∙ one_more count few)
     (ap₂ (λ x y. if nat_lt 0 count then (count + (2 ^ y - x)) % 2 ^ y else count) unit five ∙ less_one count few)
+
+-- ---- the places of a word's pieces
+
+pub lanes_of_places : (pieces narrow bits lanes : ℕ) → pieces ≡ 2 ^ bits → pieces * narrow ≡ lanes → narrow * 2 ^ bits ≡ lanes
+lanes_of_places pieces narrow bits lanes power whole = mul_comm narrow (2 ^ bits) ∙ ap (λ n. n * narrow) (sym power) ∙ whole
+
+pub word_of_places : (pieces narrow bits lanes : ℕ) → pieces ≡ 2 ^ bits → pieces * narrow ≡ lanes → narrow * 8 * 2 ^ bits ≡ lanes * 8
+word_of_places pieces narrow bits lanes power whole = let same = lanes_of_places pieces narrow bits lanes power whole in omega (arith, same)
+
+pub taken_is : (bits word number : ℕ) → word / 2 ^ (bits * number) % 2 ^ bits ≡ lane bits word number
+taken_is bits word number = ap (λ n. word / 2 ^ n % 2 ^ bits) (mul_comm bits number)
+
+pub place_within : (pieces narrow bits wide : ℕ) → pieces ≡ 2 ^ bits → pieces * narrow ≡ 2 ^ wide → 1 ≤ narrow → bits ≤ wide
+place_within pieces narrow bits wide power whole some = power_within bits wide (let least : pieces * 1 ≤ pieces * narrow = mul-le-mul_left pieces some in omega (arith, power, whole, least))
+
+-- where a piece begins
+pub narrow_power : (pieces narrow bits wide : ℕ) → pieces ≡ 2 ^ bits → pieces * narrow ≡ 2 ^ wide → bits ≤ wide → 2 ^ (wide - bits) ≡ narrow
+narrow_power pieces narrow bits wide power whole within =
+    let sum : bits + (wide - bits) ≡ wide = omega (arith, within) in
+    let product : 2 ^ bits * 2 ^ (wide - bits) ≡ 2 ^ bits * narrow = sym (pow-add 2 bits (wide - bits)) ∙ ap (λ n. 2 ^ n) sum ∙ sym whole ∙ ap (λ n. n * narrow) power in
+    sym (mul-div_cancel_left (2 ^ (wide - bits)) {n = 2 ^ bits} (pow_pos bits)) ∙ ap (λ n. n / 2 ^ bits) product ∙ mul-div_cancel_left narrow {n = 2 ^ bits} (pow_pos bits)
+
+-- what is kept stays where all pieces are asked and the last one is
+pub whole_chosen : (all : Bool) (set number last kept low net : ℕ) → all ≡ true → last ≡ lane 1 set number → net ≡ (if last == 0 then low else kept) → net ≡ (if all && is_marked set number then kept else low)
+whole_chosen true set number last kept low net e is whole = whole ∙ chosen_raised last kept low ∙ ap (λ n. if is_raised n then kept else low) is
+whole_chosen false set number last kept low net e is whole = cc

@@ -77,15 +77,22 @@ pub(crate) fn come(
     requires answer { AreAnswerNets builder.old answer.now (sizes.now.narrow_bytes * 8) }
     ensures nets { IfOk result (λ made. AreComingNets builder.new sizes.now made) }
     ensures value { IfOk result (λ made. Always builder.new (λ cycle. TellsComing sizes.now registers.now answer.now made cycle)) }
-    ensures adds { AddsNets 166 builder.old builder.new }
-    ensures full { result ≡ Err NetFault.TooManyNets → 2 ^ 20 < length builder.old.lines + 166 }
+    ensures adds { AddsNets 168 builder.old builder.new }
+    ensures full { result ≡ Err NetFault.TooManyNets → 2 ^ 20 < length builder.old.lines + 168 }
 {
     let zeros = constant(builder, 4, 0)?;
     let place = fit_bits(builder, registers.come, sizes.place_bits, 5)?;
     let mask = registers.set;
     let found = find(builder, &Search { mask, place, zeros }, sizes.pieces)?;
     let completes = completes(builder, place, found.count)?;
-    let gathered = fill_word(builder, found.here, registers.word, answer.word, sizes)?;
+    let gathered = fill_word(
+        builder,
+        mask,
+        found.here,
+        registers.word,
+        answer.word,
+        sizes,
+    )?;
     let code = greater(builder, registers.code, answer.code)?;
     Ok(Coming {
         word: gathered.word,

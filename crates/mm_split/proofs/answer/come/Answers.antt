@@ -1,4 +1,4 @@
-use Rattle.std.proofs.Common.{◌+◌, ◌-◌, ◌*◌, ◌^◌, suc, nat_lt, sym, ap, ap₂, ◌∙◌, arith}
+use Rattle.std.proofs.Common.{◌-◌, ◌*◌, suc, nat_lt, sym, ap, ap₂, ◌∙◌, arith}
 use Rattle.net_parts.specs.Laws.{extends_twice, adds_twice, adds_fewer, net_lasts, width_fits}
 use Rattle.net_parts.specs.Refusing.{handed_on}
 use Rattle.mm_split.proofs.Bits.{place_is, place_small, fit_two}
@@ -119,8 +119,7 @@ returns-clause-value c cycle v =
     let count = (c.in_ok-found.ensures.value cycle v2).count_is in
     record {
       completes = c.in_ok-completes.ensures.value cycle v3 ∙ ap₂ (λ x y. nat_lt x (suc (suc y))) count place;
-      word = c.in_ok-gathered.ensures.word cycle v4
-          ∙ ap (λ m. cycle.net c.args.answer.now.word.number * 2 ^ ((c.args.sizes.now.pieces - 1) * (c.args.sizes.now.narrow_bytes * 8)) + fill (is_marked m) (c.args.sizes.now.narrow_bytes * 8) (cycle.net c.args.registers.now.word.number) (cycle.net c.args.answer.now.word.number) (c.args.sizes.now.pieces - 1)) here;
+      word = c.in_ok-gathered.ensures.word cycle v4;
       low = c.in_ok-gathered.ensures.low cycle v4 ∙ ap (λ m. fill (is_marked m) (c.args.sizes.now.narrow_bytes * 8) (cycle.net c.args.registers.now.word.number) (cycle.net c.args.answer.now.word.number) (c.args.sizes.now.pieces - 1)) here;
       code = c.in_ok-code.ensures.value cycle v;
     }
