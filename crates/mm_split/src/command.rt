@@ -20,7 +20,7 @@ use command_nets::{CommandNets, raise};
 use mm_select::take_place;
 use net_parts::{choose, constant, fit_bits, level};
 use net_terms::{
-    Add, And, Bit, Bus, Constant, Equals, Fit, Flag, IsZero, Less, MuxWord, NonZero, Not, Or, Wire,
+    And, Bit, Bus, Constant, Equals, Fit, Flag, IsZero, Less, MuxWord, NonZero, Not, Or, Sub, Wire,
     Word, emit_three, emit_two,
 };
 use netlist::{Builder, Net, NetFault};
@@ -135,11 +135,11 @@ fn look_above(
 {
     let stands = Or(Wire(from.read), Wire(from.write));
     let inside = Less(Bus(place), Bus(parts));
-    let next = Add(Bus(place), Constant { bits: 5, value: 1 });
+    let highest = Sub(Bus(parts), Constant { bits: 5, value: 1 });
     let (shows, last, none) = emit_three(
         builder,
         &And(And(stands, Wire(opens)), inside),
-        &Equals(next, Bus(parts)),
+        &Equals(Bus(place), highest),
         &IsZero(Bus(parts)),
     )?;
     Ok(AboveNets { shows, last, none })
