@@ -1,12 +1,15 @@
 -- Bits that tests make, and small sums.
-use Rattle.std.proofs.Common.{ℕ, zero, suc, ◌<◌, ◌≤◌, ◌≡◌, ◌+◌, ◌-◌, ◌*◌, ◌/◌, ◌%◌, ◌^◌, max, Bool, true, false, not, if◌then◌else◌, ◌==◌, nat_lt, arith, refl, sym, ap, ap₂, subst, ◌∙◌}
-use Rattle.std.proofs.lemmas.Bool.{eqb-true, eqb-false, ne_eqb, lt-ltb, le-ltb, ltb-true, ltb-false}
+use Rattle.std.proofs.Common.{ℕ, zero, suc, ◌<◌, ◌≤◌, ◌≡◌, ◌+◌, ◌-◌, ◌*◌, ◌/◌, ◌%◌, ◌^◌, max, Bool, true, false, not, ◌&&◌, ◌||◌, if◌then◌else◌, ◌==◌, nat_eq, nat_lt, arith, refl, sym, ap, ap₂, subst, ◌∙◌}
+use Rattle.std.proofs.lemmas.Bool.{eqb-true, eqb-false, eq-eqb, ne_eqb, lt-ltb, le-ltb, ltb-true, ltb-false}
 use Rattle.std.proofs.lemmas.Nat.{pow-add, pow_pos}
-use Rattle.std.proofs.Math.Nat.{mod-eq_of_lt, max-eq_left, max-eq_right, div-lt_iff_lt-mul, div-eq_of_lt}
+use Rattle.std.proofs.Math.Nat.{mod-eq_of_lt, max-eq_left, max-eq_right, div-lt_iff_lt-mul, div-eq_of_lt, mul_comm, mul-le-mul_left, mul-div_cancel_left}
 use Rattle.net_parts.specs.Growth.{fit_nets}
 use Rattle.std.proofs.Math.Pow.{pow_mono}
 use Rattle.histories.specs.History.{is_raised, one_if}
 use Rattle.command_nets.specs.Levels.{level_is}
+use Rattle.command_nets.specs.Groups.{chosen_raised}
+use Rattle.mm_split.specs.Pieces.{lane, is_marked}
+use Rattle.mm_split.proofs.Numbers.{power_within}
 
 pub some_or : (x one other : ℕ) → (if nat_lt 0 x then other else one) ≡ (if x == 0 then one else other)
 some_or zero one other = refl
@@ -18,9 +21,6 @@ one_small false = refl
 
 pub least_or : (x : ℕ) (b : Bool) → (if nat_lt 0 x then x else one_if b % 2 ^ 5) ≡ (if x == 0 then one_if b else x)
 least_or x b = some_or x (one_if b % 2 ^ 5) x ∙ ap (λ n. if x == 0 then n else x) (one_small b)
-
-pub next_small : (width place : ℕ) → width ≡ 5 → place < 16 → (place + 1) % 2 ^ width ≡ suc place
-next_small width place five small = ap (λ k. (place + 1) % 2 ^ k) five ∙ mod-eq_of_lt {n = place + 1} {m = 2 ^ 5} (omega (arith, small)) ∙ omega arith
 
 pub none_fits : (k : ℕ) → 0 < 2 ^ k
 none_fits k = pow_pos k
@@ -55,12 +55,37 @@ place_is bits place wide few small is = is ∙ mod-eq_of_lt (let most : 2 ^ bits
 pub place_small : (bits place : ℕ) → bits ≤ 4 → place < 2 ^ bits → place < 16
 place_small bits place few small = let most : 2 ^ bits ≤ 2 ^ 4 = pow_mono few in omega (arith, small, most)
 
-pub not_less : (place count : ℕ) → not (nat_lt (suc place) count) ≡ nat_lt count (suc (suc place))
-not_less place count = by_less (nat_lt (suc place) count) refl
+less_one : (count : ℕ) → 1 ≤ count → count < 2 ^ 5 → (count + (2 ^ 5 - 1)) % 2 ^ 5 ≡ count - 1
+less_one count some few = omega (arith, some, few)
+
+last_of_five : (place parts : ℕ) → place < 16 → parts < 2 ^ 5 → nat_eq place ((parts + (2 ^ 5 - 1)) % 2 ^ 5) ≡ nat_eq (suc place) parts
+last_of_five place parts small few = by_same (nat_eq (suc place) parts) refl
   where
-    by_less : (b : Bool) → nat_lt (suc place) count ≡ b → not b ≡ nat_lt count (suc (suc place))
-    by_less true e = let less = ltb-true (suc place) count e in sym (le-ltb count (suc (suc place)) (omega (arith, less)))
-    by_less false e = let most = ltb-false (suc place) count e in sym (lt-ltb count (suc (suc place)) (omega (arith, most)))
+    by_same : (b : Bool) → nat_eq (suc place) parts ≡ b → nat_eq place ((parts + (2 ^ 5 - 1)) % 2 ^ 5) ≡ b
+    by_same true e = let same = eqb-true (suc place) parts e in eq-eqb _ _ (omega (arith, same, few))
+    by_same false e = let apart = eqb-false (suc place) parts e in ne_eqb _ _ (λ same. apart (omega (arith, same, small, few)))
+
+-- the last place of so many parts
+pub last_place : (width place parts : ℕ) → width ≡ 5 → place < 16 → parts < 2 ^ 5 → nat_eq place ((parts + (2 ^ width - 1)) % 2 ^ width) ≡ nat_eq (suc place) parts
+last_place width place parts five small few = ap (λ w. nat_eq place ((parts + (2 ^ w - 1)) % 2 ^ w)) five ∙ last_of_five place parts small few
+
+past_of_five : (place count : ℕ) → count < 2 ^ 5 → (nat_eq count 0 || not (nat_lt place ((count + (2 ^ 5 - 1)) % 2 ^ 5))) ≡ nat_lt count (suc (suc place))
+past_of_five place count few = by_none (nat_eq count 0) refl
+  where
+    by_less : (b : Bool) → nat_lt place (count - 1) ≡ b → 1 ≤ count → not b ≡ nat_lt count (suc (suc place))
+    by_less true e some = let less = ltb-true place (count - 1) e in sym (le-ltb count (suc (suc place)) (omega (arith, less)))
+    by_less false e some = let most = ltb-false place (count - 1) e in sym (lt-ltb count (suc (suc place)) (omega (arith, most, some)))
+
+    by_none : (b : Bool) → nat_eq count 0 ≡ b → (b || not (nat_lt place ((count + (2 ^ 5 - 1)) % 2 ^ 5))) ≡ nat_lt count (suc (suc place))
+    by_none true e = let none = eqb-true count 0 e in sym (lt-ltb count (suc (suc place)) (omega (arith, none)))
+    by_none false e =
+        let apart = eqb-false count 0 e in
+        let some : 1 ≤ count = omega (arith, apart) in
+        ap (λ n. not (nat_lt place n)) (less_one count some few) ∙ by_less (nat_lt place (count - 1)) refl some
+
+-- no place is left behind this one
+pub past_last : (width place count : ℕ) → width ≡ 5 → count < 2 ^ 5 → (nat_eq count 0 || not (nat_lt place ((count + (2 ^ width - 1)) % 2 ^ width))) ≡ nat_lt count (suc (suc place))
+past_last width place count five few = ap (λ w. nat_eq count 0 || not (nat_lt place ((count + (2 ^ w - 1)) % 2 ^ w))) five ∙ past_of_five place count few
 
 pub low_address : (a w k x : ℕ) → a < 2 ^ w → w ≡ k → x ≡ a / 2 ^ k * 2 ^ k + x
 low_address a w k x fits same = let none : a / 2 ^ k ≡ 0 = div-eq_of_lt (subst (λ n. a < 2 ^ n) same fits) in sym (ap (λ n. n * 2 ^ k + x) none ∙ omega arith)
@@ -76,27 +101,48 @@ pub address_put : (a w k width low high offset net : ℕ) → width ≡ w → lo
 address_put a w k width low high offset net e f fits within apart is whole =
     replaced a w k high offset net k fits within (λ same. apart (e ∙ same ∙ sym f)) refl (is ∙ ap₂ (λ x y. a / 2 ^ y % 2 ^ (x - 1 - y + 1)) e f) whole
 
-less_one : (count : ℕ) → count < 31 → (if nat_lt 0 count then (count + (2 ^ 5 - 1)) % 2 ^ 5 else count) ≡ count - 1
-less_one count few = some_or count count ((count + (2 ^ 5 - 1)) % 2 ^ 5) ∙ by_test (count == 0) refl
-  where
-    by_test : (b : Bool) → (count == 0) ≡ b → (if b then count else (count + (2 ^ 5 - 1)) % 2 ^ 5) ≡ count - 1
-    by_test true e = let none = eqb-true count 0 e in omega (arith, none)
-    by_test false e = let some = eqb-false count 0 e in omega (arith, some, few)
-
 one_more : (count : ℕ) → count < 31 → (count + 1) % 2 ^ 5 ≡ suc count
 one_more count few = mod-eq_of_lt {n = count + 1} {m = 2 ^ 5} (omega (arith, few)) ∙ omega arith
 
-moved : (count more fewer : ℕ) (comes goes : Bool) → more ≡ suc count → fewer ≡ count - 1 →
-    (if (if comes then not goes else goes) then (if comes then more else fewer) else count) ≡ (count + one_if comes) - one_if goes
-moved count more fewer true true m f = omega arith
-moved count more fewer true false m f = m ∙ omega arith
-moved count more fewer false true m f = f ∙ omega arith
-moved count more fewer false false m f = omega arith
+fewer_is : (some : Bool) (count : ℕ) → nat_lt 0 count ≡ some → count < 31 → (if some then (count + 31) % 2 ^ 5 else count) ≡ count - 1
+fewer_is true count e few = let least = ltb-true 0 count e in omega (arith, least, few)
+fewer_is false count e few = let none = ltb-false 0 count e in omega (arith, none)
+
+moved : (count : ℕ) (comes goes : Bool) → count < 31 →
+    (if (if comes then not goes else goes) && (comes || nat_lt 0 count) then (count + (if comes then 1 else 31)) % 2 ^ 5 else count) ≡ (count + one_if comes) - one_if goes
+moved count true true few = omega arith
+moved count true false few = one_more count few ∙ omega arith
+moved count false true few = fewer_is (nat_lt 0 count) count refl few ∙ omega arith
+moved count false false few = omega arith
 
 -- one comes, one goes, or both
-pub counted : (width count one : ℕ) (comes goes : Bool) → width ≡ 5 → count < 31 → one ≡ 1 →
-    (if (if comes then not goes else goes) then (if comes then (count + one) % 2 ^ width else if nat_lt 0 count then (count + (2 ^ width - one)) % 2 ^ width else count) else count) ≡ (count + one_if comes) - one_if goes
-counted width count one comes goes five few unit =
-    moved count _ _ comes goes
-    (ap₂ (λ x y. (count + x) % 2 ^ y) unit five ∙ one_more count few)
-    (ap₂ (λ x y. if nat_lt 0 count then (count + (2 ^ y - x)) % 2 ^ y else count) unit five ∙ less_one count few)
+pub counted : (width count : ℕ) (comes goes : Bool) → width ≡ 5 → count < 31 →
+    (if (if comes then not goes else goes) && (comes || nat_lt 0 count) then (count + (if comes then 1 else 31)) % 2 ^ width else count) ≡ (count + one_if comes) - one_if goes
+counted width count comes goes five few =
+    ap (λ w. if (if comes then not goes else goes) && (comes || nat_lt 0 count) then (count + (if comes then 1 else 31)) % 2 ^ w else count) five ∙ moved count comes goes few
+
+-- ---- the places of a word's pieces
+
+pub lanes_of_places : (pieces narrow bits lanes : ℕ) → pieces ≡ 2 ^ bits → pieces * narrow ≡ lanes → narrow * 2 ^ bits ≡ lanes
+lanes_of_places pieces narrow bits lanes power whole = mul_comm narrow (2 ^ bits) ∙ ap (λ n. n * narrow) (sym power) ∙ whole
+
+pub word_of_places : (pieces narrow bits lanes : ℕ) → pieces ≡ 2 ^ bits → pieces * narrow ≡ lanes → narrow * 8 * 2 ^ bits ≡ lanes * 8
+word_of_places pieces narrow bits lanes power whole = let same = lanes_of_places pieces narrow bits lanes power whole in omega (arith, same)
+
+pub taken_is : (bits word number : ℕ) → word / 2 ^ (bits * number) % 2 ^ bits ≡ lane bits word number
+taken_is bits word number = ap (λ n. word / 2 ^ n % 2 ^ bits) (mul_comm bits number)
+
+pub place_within : (pieces narrow bits wide : ℕ) → pieces ≡ 2 ^ bits → pieces * narrow ≡ 2 ^ wide → 1 ≤ narrow → bits ≤ wide
+place_within pieces narrow bits wide power whole some = power_within bits wide (let least : pieces * 1 ≤ pieces * narrow = mul-le-mul_left pieces some in omega (arith, power, whole, least))
+
+-- where a piece begins
+pub narrow_power : (pieces narrow bits wide : ℕ) → pieces ≡ 2 ^ bits → pieces * narrow ≡ 2 ^ wide → bits ≤ wide → 2 ^ (wide - bits) ≡ narrow
+narrow_power pieces narrow bits wide power whole within =
+    let sum : bits + (wide - bits) ≡ wide = omega (arith, within) in
+    let product : 2 ^ bits * 2 ^ (wide - bits) ≡ 2 ^ bits * narrow = sym (pow-add 2 bits (wide - bits)) ∙ ap (λ n. 2 ^ n) sum ∙ sym whole ∙ ap (λ n. n * narrow) power in
+    sym (mul-div_cancel_left (2 ^ (wide - bits)) {n = 2 ^ bits} (pow_pos bits)) ∙ ap (λ n. n / 2 ^ bits) product ∙ mul-div_cancel_left narrow {n = 2 ^ bits} (pow_pos bits)
+
+-- what is kept stays where all pieces are asked and the last one is
+pub whole_chosen : (all : Bool) (set number last kept low net : ℕ) → all ≡ true → last ≡ lane 1 set number → net ≡ (if last == 0 then low else kept) → net ≡ (if all && is_marked set number then kept else low)
+whole_chosen true set number last kept low net e is whole = whole ∙ chosen_raised last kept low ∙ ap (λ n. if is_raised n then kept else low) is
+whole_chosen false set number last kept low net e is whole = cc

@@ -1,8 +1,8 @@
 -- Words that are filled piece by piece.
 use Rattle.std.proofs.Common.{ℕ, zero, suc, ◌<◌, ◌≤◌, ◌≡◌, ◌+◌, ◌-◌, ◌*◌, ◌/◌, ◌%◌, ◌^◌, Bool, true, false, if◌then◌else◌, nat_eq, arith, refl, sym, ap, ap₂, ◌∙◌, add-mul, one-mul}
 use Rattle.std.proofs.lemmas.Bool.{eqb-true, eqb-false}
-use Rattle.std.proofs.lemmas.Nat.{pow-add, field_of, div-mul-add, pow_pos}
-use Rattle.std.proofs.Math.Nat.{mod-lt, mod-eq_of_lt, mul-le-mul_right}
+use Rattle.std.proofs.lemmas.Nat.{pow-add, field_of, div-mul-add, pow_pos, mod-pow-add}
+use Rattle.std.proofs.Math.Nat.{mod-lt, mod-eq_of_lt, mod-one, mul-le-mul_right}
 use Rattle.mm_split.specs.Pieces.{lane, fill}
 use Rattle.mm_split.proofs.Marks.{last_of, last_fits}
 use Rattle.mm_split.proofs.Masks.{low_bits}
@@ -26,6 +26,17 @@ pub more_filled : (test : ℕ → Bool) (bits word piece count lane_net low widt
 more_filled test bits word piece count lane_net low width net some is below wide whole =
     whole ∙ ap₂ (λ x y. x * 2 ^ y + low) is wide ∙ ap (λ n. (if test (count - 1) then piece else lane bits word (count - 1)) * 2 ^ ((count - 1) * bits) + n) below
     ∙ sym (ap (fill test bits word piece) (last_of count some))
+
+low_none : (test : ℕ → Bool) (bits word piece k : ℕ) → ((j : ℕ) → j < k → test j ≡ false) → fill test bits word piece k ≡ word % 2 ^ (k * bits)
+low_none test bits word piece zero none = sym (let e : 0 * bits ≡ 0 = omega arith in ap (λ n. word % 2 ^ n) e ∙ mod-one word)
+low_none test bits word piece (suc k) none =
+    let size : bits + k * bits ≡ suc k * bits = omega arith in
+    ap₂ (λ t n. (if t then piece else lane bits word k) * 2 ^ (k * bits) + n) (none k (omega arith)) (low_none test bits word piece k (λ j less. none j (omega (arith, less))))
+    ∙ sym (mod-pow-add word bits (k * bits)) ∙ ap (λ n. word % 2 ^ n) size
+
+-- a word in which no piece is meant stays
+pub fill_none : (test : ℕ → Bool) (bits word piece k : ℕ) → word < 2 ^ (k * bits) → ((j : ℕ) → j < k → test j ≡ false) → fill test bits word piece k ≡ word
+fill_none test bits word piece k fits none = low_none test bits word piece k none ∙ mod-eq_of_lt fits
 
 -- ---- the lanes of such a word
 

@@ -1,5 +1,6 @@
 -- Pieces of a word and of a mask: their counts and their numbers.
-use Rattle.std.proofs.Common.{ℕ, zero, suc, ◌≤◌, ◌≡◌, ◌+◌, ◌-◌, ◌*◌, ◌/◌, ◌%◌, ◌^◌, Bool, true, false, not, ◌&&◌, if◌then◌else◌, ◌==◌, nat_eq, arith, refl, sym, ap, ap₂, subst, ◌∙◌}
+use Rattle.std.proofs.Common.{ℕ, zero, suc, ◌<◌, ◌≤◌, ◌≡◌, ◌+◌, ◌-◌, ◌*◌, ◌/◌, ◌%◌, ◌^◌, Bool, true, false, not, ◌&&◌, if◌then◌else◌, ◌==◌, nat_eq, arith, refl, sym, ap, ap₂, subst, ◌∙◌}
+use Rattle.std.proofs.lemmas.Bool.{eqb-true, eqb-false, ne_eqb}
 use Rattle.histories.specs.History.{is_raised, one_if}
 use Rattle.command_nets.specs.Levels.{level_is}
 use Rattle.command_nets.specs.Groups.{chosen_raised}
@@ -37,6 +38,28 @@ count_most test (suc k) = by_test (test k) (count_most test k)
     by_test : (b : Bool) → count_of test k ≤ k → count_of test k + one_if b ≤ suc k
     by_test true h = omega (arith, h)
     by_test false h = omega (arith, h)
+
+count_grows : (test : ℕ → Bool) (i k : ℕ) → i ≤ k → count_of test i ≤ count_of test k
+count_grows test i zero h = let none : i ≡ 0 = omega (arith, h) in subst (λ n. count_of test n ≤ 0) (sym none) (omega arith)
+count_grows test i (suc k) h = by_last (nat_eq i (suc k)) refl (λ within. count_grows test i k within)
+  where
+    by_last : (b : Bool) → nat_eq i (suc k) ≡ b → (i ≤ k → count_of test i ≤ count_of test k) → count_of test i ≤ count_of test k + one_if (test k)
+    by_last true e grows = let same = eqb-true i (suc k) e in subst (λ n. count_of test n ≤ count_of test k + one_if (test k)) (sym same) (omega arith)
+    by_last false e grows = let apart = eqb-false i (suc k) e in let more = grows (omega (arith, h, apart)) in omega (arith, more)
+
+-- below the last piece, which is meant, none stands at a place behind which no further one is meant
+pub none_below : (test : ℕ → Bool) (place count : ℕ) → 1 ≤ count → test (count - 1) ≡ true → count_of test count ≤ suc place → (j : ℕ) → j < count - 1 → stands_at test place j ≡ false
+none_below test place count some last few j less = by_test (test j) refl
+  where
+    whole : count_of test count ≡ count_of test (count - 1) + 1
+    whole = ap (count_of test) (last_of count some) ∙ ap (λ b. count_of test (count - 1) + one_if b) last
+
+    by_test : (b : Bool) → test j ≡ b → (b && nat_eq (count_of test j) place) ≡ false
+    by_test false e = refl
+    by_test true e =
+        let more : count_of test j + one_if (test j) ≤ count_of test (count - 1) = count_grows test (suc j) (count - 1) (omega (arith, less)) in
+        let one : count_of test j + one_if (test j) ≡ count_of test j + 1 = ap (λ t. count_of test j + one_if t) e in
+        ne_eqb (count_of test j) place (λ same. absurd (omega (arith, same, more, one, whole, few)))
 
 -- ---- what a search finds, piece by piece
 

@@ -19,17 +19,17 @@ use Rattle.link_core.specs.Form.{Form}
 use Rattle.mm_split.specs.declared.split.Split.{Split}
 use Rattle.mm_split.specs.declared.split.SplitKept.{SplitKept}
 use Rattle.mm_split.specs.Pieces.{lane, has_lane, is_marked, count_of, stands_at, fill, those}
-use Rattle.mm_split.specs.Parts.{shows_part, count_in, IsAbove, IsBeatBelow, number_of, here_of, touched_of}
+use Rattle.mm_split.specs.Parts.{shows_part, stands_whole, count_in, IsAbove, IsBeatBelow, number_of, here_of, touched_of}
 use Rattle.mm_links.specs.Splits.{SplitState, RunsAsSplit, opens, completes, piece_at, IsPut, AddsTo, split_at, asked_at, are_same}
 use Rattle.mm_split.specs.SplitNets.{IsSplitForm, SplitCommand, SplitAnswer}
 use Rattle.mm_split.specs.Registers.{group_of, low_group_of}
 use Rattle.mm_split.specs.Comings.{NextAre, TellsComing}
 use Rattle.mm_links.specs.Selects.{takes_read}
 use Rattle.mm_split.proofs.Masks.{those_or_first, same_by_masks, those_count}
-use Rattle.mm_split.proofs.Marks.{count_most}
+use Rattle.mm_split.proofs.Marks.{count_most, none_below}
 use Rattle.mm_split.proofs.Same.{or_first_fits, filled_by, own_piece, kept_piece, low_put}
 use Rattle.mm_split.proofs.Places.{lies, put_there}
-use Rattle.mm_split.proofs.Fills.{filled_lane, whole_lane, last_lane}
+use Rattle.mm_split.proofs.Fills.{filled_lane, whole_lane, last_lane, fill_none}
 use Rattle.mm_split.proofs.Beat.{asked_is, parts_count, part_at, beat_is}
 
 -- so many narrow words make a wide one
@@ -305,16 +305,32 @@ module _ (split : Split) (form : Form) (kept : SplitKept) (wait up : NetValue) (
       ≡ fill (meant c) (kept.sizes.narrow_bytes * 8) (run.net c kept.registers.word.number) (run.net c answer.word.number) (kept.sizes.pieces - 1)
   filled_low c = filled_by (run.net c kept.registers.set.number) (run.net c kept.registers.come.number) (kept.sizes.narrow_bytes * 8) (run.net c kept.registers.word.number) (run.net c answer.word.number) kept.sizes.pieces (kept.sizes.pieces - 1) (omega arith)
 
+  word_fits : (c : ℕ) → run.net c kept.registers.word.number < 2 ^ ((kept.sizes.pieces - 1) * (kept.sizes.narrow_bytes * 8))
+  word_fits c = width_fits netlist kept.registers.word ((kept.sizes.pieces - 1) * (kept.sizes.narrow_bytes * 8)) f.nets.word (cycle_of run c) (valued c)
+
+  last_comes : (c : ℕ) → completes state c ≡ true → count_of (is_marked (run.net c kept.registers.set.number)) kept.sizes.pieces ≤ suc (run.net c kept.registers.come.number)
+  last_comes c done =
+      let most = ltb-true (length (state.set c)) (suc (suc (run.net c kept.registers.come.number))) done in
+      let count = those_count (is_marked (run.net c kept.registers.set.number)) kept.sizes.pieces in
+      omega (arith, most, count)
+
   -- the word above
-  word_put : (c : ℕ) → IsPut kept.sizes.narrow_bytes (drop (state.come c) (state.set c)) (run.net c kept.registers.word.number) (run.net c answer.word.number % 256 ^ kept.sizes.narrow_bytes) (run.net c b.coming.word.number)
-  word_put c =
+  word_put : (c : ℕ) → completes state c ≡ true → IsPut kept.sizes.narrow_bytes (drop (state.come c) (state.set c)) (run.net c kept.registers.word.number) (run.net c answer.word.number % 256 ^ kept.sizes.narrow_bytes) (run.net c b.coming.word.number)
+  word_put c done =
       put_there kept.sizes.narrow_bytes (meant c) kept.sizes.pieces (run.net c kept.registers.word.number) (run.net c answer.word.number % 256 ^ kept.sizes.narrow_bytes) (run.net c b.coming.word.number) (drop (state.come c) (state.set c))
       (lies (is_marked (run.net c kept.registers.set.number)) (run.net c kept.registers.come.number) kept.sizes.pieces)
       (λ p low is. own p low is (nat_lt p (kept.sizes.pieces - 1)) refl)
       (λ q low is. kept_piece kept.sizes.narrow_bytes (run.net c kept.registers.word.number) (run.net c b.coming.word.number) q (run.net c answer.word.number) (meant c q) (lower q (omega (arith, low))) is)
     where
       word_is : run.net c b.coming.word.number ≡ run.net c answer.word.number * 2 ^ ((kept.sizes.pieces - 1) * (kept.sizes.narrow_bytes * 8)) + fill (meant c) (kept.sizes.narrow_bytes * 8) (run.net c kept.registers.word.number) (run.net c answer.word.number) (kept.sizes.pieces - 1)
-      word_is = (tells c).word ∙ ap (λ n. run.net c answer.word.number * 2 ^ ((kept.sizes.pieces - 1) * (kept.sizes.narrow_bytes * 8)) + n) (filled_low c)
+      word_is = (tells c).word ∙ ap (λ n. run.net c answer.word.number * 2 ^ ((kept.sizes.pieces - 1) * (kept.sizes.narrow_bytes * 8)) + n) (by_whole (stands_whole kept.sizes (run.net c kept.registers.set.number)) refl)
+        where
+          by_whole : (t : Bool) → stands_whole kept.sizes (run.net c kept.registers.set.number) ≡ t → (if t then run.net c kept.registers.word.number else run.net c b.coming.low.number)
+              ≡ fill (meant c) (kept.sizes.narrow_bytes * 8) (run.net c kept.registers.word.number) (run.net c answer.word.number) (kept.sizes.pieces - 1)
+          by_whole true e =
+              sym (fill_none (meant c) (kept.sizes.narrow_bytes * 8) (run.net c kept.registers.word.number) (run.net c answer.word.number) (kept.sizes.pieces - 1) (word_fits c)
+              (none_below (is_marked (run.net c kept.registers.set.number)) (run.net c kept.registers.come.number) kept.sizes.pieces some_pieces (and_right _ _ e) (last_comes c done)))
+          by_whole false e = (tells c).low ∙ filled_low c
 
       lower : (q : ℕ) → q < kept.sizes.pieces - 1 → lane (kept.sizes.narrow_bytes * 8) (run.net c b.coming.word.number) q ≡ (if meant c q then run.net c answer.word.number else lane (kept.sizes.narrow_bytes * 8) (run.net c kept.registers.word.number) q)
       lower q low =
@@ -369,10 +385,10 @@ module _ (split : Split) (form : Form) (kept : SplitKept) (wait up : NetValue) (
   pub gathered_anew : (c : ℕ) → is_raised (run.net c answer.valid.number) ≡ true → completes state c ≡ true → (state.gathered (suc c)).code ≡ 0
   gathered_anew c e k = code_after c ∙ ap₂ (λ v t. if v && t then 0 else if v then run.net c b.coming.code.number else (state.gathered c).code) e k
 
-  pub given : (c : ℕ) → AddsTo below state c (record { word = run.net c back.word.number; code = run.net c back.code.number })
-  given c = record {
+  pub given : (c : ℕ) → is_raised (run.net c back.valid.number) ≡ true → AddsTo below state c (record { word = run.net c back.word.number; code = run.net c back.code.number })
+  given c raised = record {
     word = subst (λ n. IsPut n (drop (state.come c) (state.set c)) (run.net c kept.registers.word.number) (run.net c answer.word.number % 256 ^ n) (run.net c back.word.number)) (sym narrow_is)
-        (subst (IsPut kept.sizes.narrow_bytes (drop (state.come c) (state.set c)) (run.net c kept.registers.word.number) (run.net c answer.word.number % 256 ^ kept.sizes.narrow_bytes)) (sym (ap (λ (n : NetValue). run.net c n.number) b.word_is)) (word_put c));
+        (subst (IsPut kept.sizes.narrow_bytes (drop (state.come c) (state.set c)) (run.net c kept.registers.word.number) (run.net c answer.word.number % 256 ^ kept.sizes.narrow_bytes)) (sym (ap (λ (n : NetValue). run.net c n.number) b.word_is)) (word_put c (and_right _ _ (sym (valid c) ∙ raised))));
     code = ap (λ (n : NetValue). run.net c n.number) b.code_is ∙ (tells c).code;
   }
 
@@ -393,5 +409,5 @@ module _ (split : Split) (form : Form) (kept : SplitKept) (wait up : NetValue) (
     gathered_more = gathered_more;
     gathered_anew = gathered_anew;
     valid = valid;
-    given = λ c raised. given c;
+    given = given;
   }

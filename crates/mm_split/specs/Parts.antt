@@ -1,5 +1,5 @@
 -- What a splitter's nets tell of the beat above, and the beat that they show below.
-use Rattle.std.specs.Prelude.{◌≡◌, ℕ, suc, ◌+◌, ◌*◌, ◌/◌, ◌^◌, Bool, not, ◌&&◌, ◌||◌, if◌then◌else◌, nat_eq, nat_lt, ◌==◌}
+use Rattle.std.specs.Prelude.{◌≡◌, ℕ, suc, ◌+◌, ◌-◌, ◌*◌, ◌/◌, ◌^◌, Bool, not, ◌&&◌, ◌||◌, if◌then◌else◌, nat_eq, nat_lt, ◌==◌}
 use Rattle.histories.specs.History.{is_raised, one_if}
 use Rattle.mm_machines.specs.Machines.{Raw}
 use Rattle.command_nets.specs.Groups.{is_shown}
@@ -30,6 +30,10 @@ here_of sizes mask place = mask_of (stands_at (is_marked mask) place) sizes.piec
 -- its number
 abbrev pub number_of : Sizes → ℕ → ℕ
 number_of sizes here = pick (is_marked here) sizes.pieces
+
+-- the last piece of a word that all pieces make comes last
+abbrev pub stands_whole : Sizes → ℕ → Bool
+stands_whole sizes set = sizes.all_lanes && is_marked set (sizes.pieces - 1)
 
 abbrev pub count_in : Sizes → Raw → ℕ
 count_in sizes raw = part_count raw (count_of (is_marked (touched_of sizes raw)) sizes.pieces)

@@ -21,7 +21,8 @@ use crate::sizes::Sizes;
 use command_nets::{AnswerNets, CommandNets};
 use net_parts::{choose, constant, fit_bits};
 use net_terms::{
-    Add, And, Bit, Bus, Constant, Less, MuxWord, NonZero, Not, Or, Sub, Wire, Word, Xor, emit_two,
+    Add, And, Bit, Bus, Constant, IsZero, Less, MuxWord, NonZero, Not, Or, Sub, Wire, Word, Xor,
+    emit_two,
 };
 use netlist::{Builder, Net, NetFault};
 
@@ -29,15 +30,14 @@ use netlist::{Builder, Net, NetFault};
 #[tactic(auto, using(net_parts::specs::Laws::growing))]
 fn completes(builder: &mut Builder, place: Net, count: Net) -> Result<Net, NetFault>
     requires place { IsNetOfWidth builder.old place 5 }
-    requires small { Always builder.old (λ cycle. cycle.net place.number < 16) }
     requires count { IsNetOfWidth builder.old count 5 }
     ensures net { IfOk result (λ net. IsBit builder.new net) }
     ensures value { IfOk result (λ net. Always builder.new (λ cycle. is_raised (cycle.net net.number) ≡ nat_lt (cycle.net count.number) (suc (suc (cycle.net place.number))))) }
-    ensures adds { AddsNets 4 builder.old builder.new }
-    ensures full { result ≡ Err NetFault.TooManyNets → 2 ^ 20 < length builder.old.lines + 4 }
+    ensures adds { AddsNets 7 builder.old builder.new }
+    ensures full { result ≡ Err NetFault.TooManyNets → 2 ^ 20 < length builder.old.lines + 7 }
 {
-    let next = Add(Bus(place), Constant { bits: 5, value: 1 });
-    Not(Less(next, Bus(count))).emit(builder)
+    let highest = Sub(Bus(count), Constant { bits: 5, value: 1 });
+    Or(IsZero(Bus(count)), Not(Less(Bus(place), highest))).emit(builder)
 }
 
 /// The greater one of two nets of one width.
@@ -77,15 +77,22 @@ pub(crate) fn come(
     requires answer { AreAnswerNets builder.old answer.now (sizes.now.narrow_bytes * 8) }
     ensures nets { IfOk result (λ made. AreComingNets builder.new sizes.now made) }
     ensures value { IfOk result (λ made. Always builder.new (λ cycle. TellsComing sizes.now registers.now answer.now made cycle)) }
-    ensures adds { AddsNets 166 builder.old builder.new }
-    ensures full { result ≡ Err NetFault.TooManyNets → 2 ^ 20 < length builder.old.lines + 166 }
+    ensures adds { AddsNets 171 builder.old builder.new }
+    ensures full { result ≡ Err NetFault.TooManyNets → 2 ^ 20 < length builder.old.lines + 171 }
 {
     let zeros = constant(builder, 4, 0)?;
     let place = fit_bits(builder, registers.come, sizes.place_bits, 5)?;
     let mask = registers.set;
     let found = find(builder, &Search { mask, place, zeros }, sizes.pieces)?;
     let completes = completes(builder, place, found.count)?;
-    let gathered = fill_word(builder, found.here, registers.word, answer.word, sizes)?;
+    let gathered = fill_word(
+        builder,
+        mask,
+        found.here,
+        registers.word,
+        answer.word,
+        sizes,
+    )?;
     let code = greater(builder, registers.code, answer.code)?;
     Ok(Coming {
         word: gathered.word,
@@ -191,13 +198,18 @@ fn count_reads(builder: &mut Builder, count: Net, comes: Net, goes: Net) -> Resu
     ensures net { IfOk result (λ net. IsNetOfWidth builder.new net 5) }
     ensures value { IfOk result (λ net. Always builder.new (λ cycle. cycle.net count.number < 31
         → cycle.net net.number ≡ (cycle.net count.number + one_if (is_raised (cycle.net comes.number))) - one_if (is_raised (cycle.net goes.number)))) }
-    ensures adds { AddsNets 8 builder.old builder.new }
-    ensures full { result ≡ Err NetFault.TooManyNets → 2 ^ 20 < length builder.old.lines + 8 }
+    ensures adds { AddsNets 9 builder.old builder.new }
+    ensures full { result ≡ Err NetFault.TooManyNets → 2 ^ 20 < length builder.old.lines + 9 }
 {
-    let one = constant(builder, 5, 1)?;
-    let fewer = MuxWord(NonZero(Bus(count)), Sub(Bus(count), Bus(one)), Bus(count));
-    let next = MuxWord(Wire(comes), Add(Bus(count), Bus(one)), fewer);
-    MuxWord(Xor(Wire(comes), Wire(goes)), next, Bus(count)).emit_word(builder)
+    // in five bits 31 more is one less
+    let more = Constant { bits: 5, value: 1 };
+    let fewer = Constant { bits: 5, value: 31 };
+    let next = Add(Bus(count), MuxWord(Wire(comes), more, fewer));
+    let moves = And(
+        Xor(Wire(comes), Wire(goes)),
+        Or(Wire(comes), NonZero(Bus(count))),
+    );
+    MuxWord(moves, next, Bus(count)).emit_word(builder)
 }
 
 /// What the registers of a splitter take. `valid` says that a word is given above.
@@ -222,8 +234,8 @@ pub(crate) fn next_registers(
     requires valid { IsBit builder.old valid }
     ensures nets { IfOk result (λ next. AreRegisterNets builder.new sizes.now next) }
     ensures value { IfOk result (λ next. Always builder.new (λ cycle. NextAre sizes.now registers.now from.now part.now taken.now coming.now arrives valid next cycle)) }
-    ensures adds { AddsNets 28 builder.old builder.new }
-    ensures full { result ≡ Err NetFault.TooManyNets → 2 ^ 20 < length builder.old.lines + 28 }
+    ensures adds { AddsNets 29 builder.old builder.new }
+    ensures full { result ≡ Err NetFault.TooManyNets → 2 ^ 20 < length builder.old.lines + 29 }
 {
     let place = step_on(builder, registers.place, taken.above, taken.below)?;
     let reads_below = And(Wire(taken.below), Not(Wire(part.below.write)));

@@ -13,13 +13,14 @@ ghost use Rattle.mm_split.specs.Registers.{AreRegisterNets};
 ghost use Rattle.mm_split.specs.Parts.{may_go, part_count, shows_part, touched_of, here_of, number_of, IsBeatBelow};
 ghost use Rattle.mm_split.specs.Told.{AreAbove, TellsAbove, ArePartNets, IsPart, narrowed};
 
-use crate::lanes::{Search, find, pick_offset, pick_piece, touched_mask};
+use crate::lanes::{Search, find, pick_number, touched_mask};
 use crate::registers::SplitRegisters;
 use crate::sizes::Sizes;
-use command_nets::CommandNets;
+use command_nets::{CommandNets, raise};
+use mm_select::take_place;
 use net_parts::{choose, constant, fit_bits, level};
 use net_terms::{
-    Add, And, Bit, Bus, Constant, Equals, Fit, Flag, IsZero, Less, MuxWord, NonZero, Not, Or, Wire,
+    And, Bit, Bus, Constant, Equals, Fit, Flag, IsZero, Less, MuxWord, NonZero, Not, Or, Sub, Wire,
     Word, emit_three, emit_two,
 };
 use netlist::{Builder, Net, NetFault};
@@ -134,14 +135,28 @@ fn look_above(
 {
     let stands = Or(Wire(from.read), Wire(from.write));
     let inside = Less(Bus(place), Bus(parts));
-    let next = Add(Bus(place), Constant { bits: 5, value: 1 });
+    let highest = Sub(Bus(parts), Constant { bits: 5, value: 1 });
     let (shows, last, none) = emit_three(
         builder,
         &And(And(stands, Wire(opens)), inside),
-        &Equals(next, Bus(parts)),
+        &Equals(Bus(place), highest),
         &IsZero(Bus(parts)),
     )?;
     Ok(AboveNets { shows, last, none })
+}
+
+/// Where the piece with this number begins in a wide word, in bytes.
+#[tactic(auto, using(net_parts::specs::Laws::growing))]
+fn piece_offset(builder: &mut Builder, number: Net, sizes: &Sizes) -> Result<Net, NetFault>
+    requires sizes { AreSizes sizes.now }
+    requires number { IsNetOfWidth builder.old number sizes.now.place_bits }
+    ensures net { IfOk result (λ net. IsNetOfWidth builder.new net sizes.now.wide_bits) }
+    ensures value { IfOk result (λ net. Always builder.new (λ cycle. cycle.net net.number ≡ cycle.net number.number * sizes.now.narrow_bytes)) }
+    ensures adds { AddsNets 2 builder.old builder.new }
+    ensures full { result ≡ Err NetFault.TooManyNets → 2 ^ 20 < length builder.old.lines + 2 }
+{
+    let bits = sizes.wide_bits - sizes.place_bits;
+    raise(builder, number, bits)
 }
 
 /// The byte address of the piece: that of the wide word, and where the piece begins in it.
@@ -169,21 +184,21 @@ fn piece_address(builder: &mut Builder, address: Net, offset: Net) -> Result<Net
 fn piece_word(
     builder: &mut Builder,
     from: &CommandNets,
-    here: Net,
+    number: Net,
     sizes: &Sizes,
 ) -> Result<Net, NetFault>
     requires sizes { AreSizes sizes.now }
     requires from { AreCommandNets builder.old from.now }
-    requires here { IsNetOfWidth builder.old here sizes.now.pieces }
+    requires number { IsNetOfWidth builder.old number sizes.now.place_bits }
     requires width { from.now.word.width ≡ 2 ^ sizes.now.wide_bits * 8 }
     ensures net { IfOk result (λ net. IsNetOfWidth builder.new net (sizes.now.narrow_bytes * 8)) }
     ensures value { IfOk result (λ net. Always builder.new (λ cycle. cycle.net net.number
-        ≡ (if is_raised (cycle.net from.now.write.number) then lane (sizes.now.narrow_bytes * 8) (cycle.net from.now.word.number) (pick (is_marked (cycle.net here.number)) sizes.now.pieces) else 0))) }
-    ensures adds { AddsNets 50 builder.old builder.new }
-    ensures full { result ≡ Err NetFault.TooManyNets → 2 ^ 20 < length builder.old.lines + 50 }
+        ≡ (if is_raised (cycle.net from.now.write.number) then lane (sizes.now.narrow_bytes * 8) (cycle.net from.now.word.number) (cycle.net number.number) else 0))) }
+    ensures adds { AddsNets 22 builder.old builder.new }
+    ensures full { result ≡ Err NetFault.TooManyNets → 2 ^ 20 < length builder.old.lines + 22 }
 {
     let bits = sizes.narrow_bytes * 8;
-    let word = pick_piece(builder, here, from.word, bits, sizes.pieces)?;
+    let word = take_place(builder, from.word, bits, number, sizes.place_bits)?;
     let zeros = Constant { bits, value: 0 };
     MuxWord(Wire(from.write), Bus(word), zeros).emit_word(builder)
 }
@@ -215,21 +230,16 @@ fn part_below(
         &And(Wire(above.shows), Not(Wire(from.write))),
         &And(Wire(above.shows), Wire(from.write)),
     )?;
-    let offset = pick_offset(
-        builder,
-        here,
-        sizes.narrow_bytes,
-        sizes.wide_bits,
-        sizes.pieces,
-    )?;
+    let number = pick_number(builder, here, sizes.place_bits, sizes.pieces)?;
+    let offset = piece_offset(builder, number, sizes)?;
     let address = piece_address(builder, from.address, offset)?;
-    let word = piece_word(builder, from, here, sizes)?;
-    let enables = pick_piece(
+    let word = piece_word(builder, from, number, sizes)?;
+    let enables = take_place(
         builder,
-        here,
         from.enables,
         sizes.narrow_bytes,
-        sizes.pieces,
+        number,
+        sizes.place_bits,
     )?;
     let width = builder.width(from.count);
     let count = constant(builder, width, 1)?;

@@ -139,42 +139,11 @@ pub(crate) fn find(builder: &mut Builder, search: &Search, count: u8) -> Result<
     })
 }
 
-/// The piece of a word whose bit in the mask is high, one of the first; the first one where none is.
+/// The number of the piece whose bit in the mask is high, one of the first; 0 where none is.
 #[tactic(auto, using(net_parts::specs::Laws::growing))]
-pub(crate) fn pick_piece(
+pub(crate) fn pick_number(
     builder: &mut Builder,
     mask: Net,
-    word: Net,
-    bits: u8,
-    count: u8,
-) -> Result<Net, NetFault>
-    requires mask { IsNet builder.old mask }
-    requires word { IsNet builder.old word }
-    requires some { 1 ≤ bits }
-    requires one { 1 ≤ count }
-    requires few { count ≤ 16 }
-    requires marks { count ≤ mask.width }
-    requires inside { count * bits ≤ word.width }
-    ensures net { IfOk result (λ net. IsNetOfWidth builder.new net bits) }
-    ensures value { IfOk result (λ net. Always builder.new (λ cycle. cycle.net net.number ≡ lane bits (cycle.net word.number) (pick (is_marked (cycle.net mask.number)) count))) }
-    ensures adds { AddsNets (3 * count) builder.old builder.new }
-    ensures full { result ≡ Err NetFault.TooManyNets → 2 ^ 20 < length builder.old.lines + 3 * count }
-{
-    let highest = piece(builder, word, bits, count - 1)?;
-    if count == 1 {
-        return Ok(highest);
-    }
-    let below = pick_piece(builder, mask, word, bits, count - 1)?;
-    let here = piece(builder, mask, 1, count - 1)?;
-    choose(builder, here, highest, below)
-}
-
-/// Where the piece begins whose bit in the mask is high, one of the first; 0 where none is.
-#[tactic(auto, using(net_parts::specs::Laws::growing))]
-pub(crate) fn pick_offset(
-    builder: &mut Builder,
-    mask: Net,
-    bytes: u8,
     bits: u8,
     count: u8,
 ) -> Result<Net, NetFault>
@@ -183,19 +152,18 @@ pub(crate) fn pick_offset(
     requires few_bits { bits ≤ 8 }
     requires one { 1 ≤ count }
     requires few { count ≤ 16 }
-    requires some_bytes { 1 ≤ bytes }
     requires marks { count ≤ mask.width }
-    requires fits { count * bytes ≤ 2 ^ bits }
+    requires fits { count ≤ 2 ^ bits }
     ensures net { IfOk result (λ net. IsNetOfWidth builder.new net bits) }
-    ensures value { IfOk result (λ net. Always builder.new (λ cycle. cycle.net net.number ≡ pick (is_marked (cycle.net mask.number)) count * bytes)) }
+    ensures value { IfOk result (λ net. Always builder.new (λ cycle. cycle.net net.number ≡ pick (is_marked (cycle.net mask.number)) count)) }
     ensures adds { AddsNets (3 * count) builder.old builder.new }
     ensures full { result ≡ Err NetFault.TooManyNets → 2 ^ 20 < length builder.old.lines + 3 * count }
 {
-    let highest = constant(builder, bits, (count - 1) * bytes)?;
+    let highest = constant(builder, bits, count - 1)?;
     if count == 1 {
         return Ok(highest);
     }
-    let below = pick_offset(builder, mask, bytes, bits, count - 1)?;
+    let below = pick_number(builder, mask, bits, count - 1)?;
     let here = piece(builder, mask, 1, count - 1)?;
     choose(builder, here, highest, below)
 }

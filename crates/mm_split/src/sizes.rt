@@ -18,6 +18,8 @@ pub struct Sizes {
     pub wide_bits: u8,
     /// How many wide reads may be under way.
     pub room: u8,
+    /// Whether all pieces are asked.
+    pub all_lanes: bool,
 }
 
 impl Split {
@@ -37,6 +39,7 @@ impl Split {
             narrow_bytes: self.narrow_bytes,
             wide_bits,
             room: self.reads,
+            all_lanes: self.all_lanes,
         }
     }
 }

@@ -285,7 +285,7 @@ module _ (host : HostPort) (agent : AgentPort) (stages : ℕ) (pair : MayMeet ho
   gathers_with = record { narrow_bytes = host.word_bytes; wide_bytes = agent.word_bytes; reads = reads_below agent stages + 1 }
 
   abbrev splits_with : Split
-  splits_with = record { wide_bytes = host.word_bytes; narrow_bytes = agent.word_bytes; reads = reads_above host agent stages }
+  splits_with = record { wide_bytes = host.word_bytes; narrow_bytes = agent.word_bytes; reads = reads_above host agent stages; all_lanes = not host.enables }
 
   select_plan : (bits : ℕ) → bits ≡ 1 → host.word_bytes < agent.word_bytes → IsSelectForm selects_with (record { up = inner_shape host.word_bytes bits; down = inner_shape agent.word_bytes bits; link = select_form target })
   select_plan bits single less =

@@ -1,5 +1,5 @@
 -- The nets of a host's command have the widths that each link of the pair takes.
-use Rattle.std.proofs.Common.{◌≡◌, ℕ, ◌+◌, ◌-◌, ◌*◌, ◌^◌, ◌≤◌, ◌<◌, max, Bool, true, false, if◌then◌else◌, nat_lt, refl, sym, ap, ◌∙◌, arith, ltb-true, pow_mono}
+use Rattle.std.proofs.Common.{◌≡◌, ℕ, ◌+◌, ◌-◌, ◌*◌, ◌^◌, ◌≤◌, ◌<◌, max, Bool, true, false, not, if◌then◌else◌, nat_lt, refl, sym, ap, ◌∙◌, arith, ltb-true, pow_mono}
 use Rattle.std.proofs.Math.Nat.{mul_comm}
 use Rattle.std.proofs.lemmas.Bool.{false≢true}
 use Rattle.std.specs.Prelude.{unwrap_or, option_map, IfSome}
@@ -93,7 +93,7 @@ module _ (host : HostPort) (agent : AgentPort) (stages : ℕ) (few : stages ≤ 
         reach = fed.reaches_agent;
       }
 
-  split_takes : agent.word_bytes < host.word_bytes → (widths : Widths) → AreFed widths → TakesWide (record { wide_bytes = host.word_bytes; narrow_bytes = agent.word_bytes; reads = reads_above host agent stages }) widths
+  split_takes : agent.word_bytes < host.word_bytes → (widths : Widths) → AreFed widths → TakesWide (record { wide_bytes = host.word_bytes; narrow_bytes = agent.word_bytes; reads = reads_above host agent stages; all_lanes = not host.enables }) widths
   split_takes less widths fed = record {
     sizes = record { wide = pair.host_word; narrow = pair.agent_word; smaller = less; some = above_some host agent stages; few = above_few host agent stages };
     word = fed.word;

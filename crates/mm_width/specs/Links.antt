@@ -1,5 +1,5 @@
 -- The links of a host and an agent in a row: a cutter of bursts, a lane selector, a gatherer or a splitter, and below it what drops beats without a lane.
-use Rattle.std.specs.Prelude.{ℕ, ◌+◌, ◌*◌, min, max, Bool, if◌then◌else◌, nat_lt, Option, Some, None}
+use Rattle.std.specs.Prelude.{ℕ, ◌+◌, ◌*◌, min, max, Bool, not, if◌then◌else◌, nat_lt, Option, Some, None}
 use Rattle.iface_roles.specs.declared.records.HostPort.{HostPort}
 use Rattle.iface_roles.specs.declared.records.AgentPort.{AgentPort}
 use Rattle.link_core.specs.declared.chain.Chain.{Chain}
@@ -49,9 +49,10 @@ abbrev pub gatherer_if : Bool → HostPort → AgentPort → ℕ → Option Gath
 gatherer_if there host agent stages =
     if there then Some (record { narrow_bytes = host.word_bytes; wide_bytes = agent.word_bytes; reads = reads_below agent stages + 1 }) else None
 
+-- a host without byte enables asks all pieces of a word
 abbrev pub splitter_if : Bool → HostPort → AgentPort → ℕ → Option Split
 splitter_if there host agent stages =
-    if there then Some (record { wide_bytes = host.word_bytes; narrow_bytes = agent.word_bytes; reads = reads_above host agent stages }) else None
+    if there then Some (record { wide_bytes = host.word_bytes; narrow_bytes = agent.word_bytes; reads = reads_above host agent stages; all_lanes = not host.enables }) else None
 
 -- the pieces of one read are many reads, so behind a splitter what drops beats has room for all that there may be
 abbrev pub dropper_if : Bool → Bool → HostPort → AgentPort → ℕ → Option Dropper

@@ -92,6 +92,7 @@ fn fitting_of(host: &HostPort, agent: &AgentPort, stages: u8) -> Fitting
         wide_bytes: host.word_bytes,
         narrow_bytes: agent.word_bytes,
         reads: above,
+        all_lanes: !host.enables,
     };
     let dropper = Dropper {
         word_bytes: agent.word_bytes,

@@ -1,7 +1,7 @@
-use Rattle.std.proofs.Common.{◌+◌, ◌-◌, ◌*◌, ◌^◌, suc, nat_lt, sym, ap, ap₂, ◌∙◌, arith}
+use Rattle.std.proofs.Common.{◌-◌, ◌*◌, suc, nat_lt, sym, ap, ap₂, ◌∙◌, arith}
 use Rattle.net_parts.specs.Laws.{extends_twice, adds_twice, adds_fewer, net_lasts, width_fits}
 use Rattle.net_parts.specs.Refusing.{handed_on}
-use Rattle.mm_split.proofs.Bits.{place_is, place_small, fit_two}
+use Rattle.mm_split.proofs.Bits.{place_is, fit_two}
 use Rattle.mm_split.specs.Pieces.{is_marked, fill}
 use Rattle.mm_split.specs.Parts.{here_of}
 use Rattle.mm_split.proofs.answer.come.Goals as goal
@@ -82,15 +82,6 @@ find-requires-clause-search c = record {
   zeros = record { net = net_lasts _ _ _ _ c.fit_bits.ensures.adds.grows.extends c.in_ok-zeros.ensures.net; value = λ cycle v. c.in_ok-zeros.ensures.value cycle (c.fit_bits.ensures.adds.grows.extends.valuations cycle v) };
 }
 
-pub completes-requires-clause-small : goal.completes-requires-clause-small
-completes-requires-clause-small c cycle v =
-    let v1 = c.find.ensures.adds.grows.extends.valuations cycle v in
-    let v0 = c.fit_bits.ensures.adds.grows.extends.valuations cycle v1 in
-    let fits = width_fits _ _ _ (net_lasts _ _ _ _ c.constant.ensures.adds.grows.extends c.requires.registers.come) cycle v0 in
-    let e = place_is _ _ _ c.requires.sizes.few_bits fits (c.in_ok-place.ensures.value cycle v1) in
-    let small = place_small _ _ c.requires.sizes.few_bits fits in
-    omega (arith, e, small)
-
 pub greater-requires-clause-one : goal.greater-requires-clause-one
 greater-requires-clause-one c = (extends_twice _ _ _ c.constant.ensures.adds.grows.extends (extends_twice _ _ _ c.fit_bits.ensures.adds.grows.extends (extends_twice _ _ _ c.find.ensures.adds.grows.extends (extends_twice _ _ _ c.completes.ensures.adds.grows.extends c.fill_word.ensures.adds.grows.extends)))).nets _ _ c.requires.registers.code.is_net
 
@@ -119,8 +110,7 @@ returns-clause-value c cycle v =
     let count = (c.in_ok-found.ensures.value cycle v2).count_is in
     record {
       completes = c.in_ok-completes.ensures.value cycle v3 ∙ ap₂ (λ x y. nat_lt x (suc (suc y))) count place;
-      word = c.in_ok-gathered.ensures.word cycle v4
-          ∙ ap (λ m. cycle.net c.args.answer.now.word.number * 2 ^ ((c.args.sizes.now.pieces - 1) * (c.args.sizes.now.narrow_bytes * 8)) + fill (is_marked m) (c.args.sizes.now.narrow_bytes * 8) (cycle.net c.args.registers.now.word.number) (cycle.net c.args.answer.now.word.number) (c.args.sizes.now.pieces - 1)) here;
+      word = c.in_ok-gathered.ensures.word cycle v4;
       low = c.in_ok-gathered.ensures.low cycle v4 ∙ ap (λ m. fill (is_marked m) (c.args.sizes.now.narrow_bytes * 8) (cycle.net c.args.registers.now.word.number) (cycle.net c.args.answer.now.word.number) (c.args.sizes.now.pieces - 1)) here;
       code = c.in_ok-code.ensures.value cycle v;
     }

@@ -1,7 +1,7 @@
-use Rattle.std.proofs.Common.{nat_eq, ap, ◌∙◌, sym, arith}
-use Rattle.net_parts.specs.Laws.{adds_fewer}
+use Rattle.std.proofs.Common.{◌∙◌, sym, arith}
+use Rattle.net_parts.specs.Laws.{adds_fewer, width_fits}
 use Rattle.net_parts.specs.Refusing.{handed_on}
-use Rattle.mm_split.proofs.Bits.{next_small}
+use Rattle.mm_split.proofs.Bits.{last_place}
 use Rattle.mm_split.proofs.command.look_above.Goals as goal
 
 pub returns-in_err-shows-clause-adds : goal.returns-in_err-shows-clause-adds
@@ -22,7 +22,7 @@ pub emit_three-requires-clause-a : goal.emit_three-requires-clause-a
 emit_three-requires-clause-a c = (((c.requires.from.read, c.requires.from.write), c.requires.opens), (c.requires.place.is_net, c.requires.parts.is_net, c.requires.place.has_width ∙ sym c.requires.parts.has_width))
 
 pub emit_three-requires-clause-b : goal.emit_three-requires-clause-b
-emit_three-requires-clause-b c = ((c.requires.place.is_net, (omega arith, omega arith, omega arith), c.requires.place.has_width), c.requires.parts.is_net, c.requires.place.has_width ∙ sym c.requires.parts.has_width)
+emit_three-requires-clause-b c = (c.requires.place.is_net, (c.requires.parts.is_net, (omega arith, omega arith, omega arith), c.requires.parts.has_width), c.requires.place.has_width ∙ sym c.requires.parts.has_width)
 
 pub returns-clause-shows : goal.returns-clause-shows
 returns-clause-shows c cycle v = (c.in_ok-shows.ensures.values cycle v).0
@@ -30,7 +30,7 @@ returns-clause-shows c cycle v = (c.in_ok-shows.ensures.values cycle v).0
 pub returns-clause-last : goal.returns-clause-last
 returns-clause-last c cycle v =
     let start = c.emit_three.ensures.adds.grows.extends.valuations cycle v in
-    (c.in_ok-shows.ensures.values cycle v).1 ∙ ap (λ n. nat_eq n (cycle.net c.args.parts.number)) (next_small c.args.place.width (cycle.net c.args.place.number) c.requires.place.has_width (c.requires.small cycle start))
+    (c.in_ok-shows.ensures.values cycle v).1 ∙ last_place c.args.parts.width (cycle.net c.args.place.number) (cycle.net c.args.parts.number) c.requires.parts.has_width (c.requires.small cycle start) (width_fits _ _ 5 c.requires.parts cycle start)
 
 pub returns-clause-none : goal.returns-clause-none
 returns-clause-none c cycle v = (c.in_ok-shows.ensures.values cycle v).2
