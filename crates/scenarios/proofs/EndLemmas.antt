@@ -5,7 +5,7 @@ use Rattle.system_tables.specs.declared.tables.EndId.{EndId}
 use Rattle.system_tables.specs.Tables.{SystemTable, IsEnd}
 use Rattle.address_map.specs.Footprints.{known_at}
 
-known_is : (system : SystemTable) (end : EndId) (known : Finished) → IsEnd system end known → known_at system end ≡ known
+pub known_is : (system : SystemTable) (end : EndId) (known : Finished) → IsEnd system end known → known_at system end ≡ known
 known_is system end known e = rw (e.instance_is, e.interface_is) e.is
 
 pub same_known : (system : SystemTable) (end : EndId) (a b : Finished) → IsEnd system end a → IsEnd system end b → a ≡ b

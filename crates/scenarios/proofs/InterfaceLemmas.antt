@@ -1,5 +1,5 @@
 -- The records of the interfaces of a plan.
-use Rattle.std.proofs.Common.{◌≡◌, ℕ, ◌<◌, List, length, slice_get, get_or, Some, None, sym, ap, ◌∙◌}
+use Rattle.std.proofs.Common.{◌≡◌, ℕ, ◌<◌, List, length, slice_get, get_or, Some, sym, ap, subst, ◌∙◌}
 use Rattle.std.specs.Prelude.{option_and_then}
 use Rattle.std.proofs.lemmas.Option.{slice_get-get_or}
 use Rattle.iface_roles.specs.declared.kinds.Side.{Side}
@@ -8,44 +8,58 @@ use Rattle.iface_roles.specs.declared.records.HostPort.{HostPort}
 use Rattle.iface_roles.specs.declared.records.AgentPort.{AgentPort}
 use Rattle.iface_roles.specs.declared.records.StreamPort.{StreamPort}
 use Rattle.iface_roles.specs.declared.records.Finished.{Finished}
-use Rattle.iface_roles.specs.declared.records.Finished.TheVariants.{Source, Sink}
+use Rattle.iface_roles.specs.declared.records.Finished.TheVariants.{Host, Agent, Source, Sink}
 use Rattle.iface_roles.specs.Proper.{IsProper, IsBoundedStream}
 use Rattle.system_tables.specs.declared.tables.EndId.{EndId}
 use Rattle.system_tables.specs.Tables.{SystemTable, IsEnd}
 use Rattle.address_map.specs.Footprints.{known_at}
 use Rattle.address_map.specs.Maps.{hosts_of, agents_of}
 use Rattle.link_rules.specs.declared.plan_links.StreamLink.{StreamLink}
-use Rattle.link_rules.specs.PlanLinks.{stream_links, IsStreamLink}
-use Rattle.scenario_tables.specs.Scenarios.{IsHostAt, IsAgentAt}
-use Rattle.scenarios.specs.declared.interfaces.NamedHost.{NamedHost}
-use Rattle.scenarios.specs.declared.interfaces.NamedAgent.{NamedAgent}
-use Rattle.scenarios.specs.Interfaces.{as_host, host_at, host_named, as_agent, agent_at, agent_named, place_of, stream_end, stream_port}
+use Rattle.link_rules.specs.PlanLinks.{stream_links, IsStreamLink, IsHostEnd, IsAgentEnd}
+use Rattle.scenarios.specs.declared.interfaces.Named.{Named}
+use Rattle.scenarios.specs.Interfaces.{IsNamed, place_of, as_host, host_at, host_named, as_agent, agent_at, agent_named, stream_end, stream_port}
+use Rattle.scenarios.proofs.EndLemmas.{known_is, same_known}
 
-pub a_host : (system : SystemTable) (word : List ℕ) (number : ℕ) (port : HostPort) → Some number ≡ place_of system (hosts_of system) word → IsHostAt system number port
-    → Some (record { number = number; port = port }) ≡ host_named system word
+pub a_host : (system : SystemTable) (ends : List EndId) (word : List ℕ) (known : Named Finished) (port : HostPort) → ends ≡ hosts_of system → IsNamed system ends word known → known.port ≡ Host port
+    → host_named system word ≡ Some (record { number = known.number; port = port })
 unfolding host_named
-a_host system word number port place h =
-    let named : NamedHost = record { number = number; port = port } in
-    let at : host_at system number ≡ Some named =
-    ap (option_and_then (λ (end : EndId). as_host number (known_at system end))) h.end_is ∙ ap (as_host number) h.is in
-    sym (ap (option_and_then (host_at system)) (sym place) ∙ at)
+a_host system ends word known port are h e =
+    ap (λ (es : List EndId). option_and_then (host_at system) (place_of system es word)) (sym are) ∙ ap (option_and_then (host_at system)) h.place
+    ∙ ap (option_and_then (λ (end : EndId). as_host known.number (known_at system end))) (ap (λ (es : List EndId). slice_get es known.number) (sym are) ∙ h.end_is)
+    ∙ ap (as_host known.number) (known_is system h.end known.port h.is ∙ e)
 
-pub an_agent : (system : SystemTable) (word : List ℕ) (number : ℕ) (port : AgentPort) → Some number ≡ place_of system (agents_of system) word → IsAgentAt system number port
-    → Some (record { number = number; port = port }) ≡ agent_named system word
+pub an_agent : (system : SystemTable) (ends : List EndId) (word : List ℕ) (known : Named Finished) (port : AgentPort) → ends ≡ agents_of system → IsNamed system ends word known → known.port ≡ Agent port
+    → agent_named system word ≡ Some (record { number = known.number; port = port })
 unfolding agent_named
-an_agent system word number port place h =
-    let named : NamedAgent = record { number = number; port = port } in
-    let at : agent_at system number ≡ Some named =
-    ap (option_and_then (λ (end : EndId). as_agent number (known_at system end))) h.end_is ∙ ap (as_agent number) h.is in
-    sym (ap (option_and_then (agent_at system)) (sym place) ∙ at)
+an_agent system ends word known port are h e =
+    ap (λ (es : List EndId). option_and_then (agent_at system) (place_of system es word)) (sym are) ∙ ap (option_and_then (agent_at system)) h.place
+    ∙ ap (option_and_then (λ (end : EndId). as_agent known.number (known_at system end))) (ap (λ (es : List EndId). slice_get es known.number) (sym are) ∙ h.end_is)
+    ∙ ap (as_agent known.number) (known_is system h.end known.port h.is ∙ e)
 
-pub no_host : (system : SystemTable) (word : List ℕ) → None ≡ place_of system (hosts_of system) word → None ≡ host_named system word
-unfolding host_named
-no_host system word place = ap (option_and_then (host_at system)) place
+-- a host's record stands at the end of a host, and an agent's at that of an agent
+pub record IsHostRecord (known : Finished) : Type 0 where
+  pub host : HostPort
+  pub is : known ≡ Host host
+  pub proper : IsProper known
 
-pub no_agent : (system : SystemTable) (word : List ℕ) → None ≡ place_of system (agents_of system) word → None ≡ agent_named system word
-unfolding agent_named
-no_agent system word place = ap (option_and_then (agent_at system)) place
+pub record IsAgentRecord (known : Finished) : Type 0 where
+  pub agent : AgentPort
+  pub is : known ≡ Agent agent
+  pub proper : IsProper known
+
+pub host_record : (system : SystemTable) (ends : List EndId) (word : List ℕ) (known : Named Finished) → ends ≡ hosts_of system → IsNamed system ends word known
+    → ((number : ℕ) (end : EndId) → slice_get (hosts_of system) number ≡ Some end → IsHostEnd system end) → IsHostRecord known.port
+host_record system ends word known are h all =
+    let one = all known.number h.end (ap (λ (es : List EndId). slice_get es known.number) (sym are) ∙ h.end_is) in
+    let same = same_known system h.end known.port (Host one.host) h.is one.is in
+    record { host = one.host; is = same; proper = subst IsProper (sym same) one.proper }
+
+pub agent_record : (system : SystemTable) (ends : List EndId) (word : List ℕ) (known : Named Finished) → ends ≡ agents_of system → IsNamed system ends word known
+    → ((number : ℕ) (end : EndId) → slice_get (agents_of system) number ≡ Some end → IsAgentEnd system end) → IsAgentRecord known.port
+agent_record system ends word known are h all =
+    let one = all known.number h.end (ap (λ (es : List EndId). slice_get es known.number) (sym are) ∙ h.end_is) in
+    let same = same_known system h.end known.port (Agent one.agent) h.is one.is in
+    record { agent = one.agent; is = same; proper = subst IsProper (sym same) one.proper }
 
 -- each link of a plan is that of its stream
 pub record AreLinks (system : SystemTable) (links : List StreamLink) : Type 0 where

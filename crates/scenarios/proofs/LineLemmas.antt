@@ -3,6 +3,9 @@ use Rattle.std.proofs.Common.{◌≡◌, ℕ, Bool, true, false, cond, List, len
 use Rattle.std.specs.Prelude.{◌||◌, nat_lt, is_some}
 use Rattle.std.proofs.lemmas.Option.{same_Some}
 use Rattle.iface_roles.specs.declared.kinds.Side.TheVariants.{Start, End}
+use Rattle.iface_roles.specs.declared.records.HostPort.{HostPort}
+use Rattle.iface_roles.specs.declared.records.AgentPort.{AgentPort}
+use Rattle.iface_roles.specs.declared.records.StreamPort.{StreamPort}
 use Rattle.system_tables.specs.Tables.{SystemTable}
 use Rattle.scenario_tables.specs.declared.statements.HostStatement.TheVariants.{Idle as IdleFor}
 use Rattle.scenario_tables.specs.declared.statements.AgentStatement.TheVariants.{Stall as StallBy, Latency as LatencyOf}
@@ -12,12 +15,10 @@ use Rattle.waves.specs.declared.keywords.Keyword.{Keyword}
 use Rattle.waves.specs.declared.keywords.Keyword.TheVariants.{Cycles, Write, Read, Idle, Fill, Code, Stall, Latency, Beat, Gap}
 use Rattle.waves.specs.Keywords.{keyword_in, fits_words}
 use Rattle.waves.specs.Words.{is_silent, is_clean, words_of, first_word, word_at}
-use Rattle.waves.specs.Spelling.{is_count, count_in, hexadecimal_in, bytes_in}
+use Rattle.waves.specs.Spelling.{is_count, count_in}
 use Rattle.scenarios.specs.declared.faults.ScenarioRule.{ScenarioRule}
 use Rattle.scenarios.specs.declared.faults.ScenarioRule.TheVariants.{Spelling, Ranges, Beginning}
-use Rattle.scenarios.specs.declared.interfaces.NamedHost.{NamedHost}
-use Rattle.scenarios.specs.declared.interfaces.NamedAgent.{NamedAgent}
-use Rattle.scenarios.specs.declared.interfaces.NamedStream.{NamedStream}
+use Rattle.scenarios.specs.declared.interfaces.Named.{Named}
 use Rattle.scenarios.specs.declared.so_far.SoFar.{SoFar}
 use Rattle.scenarios.specs.Interfaces.{host_at, host_named, agent_at, agent_named, stream_at, stream_named}
 use Rattle.scenarios.specs.SoFar.{Reading, judged, is_early, script_at}
@@ -28,7 +29,7 @@ use Rattle.scenarios.specs.Lines.{cycles_rule, cycles_in, at_one, where_there, s
 use Rattle.scenarios.proofs.RuleLemmas.{second, written, asked, waited, filled, coded, stalled, late, sent}
 use Rattle.scenarios.proofs.FitLemmas.{rest_fits, write_fits, read_fits, fill_fits, code_fits, stall_fits, latency_fits, beat_fits}
 use Rattle.scenarios.proofs.ScriptLemmas.{one_more, beat_more, gap_more}
-use Rattle.scenarios.proofs.KeepLemmas.{AreFitting, host_is, agent_is, stream_is, host_more, agent_more, source_more, sink_more, host_script, fill_script, code_script, stall_script, latency_script, sink_script}
+use Rattle.scenarios.proofs.KeepLemmas.{AreFitting, host_is, agent_is, stream_is, host_more, agent_more, source_more, sink_more, host_script, plain_script, stall_script, latency_script, sink_script}
 
 -- what holds of what is read, where no rule is broken
 abbrev IfRead : (SoFar → Type 0) → Reading → Type 0
@@ -53,7 +54,7 @@ if_one Holds (Some one) reading h = h one refl
 
 -- ---- the statements of hosts
 
-write_line : (system : SystemTable) (so_far : SoFar) (host : NamedHost) (words : List (List ℕ)) → AreFitting system so_far → host_at system host.number ≡ Some host → IfRead (AreFitting system) (write_in so_far host words)
+write_line : (system : SystemTable) (so_far : SoFar) (host : Named HostPort) (words : List (List ℕ)) → AreFitting system so_far → host_at system host.number ≡ Some host → IfRead (AreFitting system) (write_in so_far host words)
 unfolding write_in
 write_line system so_far host words h at =
     let script = script_at host.number so_far.hosts in
@@ -61,7 +62,7 @@ write_line system so_far host words h at =
     let kept = written host.port (is_early so_far) (length script) words none in
     host_more system so_far host (write_of words) h at (host_script host.port script (write_of words) (write_fits host.port words kept.0) kept.1.room))
 
-read_line : (system : SystemTable) (so_far : SoFar) (host : NamedHost) (words : List (List ℕ)) → AreFitting system so_far → host_at system host.number ≡ Some host → IfRead (AreFitting system) (read_in so_far host words)
+read_line : (system : SystemTable) (so_far : SoFar) (host : Named HostPort) (words : List (List ℕ)) → AreFitting system so_far → host_at system host.number ≡ Some host → IfRead (AreFitting system) (read_in so_far host words)
 unfolding read_in
 read_line system so_far host words h at =
     let script = script_at host.number so_far.hosts in
@@ -69,7 +70,7 @@ read_line system so_far host words h at =
     let kept = asked host.port (is_early so_far) (length script) words none in
     host_more system so_far host (read_of words) h at (host_script host.port script (read_of words) (read_fits host.port words kept.0) kept.1.room))
 
-idle_line : (system : SystemTable) (so_far : SoFar) (host : NamedHost) (words : List (List ℕ)) → AreFitting system so_far → host_at system host.number ≡ Some host → IfRead (AreFitting system) (idle_in so_far host words)
+idle_line : (system : SystemTable) (so_far : SoFar) (host : Named HostPort) (words : List (List ℕ)) → AreFitting system so_far → host_at system host.number ≡ Some host → IfRead (AreFitting system) (idle_in so_far host words)
 unfolding idle_in
 idle_line system so_far host words h at =
     let script = script_at host.number so_far.hosts in
@@ -80,25 +81,24 @@ idle_line system so_far host words h at =
 
 -- ---- those of agents and sinks
 
-fill_line : (system : SystemTable) (so_far : SoFar) (agent : NamedAgent) (words : List (List ℕ)) → AreFitting system so_far → agent_at system agent.number ≡ Some agent → IfRead (AreFitting system) (fill_in so_far agent words)
+fill_line : (system : SystemTable) (so_far : SoFar) (agent : Named AgentPort) (words : List (List ℕ)) → AreFitting system so_far → agent_at system agent.number ≡ Some agent → IfRead (AreFitting system) (fill_in so_far agent words)
 unfolding fill_in
 fill_line system so_far agent words h at =
     let script = script_at agent.number so_far.agents in
     if_judged (AreFitting system) _ _ (λ none.
     let kept = filled agent.port (is_early so_far) (length script) words none in
-    agent_more system so_far agent (fill_of words) h at (fill_script agent.port script (hexadecimal_in (word_at 2 words)) (bytes_in (word_at 3 words)) (fill_fits agent.port words kept.0) kept.1.room))
+    agent_more system so_far agent (fill_of words) h at (plain_script agent.port script (fill_of words) refl refl (fill_fits agent.port words kept.0) kept.1.room))
 
-code_line : (system : SystemTable) (so_far : SoFar) (agent : NamedAgent) (words : List (List ℕ)) → AreFitting system so_far → agent_at system agent.number ≡ Some agent → agent.port.response ≡ true
+code_line : (system : SystemTable) (so_far : SoFar) (agent : Named AgentPort) (words : List (List ℕ)) → AreFitting system so_far → agent_at system agent.number ≡ Some agent → agent.port.response ≡ true
     → IfRead (AreFitting system) (code_in so_far agent words)
 unfolding code_in
 code_line system so_far agent words h at has =
     let script = script_at agent.number so_far.agents in
     if_judged (AreFitting system) _ _ (λ none.
     let kept = coded agent.port (is_early so_far) (length script) words none in
-    agent_more system so_far agent (code_of words) h at
-    (code_script agent.port script (hexadecimal_in (word_at 2 words)) (hexadecimal_in (word_at 3 words)) (code_fits agent.port words has kept.0) kept.1.room))
+    agent_more system so_far agent (code_of words) h at (plain_script agent.port script (code_of words) refl refl (code_fits agent.port words has kept.0) kept.1.room))
 
-agent_stall_line : (system : SystemTable) (so_far : SoFar) (agent : NamedAgent) (words : List (List ℕ)) → AreFitting system so_far → agent_at system agent.number ≡ Some agent → agent.port.waitrequest ≡ true
+agent_stall_line : (system : SystemTable) (so_far : SoFar) (agent : Named AgentPort) (words : List (List ℕ)) → AreFitting system so_far → agent_at system agent.number ≡ Some agent → agent.port.waitrequest ≡ true
     → IfRead (AreFitting system) (agent_stall_in so_far agent words)
 unfolding agent_stall_in
 agent_stall_line system so_far agent words h at has =
@@ -107,7 +107,7 @@ agent_stall_line system so_far agent words h at has =
     let kept = stalled (is_early so_far) (is_full (length script) || has_stall script) words none in
     agent_more system so_far agent (StallBy (pattern_of words)) h at (stall_script agent.port script (pattern_of words) (stall_fits agent.port.waitrequest words has kept.0) kept.1.room))
 
-sink_stall_line : (system : SystemTable) (so_far : SoFar) (sink : NamedStream) (words : List (List ℕ)) → AreFitting system so_far → stream_at system End sink.number ≡ Some sink → sink.port.ready ≡ true
+sink_stall_line : (system : SystemTable) (so_far : SoFar) (sink : Named StreamPort) (words : List (List ℕ)) → AreFitting system so_far → stream_at system End sink.number ≡ Some sink → sink.port.ready ≡ true
     → IfRead (AreFitting system) (sink_stall_in so_far sink words)
 unfolding sink_stall_in
 sink_stall_line system so_far sink words h at has =
@@ -116,7 +116,7 @@ sink_stall_line system so_far sink words h at has =
     let kept = stalled (is_early so_far) (nat_lt 0 (length script)) words none in
     sink_more system so_far sink (pattern_of words) h at (sink_script sink.port script (pattern_of words) (stall_fits sink.port.ready words has kept.0) kept.1.room))
 
-latency_line : (system : SystemTable) (so_far : SoFar) (agent : NamedAgent) (words : List (List ℕ)) → AreFitting system so_far → agent_at system agent.number ≡ Some agent → agent.port.readdatavalid ≡ true
+latency_line : (system : SystemTable) (so_far : SoFar) (agent : Named AgentPort) (words : List (List ℕ)) → AreFitting system so_far → agent_at system agent.number ≡ Some agent → agent.port.readdatavalid ≡ true
     → IfRead (AreFitting system) (latency_in so_far agent words)
 unfolding latency_in
 latency_line system so_far agent words h at has =
@@ -128,7 +128,7 @@ latency_line system so_far agent words h at has =
 
 -- ---- those of sources
 
-beat_line : (system : SystemTable) (so_far : SoFar) (source : NamedStream) (words : List (List ℕ)) → AreFitting system so_far → stream_at system Start source.number ≡ Some source → IfRead (AreFitting system) (beat_in so_far source words)
+beat_line : (system : SystemTable) (so_far : SoFar) (source : Named StreamPort) (words : List (List ℕ)) → AreFitting system so_far → stream_at system Start source.number ≡ Some source → IfRead (AreFitting system) (beat_in so_far source words)
 unfolding beat_in
 beat_line system so_far source words h at =
     let script = script_at source.number so_far.sources in
@@ -140,7 +140,7 @@ beat_line system so_far source words h at =
       follow = beat_more source.port None script (beat_of words) old.follow (beat_fits source.port _ words kept.0 kept.1);
     }))
 
-gap_line : (system : SystemTable) (so_far : SoFar) (source : NamedStream) (words : List (List ℕ)) → AreFitting system so_far → stream_at system Start source.number ≡ Some source → IfRead (AreFitting system) (gap_in so_far source words)
+gap_line : (system : SystemTable) (so_far : SoFar) (source : Named StreamPort) (words : List (List ℕ)) → AreFitting system so_far → stream_at system Start source.number ≡ Some source → IfRead (AreFitting system) (gap_in so_far source words)
 unfolding gap_in
 gap_line system so_far source words h at =
     let script = script_at source.number so_far.sources in
@@ -169,8 +169,8 @@ cycles_line system so_far words h =
       sinks = h.sinks;
     })
 
-stall_line : (system : SystemTable) (so_far : SoFar) (words : List (List ℕ)) (agent : Option NamedAgent) (sink : Option NamedStream) → AreFitting system so_far
-    → ((one : NamedAgent) → agent ≡ Some one → agent_at system one.number ≡ Some one) → ((one : NamedStream) → sink ≡ Some one → stream_at system End one.number ≡ Some one)
+stall_line : (system : SystemTable) (so_far : SoFar) (words : List (List ℕ)) (agent : Option (Named AgentPort)) (sink : Option (Named StreamPort)) → AreFitting system so_far
+    → ((one : Named AgentPort) → agent ≡ Some one → agent_at system one.number ≡ Some one) → ((one : Named StreamPort) → sink ≡ Some one → stream_at system End one.number ≡ Some one)
     → IfRead (AreFitting system) (stall_by so_far words agent sink)
 stall_line system so_far words (Some agent) sink h at_agent at_sink = if_there (AreFitting system) agent.port.waitrequest _ (λ has. agent_stall_line system so_far agent words h (at_agent agent refl) has)
 stall_line system so_far words None sink h at_agent at_sink =

@@ -1,6 +1,7 @@
 -- The statements of agents, and those of sinks.
 use Rattle.std.specs.Prelude.{◌≡◌, ℕ, ◌+◌, ◌/◌, Bool, true, ◌&&◌, ◌||◌, not, nat_lt, nat_le, List, [], ◌∷◌, length, Option}
 use Rattle.iface_roles.specs.declared.records.AgentPort.{AgentPort}
+use Rattle.iface_roles.specs.declared.records.StreamPort.{StreamPort}
 use Rattle.iface_roles.specs.Proper.{span_of}
 use Rattle.scenario_tables.specs.declared.statements.AgentStatement.{AgentStatement}
 use Rattle.scenario_tables.specs.declared.statements.AgentStatement.TheVariants.{Stall, Latency, Fill, Code}
@@ -10,8 +11,7 @@ use Rattle.waves.specs.Words.{word_at}
 use Rattle.waves.specs.Spelling.{is_hexadecimal, hexadecimal_in, is_count, count_in, are_bytes, bytes_in, is_pattern, pattern_in}
 use Rattle.scenarios.specs.declared.faults.ScenarioRule.{ScenarioRule}
 use Rattle.scenarios.specs.declared.faults.ScenarioRule.TheVariants.{Spelling, Ranges, Beginning, Limits}
-use Rattle.scenarios.specs.declared.interfaces.NamedAgent.{NamedAgent}
-use Rattle.scenarios.specs.declared.interfaces.NamedStream.{NamedStream}
+use Rattle.scenarios.specs.declared.interfaces.Named.{Named}
 use Rattle.scenarios.specs.declared.so_far.SoFar.{SoFar}
 use Rattle.scenarios.specs.Rules.{first_broken}
 use Rattle.scenarios.specs.SoFar.{Reading, judged, is_early, script_at, with_agent, with_sink}
@@ -36,7 +36,7 @@ fill_rule port early count words = first_broken
 abbrev pub fill_of : List (List ℕ) → AgentStatement
 fill_of words = Fill (hexadecimal_in (word_at 2 words)) (bytes_in (word_at 3 words))
 
-unfoldable pub fill_in : SoFar → NamedAgent → List (List ℕ) → Reading
+unfoldable pub fill_in : SoFar → Named AgentPort → List (List ℕ) → Reading
 fill_in so_far agent words =
     judged (fill_rule agent.port (is_early so_far) (length (script_at agent.number so_far.agents)) words) (with_agent agent.number (fill_of words) so_far)
 
@@ -60,7 +60,7 @@ code_rule port early count words = first_broken
 abbrev pub code_of : List (List ℕ) → AgentStatement
 code_of words = Code (hexadecimal_in (word_at 2 words)) (hexadecimal_in (word_at 3 words))
 
-unfoldable pub code_in : SoFar → NamedAgent → List (List ℕ) → Reading
+unfoldable pub code_in : SoFar → Named AgentPort → List (List ℕ) → Reading
 code_in so_far agent words =
     judged (code_rule agent.port (is_early so_far) (length (script_at agent.number so_far.agents)) words) (with_agent agent.number (code_of words) so_far)
 
@@ -79,12 +79,12 @@ pattern_of words = record { stalls = pattern_in (word_at 2 words) }
 abbrev pub has_stall : List AgentStatement → Bool
 has_stall script = nat_lt 0 (length (stalls_of script))
 
-unfoldable pub agent_stall_in : SoFar → NamedAgent → List (List ℕ) → Reading
+unfoldable pub agent_stall_in : SoFar → Named AgentPort → List (List ℕ) → Reading
 agent_stall_in so_far agent words =
     let script = script_at agent.number so_far.agents in
     judged (stall_rule (is_early so_far) (is_full (length script) || has_stall script) words) (with_agent agent.number (Stall (pattern_of words)) so_far)
 
-unfoldable pub sink_stall_in : SoFar → NamedStream → List (List ℕ) → Reading
+unfoldable pub sink_stall_in : SoFar → Named StreamPort → List (List ℕ) → Reading
 sink_stall_in so_far sink words =
     judged (stall_rule (is_early so_far) (nat_lt 0 (length (script_at sink.number so_far.sinks))) words) (with_sink sink.number (pattern_of words) so_far)
 
@@ -104,7 +104,7 @@ latency_rule early no_room words = first_broken
     ∷ (no_room, Limits)
     ∷ [])
 
-unfoldable pub latency_in : SoFar → NamedAgent → List (List ℕ) → Reading
+unfoldable pub latency_in : SoFar → Named AgentPort → List (List ℕ) → Reading
 latency_in so_far agent words =
     let script = script_at agent.number so_far.agents in
     judged (latency_rule (is_early so_far) (is_full (length script) || has_latency script) words) (with_agent agent.number (Latency (count_in (word_at 2 words))) so_far)

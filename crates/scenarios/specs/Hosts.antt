@@ -10,7 +10,7 @@ use Rattle.waves.specs.Words.{word_at}
 use Rattle.waves.specs.Spelling.{is_hexadecimal, hexadecimal_in, is_count, count_in}
 use Rattle.scenarios.specs.declared.faults.ScenarioRule.{ScenarioRule}
 use Rattle.scenarios.specs.declared.faults.ScenarioRule.TheVariants.{Spelling, Ranges, Beginning, Transfers, Limits}
-use Rattle.scenarios.specs.declared.interfaces.NamedHost.{NamedHost}
+use Rattle.scenarios.specs.declared.interfaces.Named.{Named}
 use Rattle.scenarios.specs.declared.so_far.SoFar.{SoFar}
 use Rattle.scenarios.specs.Rules.{first_broken}
 use Rattle.scenarios.specs.SoFar.{Reading, judged, is_early, script_at, with_host}
@@ -65,7 +65,7 @@ write_rule port early count words = first_broken
 abbrev pub write_of : List (List ℕ) → HostStatement
 write_of words = Write (hexadecimal_in (word_at 2 words)) (hexadecimal_in (word_at 3 words)) (map hexadecimal_in (drop 4 words))
 
-unfoldable pub write_in : SoFar → NamedHost → List (List ℕ) → Reading
+unfoldable pub write_in : SoFar → Named HostPort → List (List ℕ) → Reading
 write_in so_far host words =
     judged (write_rule host.port (is_early so_far) (length (script_at host.number so_far.hosts)) words) (with_host host.number (write_of words) so_far)
 
@@ -89,7 +89,7 @@ read_rule port early count words = first_broken
 abbrev pub read_of : List (List ℕ) → HostStatement
 read_of words = Read (hexadecimal_in (word_at 2 words)) (hexadecimal_in (word_at 3 words)) (count_in (word_at 4 words))
 
-unfoldable pub read_in : SoFar → NamedHost → List (List ℕ) → Reading
+unfoldable pub read_in : SoFar → Named HostPort → List (List ℕ) → Reading
 read_in so_far host words =
     judged (read_rule host.port (is_early so_far) (length (script_at host.number so_far.hosts)) words) (with_host host.number (read_of words) so_far)
 
@@ -103,7 +103,7 @@ rest_rule early count words = first_broken
     ∷ (is_full count, Limits)
     ∷ [])
 
-unfoldable pub idle_in : SoFar → NamedHost → List (List ℕ) → Reading
+unfoldable pub idle_in : SoFar → Named HostPort → List (List ℕ) → Reading
 idle_in so_far host words =
     judged (rest_rule (is_early so_far) (length (script_at host.number so_far.hosts)) words) (with_host host.number (Idle (count_in (word_at 2 words))) so_far)
 

@@ -1,6 +1,8 @@
 -- What a line states.
 use Rattle.std.specs.Prelude.{ℕ, Bool, not, List, [], ◌∷◌, length, Option, Some, None, is_some, Ok, Err, if◌then◌else◌}
 use Rattle.iface_roles.specs.declared.kinds.Side.TheVariants.{Start, End}
+use Rattle.iface_roles.specs.declared.records.AgentPort.{AgentPort}
+use Rattle.iface_roles.specs.declared.records.StreamPort.{StreamPort}
 use Rattle.system_tables.specs.Tables.{SystemTable}
 use Rattle.waves.specs.declared.keywords.Keyword.{Keyword}
 use Rattle.waves.specs.declared.keywords.Keyword.TheVariants.{Cycles, Write, Read, Idle, Fill, Code, Stall, Latency, Beat, Gap}
@@ -9,8 +11,7 @@ use Rattle.waves.specs.Words.{is_silent, is_clean, words_of, first_word, word_at
 use Rattle.waves.specs.Spelling.{is_count, count_in}
 use Rattle.scenarios.specs.declared.faults.ScenarioRule.{ScenarioRule}
 use Rattle.scenarios.specs.declared.faults.ScenarioRule.TheVariants.{Characters, Statements, Words, Interfaces, Spelling, Ranges, Beginning}
-use Rattle.scenarios.specs.declared.interfaces.NamedAgent.{NamedAgent}
-use Rattle.scenarios.specs.declared.interfaces.NamedStream.{NamedStream}
+use Rattle.scenarios.specs.declared.interfaces.Named.{Named}
 use Rattle.scenarios.specs.declared.so_far.SoFar.{SoFar}
 use Rattle.scenarios.specs.Rules.{first_broken}
 use Rattle.scenarios.specs.Interfaces.{host_named, agent_named, stream_named}
@@ -41,51 +42,26 @@ at_one {X} (Some one) reading = reading one
 abbrev pub where_there : Bool → Reading → Reading
 where_there there reading = if there then reading else Err Interfaces
 
-abbrev pub write_at : SystemTable → SoFar → List (List ℕ) → Reading
-write_at system so_far words = at_one (host_named system (word_at 1 words)) (λ host. write_in so_far host words)
-
-abbrev pub read_at : SystemTable → SoFar → List (List ℕ) → Reading
-read_at system so_far words = at_one (host_named system (word_at 1 words)) (λ host. read_in so_far host words)
-
-abbrev pub idle_at : SystemTable → SoFar → List (List ℕ) → Reading
-idle_at system so_far words = at_one (host_named system (word_at 1 words)) (λ host. idle_in so_far host words)
-
-abbrev pub fill_at : SystemTable → SoFar → List (List ℕ) → Reading
-fill_at system so_far words = at_one (agent_named system (word_at 1 words)) (λ agent. fill_in so_far agent words)
-
--- a code comes by `response`
-abbrev pub code_at : SystemTable → SoFar → List (List ℕ) → Reading
-code_at system so_far words = at_one (agent_named system (word_at 1 words)) (λ agent. where_there agent.port.response (code_in so_far agent words))
-
--- a latency counts where words come with `readdatavalid`
-abbrev pub latency_at : SystemTable → SoFar → List (List ℕ) → Reading
-latency_at system so_far words = at_one (agent_named system (word_at 1 words)) (λ agent. where_there agent.port.readdatavalid (latency_in so_far agent words))
-
 -- an agent stalls by `waitrequest`, a sink by `ready`
-abbrev pub stall_by : SoFar → List (List ℕ) → Option NamedAgent → Option NamedStream → Reading
+abbrev pub stall_by : SoFar → List (List ℕ) → Option (Named AgentPort) → Option (Named StreamPort) → Reading
 stall_by so_far words (Some agent) sink = where_there agent.port.waitrequest (agent_stall_in so_far agent words)
 stall_by so_far words None sink = at_one sink (λ one. where_there one.port.ready (sink_stall_in so_far one words))
 
 abbrev pub stall_at : SystemTable → SoFar → List (List ℕ) → Reading
 stall_at system so_far words = stall_by so_far words (agent_named system (word_at 1 words)) (stream_named system End (word_at 1 words))
 
-abbrev pub beat_at : SystemTable → SoFar → List (List ℕ) → Reading
-beat_at system so_far words = at_one (stream_named system Start (word_at 1 words)) (λ source. beat_in so_far source words)
-
-abbrev pub gap_at : SystemTable → SoFar → List (List ℕ) → Reading
-gap_at system so_far words = at_one (stream_named system Start (word_at 1 words)) (λ source. gap_in so_far source words)
-
+-- a code comes by `response`, and a latency counts where words come with `readdatavalid`
 abbrev pub statement_in : SystemTable → SoFar → List (List ℕ) → Keyword → Reading
 statement_in system so_far words Cycles = cycles_in so_far words
-statement_in system so_far words Write = write_at system so_far words
-statement_in system so_far words Read = read_at system so_far words
-statement_in system so_far words Idle = idle_at system so_far words
-statement_in system so_far words Fill = fill_at system so_far words
-statement_in system so_far words Code = code_at system so_far words
+statement_in system so_far words Write = at_one (host_named system (word_at 1 words)) (λ host. write_in so_far host words)
+statement_in system so_far words Read = at_one (host_named system (word_at 1 words)) (λ host. read_in so_far host words)
+statement_in system so_far words Idle = at_one (host_named system (word_at 1 words)) (λ host. idle_in so_far host words)
+statement_in system so_far words Fill = at_one (agent_named system (word_at 1 words)) (λ agent. fill_in so_far agent words)
+statement_in system so_far words Code = at_one (agent_named system (word_at 1 words)) (λ agent. where_there agent.port.response (code_in so_far agent words))
 statement_in system so_far words Stall = stall_at system so_far words
-statement_in system so_far words Latency = latency_at system so_far words
-statement_in system so_far words Beat = beat_at system so_far words
-statement_in system so_far words Gap = gap_at system so_far words
+statement_in system so_far words Latency = at_one (agent_named system (word_at 1 words)) (λ agent. where_there agent.port.readdatavalid (latency_in so_far agent words))
+statement_in system so_far words Beat = at_one (stream_named system Start (word_at 1 words)) (λ source. beat_in so_far source words)
+statement_in system so_far words Gap = at_one (stream_named system Start (word_at 1 words)) (λ source. gap_in so_far source words)
 
 -- ---- a line
 

@@ -10,7 +10,7 @@ use Rattle.waves.specs.Words.{word_at}
 use Rattle.waves.specs.Spelling.{is_hexadecimal, hexadecimal_in, count_in, flags_in}
 use Rattle.scenarios.specs.declared.faults.ScenarioRule.{ScenarioRule}
 use Rattle.scenarios.specs.declared.faults.ScenarioRule.TheVariants.{Spelling, Ranges, Beginning, Packets, Limits}
-use Rattle.scenarios.specs.declared.interfaces.NamedStream.{NamedStream}
+use Rattle.scenarios.specs.declared.interfaces.Named.{Named}
 use Rattle.scenarios.specs.declared.so_far.SoFar.{SoFar}
 use Rattle.scenarios.specs.Rules.{first_broken}
 use Rattle.scenarios.specs.SoFar.{Reading, judged, is_early, script_at, with_source}
@@ -73,13 +73,13 @@ beat_rule port early script words = first_broken
     ∷ (is_full (length script), Limits)
     ∷ [])
 
-unfoldable pub beat_in : SoFar → NamedStream → List (List ℕ) → Reading
+unfoldable pub beat_in : SoFar → Named StreamPort → List (List ℕ) → Reading
 beat_in so_far source words =
     judged (beat_rule source.port (is_early so_far) (script_at source.number so_far.sources) words) (with_source source.number (Beat (beat_of words)) so_far)
 
 -- ---- `gap SOURCE CYCLES`
 
-unfoldable pub gap_in : SoFar → NamedStream → List (List ℕ) → Reading
+unfoldable pub gap_in : SoFar → Named StreamPort → List (List ℕ) → Reading
 gap_in so_far source words =
     judged (rest_rule (is_early so_far) (length (script_at source.number so_far.sources)) words) (with_source source.number (Gap (count_in (word_at 2 words))) so_far)
 

@@ -1,18 +1,20 @@
 //! The statements of agents, and those of sinks.
 
-ghost use Rattle.std.specs.Prelude.{◌≡◌, ◌<◌, true, length, Some, None, Ok, OnOk, IfErr, IfOk, if◌then◌else◌};
+ghost use Rattle.std.specs.Prelude.{◌≡◌, ◌<◌, true, length, Some, None, Ok, Err, OnOk, IfErr, IfOk, if◌then◌else◌};
 ghost use Rattle.iface_roles.specs.Proper.{IsBoundedAgent};
 ghost use Rattle.waves.specs.Spelling.{is_hexadecimal, are_bytes, is_count, count_in, bytes_in};
 ghost use Rattle.waves.specs.Words.{word_at};
 ghost use Rattle.scenarios.specs.SoFar.{Breaks};
-ghost use Rattle.scenarios.specs.Agents.{CanFill, CanAnswer, CanWaitFor, fill_of, code_of, pattern_of, fits_fill, fill_rule, fill_in, fits_code, code_rule, code_in, stall_rule, has_stall, agent_stall_in, sink_stall_in, has_latency, is_latency, latency_rule, latency_in};
+ghost use Rattle.scenarios.specs.declared.faults.ScenarioRule.TheVariants.{Ranges};
+ghost use Rattle.scenarios.specs.Agents.{CanFill, CanAnswer, fill_of, code_of, pattern_of, fits_fill, fill_in, fits_code, code_in, stall_rule, has_stall, agent_stall_in, sink_stall_in, has_latency, is_latency, latency_in};
 
-use crate::faults::{LineFault, ScenarioRule};
-use crate::interfaces::{NamedAgent, NamedStream};
+use crate::faults::{LineFault, ScenarioRule, refuse_if};
+use crate::interfaces::Named;
 use crate::ports::span;
+use crate::rests::is_full;
 use crate::so_far::SoFar;
 use av_base::NoMemory;
-use iface_roles::AgentPort;
+use iface_roles::{AgentPort, StreamPort};
 use scenario_tables::{AgentStatement, Pattern};
 use std::alloc::Global;
 use waves::{
@@ -32,32 +34,6 @@ fn fits_fill(agent: &AgentPort, words: &Words) -> bool
     offset <= span && offset + bytes as u128 <= span
 }
 
-/// The least rule that a `fill` breaks, behind so many statements of its agent.
-#[tactic(auto, unfolding(crate::specs::Agents::fill_rule))]
-fn fill_rule(
-    agent: &AgentPort,
-    early: bool,
-    statements: usize,
-    words: &Words,
-) -> Option<ScenarioRule>
-    requires { IsBoundedAgent agent.now }
-    ensures { result ≡ fill_rule agent.now early statements words.now }
-{
-    if !(is_hexadecimal(words.word(2)) && are_bytes(words.word(3))) {
-        return Some(ScenarioRule::Spelling);
-    }
-    if !fits_fill(agent, words) {
-        return Some(ScenarioRule::Ranges);
-    }
-    if early {
-        return Some(ScenarioRule::Beginning);
-    }
-    if 4096 <= statements {
-        return Some(ScenarioRule::Limits);
-    }
-    None
-}
-
 fn fill_of(alloc: Global, agent: &AgentPort, words: &Words) -> Result<AgentStatement, NoMemory>
     requires agent { IsBoundedAgent agent.now }
     requires fits { CanFill agent.now words.now }
@@ -71,11 +47,11 @@ fn fill_of(alloc: Global, agent: &AgentPort, words: &Words) -> Result<AgentState
 }
 
 /// Reads `fill AGENT OFFSET BYTES`.
-#[tactic(auto, unfolding(crate::specs::Agents::fill_in))]
+#[tactic(auto, unfolding(crate::specs::Agents::fill_in, crate::specs::Agents::fill_rule))]
 pub(crate) fn fill(
     alloc: Global,
     so_far: &mut SoFar,
-    agent: &NamedAgent,
+    agent: &Named<AgentPort>,
     words: &Words,
 ) -> Result<(), LineFault>
     requires port { IsBoundedAgent agent.now.port }
@@ -83,11 +59,16 @@ pub(crate) fn fill(
     ensures ok { OnOk result (fill_in so_far.old agent.now words.now ≡ Ok so_far.new) }
     ensures err { IfErr result (Breaks (fill_in so_far.old agent.now words.now)) }
 {
+    let port = &agent.port;
     let statements = so_far.agents.script(agent.number).len();
-    if let Some(rule) = fill_rule(&agent.port, so_far.is_early(), statements, words) {
-        return Err(LineFault::Broken { rule });
-    }
-    let statement = fill_of(alloc, &agent.port, words)?;
+    refuse_if(
+        !(is_hexadecimal(words.word(2)) && are_bytes(words.word(3))),
+        ScenarioRule::Spelling,
+    )?;
+    refuse_if(!fits_fill(port, words), ScenarioRule::Ranges)?;
+    refuse_if(so_far.is_early(), ScenarioRule::Beginning)?;
+    refuse_if(is_full(statements), ScenarioRule::Limits)?;
+    let statement = fill_of(alloc, port, words)?;
     so_far.agents.push(agent.number, statement)?;
     Ok(())
 }
@@ -104,32 +85,6 @@ fn fits_code(agent: &AgentPort, words: &Words) -> bool
     offset < u128::from(span(agent)) && code <= 3
 }
 
-/// The least rule that a `code` breaks, behind so many statements of its agent.
-#[tactic(auto, unfolding(crate::specs::Agents::code_rule))]
-fn code_rule(
-    agent: &AgentPort,
-    early: bool,
-    statements: usize,
-    words: &Words,
-) -> Option<ScenarioRule>
-    requires { IsBoundedAgent agent.now }
-    ensures { result ≡ code_rule agent.now early statements words.now }
-{
-    if !(is_hexadecimal(words.word(2)) && is_hexadecimal(words.word(3))) {
-        return Some(ScenarioRule::Spelling);
-    }
-    if !fits_code(agent, words) {
-        return Some(ScenarioRule::Ranges);
-    }
-    if early {
-        return Some(ScenarioRule::Beginning);
-    }
-    if 4096 <= statements {
-        return Some(ScenarioRule::Limits);
-    }
-    None
-}
-
 fn code_of(agent: &AgentPort, words: &Words) -> AgentStatement
     requires agent { IsBoundedAgent agent.now }
     requires fits { CanAnswer agent.now words.now }
@@ -142,37 +97,39 @@ fn code_of(agent: &AgentPort, words: &Words) -> AgentStatement
 }
 
 /// Reads `code AGENT OFFSET CODE`.
-#[tactic(auto, unfolding(crate::specs::Agents::code_in))]
-pub(crate) fn code(so_far: &mut SoFar, agent: &NamedAgent, words: &Words) -> Result<(), LineFault>
+#[tactic(auto, unfolding(crate::specs::Agents::code_in, crate::specs::Agents::code_rule))]
+pub(crate) fn code(
+    so_far: &mut SoFar,
+    agent: &Named<AgentPort>,
+    words: &Words,
+) -> Result<(), LineFault>
     requires port { IsBoundedAgent agent.now.port }
     requires number { agent.now.number < length so_far.old.agents }
     ensures ok { OnOk result (code_in so_far.old agent.now words.now ≡ Ok so_far.new) }
     ensures err { IfErr result (Breaks (code_in so_far.old agent.now words.now)) }
 {
+    let port = &agent.port;
     let statements = so_far.agents.script(agent.number).len();
-    if let Some(rule) = code_rule(&agent.port, so_far.is_early(), statements, words) {
-        return Err(LineFault::Broken { rule });
-    }
-    let statement = code_of(&agent.port, words);
-    so_far.agents.push(agent.number, statement)?;
+    refuse_if(
+        !(is_hexadecimal(words.word(2)) && is_hexadecimal(words.word(3))),
+        ScenarioRule::Spelling,
+    )?;
+    refuse_if(!fits_code(port, words), ScenarioRule::Ranges)?;
+    refuse_if(so_far.is_early(), ScenarioRule::Beginning)?;
+    refuse_if(is_full(statements), ScenarioRule::Limits)?;
+    so_far.agents.push(agent.number, code_of(port, words))?;
     Ok(())
 }
 
-/// The least rule that a `stall` breaks, where there is no room for one or there is.
+/// Whether a `stall` breaks no rule, where there is no room for one or there is.
 #[tactic(auto, unfolding(crate::specs::Agents::stall_rule))]
-fn stall_rule(early: bool, no_room: bool, words: &Words) -> Option<ScenarioRule>
-    ensures { result ≡ stall_rule early no_room words.now }
+fn judge_stall(early: bool, no_room: bool, words: &Words) -> Result<(), ScenarioRule>
+    ensures kept { OnOk result (stall_rule early no_room words.now ≡ None) }
+    ensures broken { IfErr result (λ rule. stall_rule early no_room words.now ≡ Some rule) }
 {
-    if !is_pattern(words.word(2)) {
-        return Some(ScenarioRule::Spelling);
-    }
-    if early {
-        return Some(ScenarioRule::Beginning);
-    }
-    if no_room {
-        return Some(ScenarioRule::Limits);
-    }
-    None
+    refuse_if(!is_pattern(words.word(2)), ScenarioRule::Spelling)?;
+    refuse_if(early, ScenarioRule::Beginning)?;
+    refuse_if(no_room, ScenarioRule::Limits)
 }
 
 fn pattern_of(alloc: Global, words: &Words) -> Result<Pattern, NoMemory>
@@ -199,7 +156,7 @@ fn has_stall(script: &[AgentStatement]) -> bool
 pub(crate) fn agent_stall(
     alloc: Global,
     so_far: &mut SoFar,
-    agent: &NamedAgent,
+    agent: &Named<AgentPort>,
     words: &Words,
 ) -> Result<(), LineFault>
     requires { agent.now.number < length so_far.old.agents }
@@ -207,10 +164,8 @@ pub(crate) fn agent_stall(
     ensures err { IfErr result (Breaks (agent_stall_in so_far.old agent.now words.now)) }
 {
     let script = so_far.agents.script(agent.number);
-    let no_room = 4096 <= script.len() || has_stall(script);
-    if let Some(rule) = stall_rule(so_far.is_early(), no_room, words) {
-        return Err(LineFault::Broken { rule });
-    }
+    let no_room = is_full(script.len()) || has_stall(script);
+    judge_stall(so_far.is_early(), no_room, words)?;
     let pattern = pattern_of(alloc, words)?;
     so_far
         .agents
@@ -223,7 +178,7 @@ pub(crate) fn agent_stall(
 pub(crate) fn sink_stall(
     alloc: Global,
     so_far: &mut SoFar,
-    sink: &NamedStream,
+    sink: &Named<StreamPort>,
     words: &Words,
 ) -> Result<(), LineFault>
     requires { sink.now.number < length so_far.old.sinks }
@@ -231,9 +186,7 @@ pub(crate) fn sink_stall(
     ensures err { IfErr result (Breaks (sink_stall_in so_far.old sink.now words.now)) }
 {
     let no_room = 0 < so_far.sinks.script(sink.number).len();
-    if let Some(rule) = stall_rule(so_far.is_early(), no_room, words) {
-        return Err(LineFault::Broken { rule });
-    }
+    judge_stall(so_far.is_early(), no_room, words)?;
     let pattern = pattern_of(alloc, words)?;
     so_far.sinks.push(sink.number, pattern)?;
     Ok(())
@@ -251,60 +204,34 @@ fn has_latency(script: &[AgentStatement]) -> bool
 }
 
 /// The latency that a word spells, 1 to 255 cycles.
-fn latency_cycles(word: &[u8]) -> Option<u8>
+fn latency_cycles(word: &[u8]) -> Result<u8, ScenarioRule>
     requires { is_count word.now ≡ true }
-    ensures { result ≡ (if is_latency (count_in word.now) then Some (count_in word.now) else None) }
+    ensures { result ≡ (if is_latency (count_in word.now) then Ok (count_in word.now) else Err Ranges) }
 {
-    let cycles = count(word, 255)? as u8;
-    if cycles == 0 { None } else { Some(cycles) }
-}
-
-/// The least rule that a `latency` breaks, where there is no room for one or there is.
-#[tactic(auto, unfolding(crate::specs::Agents::latency_rule))]
-fn latency_rule(early: bool, no_room: bool, words: &Words) -> Option<ScenarioRule>
-    ensures { result ≡ latency_rule early no_room words.now }
-{
-    let word = words.word(2);
-    if !is_count(word) {
-        return Some(ScenarioRule::Spelling);
+    match count(word, 255) {
+        Some(cycles) if 0 < cycles => Ok(cycles as u8),
+        _ => Err(ScenarioRule::Ranges),
     }
-    if latency_cycles(word).is_none() {
-        return Some(ScenarioRule::Ranges);
-    }
-    if early {
-        return Some(ScenarioRule::Beginning);
-    }
-    if no_room {
-        return Some(ScenarioRule::Limits);
-    }
-    None
-}
-
-/// The cycles of a latency that breaks no rule.
-fn latency_of(words: &Words) -> u8
-    requires { CanWaitFor words.now }
-    ensures { result ≡ count_in (word_at 2 words.now) }
-{
-    latency_cycles(words.word(2)).unwrap()
 }
 
 /// Reads `latency AGENT CYCLES`.
-#[tactic(auto, unfolding(crate::specs::Agents::latency_in))]
+#[tactic(auto, unfolding(crate::specs::Agents::latency_in, crate::specs::Agents::latency_rule))]
 pub(crate) fn latency(
     so_far: &mut SoFar,
-    agent: &NamedAgent,
+    agent: &Named<AgentPort>,
     words: &Words,
 ) -> Result<(), LineFault>
     requires { agent.now.number < length so_far.old.agents }
     ensures ok { OnOk result (latency_in so_far.old agent.now words.now ≡ Ok so_far.new) }
     ensures err { IfErr result (Breaks (latency_in so_far.old agent.now words.now)) }
 {
+    let word = words.word(2);
     let script = so_far.agents.script(agent.number);
-    let no_room = 4096 <= script.len() || has_latency(script);
-    if let Some(rule) = latency_rule(so_far.is_early(), no_room, words) {
-        return Err(LineFault::Broken { rule });
-    }
-    let cycles = latency_of(words);
+    let no_room = is_full(script.len()) || has_latency(script);
+    refuse_if(!is_count(word), ScenarioRule::Spelling)?;
+    let cycles = latency_cycles(word)?;
+    refuse_if(so_far.is_early(), ScenarioRule::Beginning)?;
+    refuse_if(no_room, ScenarioRule::Limits)?;
     so_far
         .agents
         .push(agent.number, AgentStatement::Latency { cycles })?;

@@ -1,6 +1,6 @@
 //! Why a scenario was not read.
 
-ghost use Rattle.std.specs.Prelude.{◌≡◌};
+ghost use Rattle.std.specs.Prelude.{◌≡◌, true, false, OnOk, IfErr};
 ghost use Rattle.scenarios.specs.Rules.{number_of};
 
 use av_base::NoMemory;
@@ -51,6 +51,14 @@ impl ScenarioRule {
     }
 }
 
+/// The rule, where it is broken.
+pub(crate) fn refuse_if(broken: bool, rule: ScenarioRule) -> Result<(), ScenarioRule>
+    ensures ok { OnOk result (broken ≡ false) }
+    ensures err { IfErr result (λ least. (broken ≡ true) × (least ≡ rule)) }
+{
+    if broken { Err(rule) } else { Ok(()) }
+}
+
 /// Why a scenario was not read: the first line with a fault, counted from 1, and its least rule, or want of memory.
 #[derive(Clone, Copy, Debug, PartialEq, Eq, Error)]
 pub enum ScenarioFault {
@@ -84,5 +92,15 @@ impl From<NoMemory> for LineFault {
 
     fn from(_e: NoMemory) -> LineFault {
         LineFault::NoMemory
+    }
+}
+
+impl From<ScenarioRule> for LineFault {
+    ghost use Rattle.scenarios.specs.declared.faults.LineFault.TheVariants.{Broken};
+
+    ghost from_gives = { λ rule fault. fault ≡ Broken rule };
+
+    fn from(rule: ScenarioRule) -> LineFault {
+        LineFault::Broken { rule }
     }
 }

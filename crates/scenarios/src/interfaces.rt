@@ -1,6 +1,6 @@
 //! The interfaces that statements name.
 
-ghost use Rattle.std.specs.Prelude.{◌≡◌, ◌<◌, ℕ, ◌++◌, ◌∷◌, [], length, slice_get, Some, IfSome};
+ghost use Rattle.std.specs.Prelude.{◌≡◌, ◌<◌, ℕ, ◌++◌, ◌∷◌, [], length, slice_get, Some, None, IfOk, IfErr};
 ghost use Rattle.std.specs.Str.{bytes_eq};
 ghost use Rattle.std.specs.List.{position_or_len};
 ghost use Rattle.iface_roles.specs.declared.records.Finished.{Finished as Known};
@@ -10,34 +10,20 @@ ghost use Rattle.system_tables.specs.Tables.{IsEnd};
 ghost use Rattle.address_map.specs.Maps.{hosts_of, agents_of};
 ghost use Rattle.link_rules.specs.declared.plan_links.StreamLink.{StreamLink as Link};
 ghost use Rattle.link_rules.specs.PlanLinks.{stream_links};
-ghost use Rattle.link_rules.specs.PlanLinks.{IsHostEnd, IsAgentEnd};
-ghost use Rattle.scenario_tables.specs.Scenarios.{IsHostAt, IsAgentAt};
 ghost use Rattle.map_text.specs.Text.{end_name};
-ghost use Rattle.scenarios.specs.Interfaces.{place_of, host_named, agent_named, stream_end, stream_port, stream_named};
+ghost use Rattle.scenarios.specs.declared.faults.ScenarioRule.TheVariants.{Interfaces};
+ghost use Rattle.scenarios.specs.Interfaces.{place_of, IsNamed, host_named, agent_named, stream_end, stream_port, stream_named};
 
+use crate::faults::{ScenarioRule, refuse_if};
 use iface_roles::{AgentPort, Finished, HostPort, Side, StreamPort, proper_records_are_bounded};
 use link_rules::{Plan, StreamLink, ends_are_known, streams_are_numbered};
 use system_tables::EndId;
 
-/// A host with its number.
+/// What is known of an interface, with its number; that of a source or a sink is its stream's.
 #[derive(Clone, Copy)]
-pub(crate) struct NamedHost {
+pub(crate) struct Named<P> {
     pub(crate) number: usize,
-    pub(crate) port: HostPort,
-}
-
-/// An agent with its number.
-#[derive(Clone, Copy)]
-pub(crate) struct NamedAgent {
-    pub(crate) number: usize,
-    pub(crate) port: AgentPort,
-}
-
-/// A source or a sink with the number of its stream.
-#[derive(Clone, Copy)]
-pub(crate) struct NamedStream {
-    pub(crate) number: usize,
-    pub(crate) port: StreamPort,
+    pub(crate) port: P,
 }
 
 /// Whether a word is two names with a dot between them.
@@ -80,98 +66,63 @@ fn place_len(plan: &Plan, ends: &[EndId], word: &[u8]) -> usize
     count
 }
 
-fn place_of(plan: &Plan, ends: &[EndId], word: &[u8]) -> Option<usize>
+/// The interface that a word names among these ends.
+fn interface_named(
+    plan: &Plan,
+    ends: &[EndId],
+    word: &[u8],
+) -> Result<Named<Finished>, ScenarioRule>
     requires { (k : ℕ) (end : Id) → slice_get ends.now k ≡ Some end → (known : Known) × IsEnd plan.now.system end known }
-    ensures place { result ≡ place_of plan.now.system ends.now word.now }
-    ensures there { IfSome result (λ place. place < length ends.now) }
+    ensures ok { IfOk result (IsNamed plan.now.system ends.now word.now) }
+    ensures none { IfErr result (λ rule. (place_of plan.now.system ends.now word.now ≡ None) × (rule ≡ Interfaces)) }
 {
-    let place = place_len(plan, ends, word);
-    if place < ends.len() {
-        Some(place)
-    } else {
-        None
-    }
-}
-
-/// The end of the host of this number.
-fn host_end(plan: &Plan, number: usize) -> EndId
-    requires { number < length (hosts_of plan.now.system) }
-    ensures is { slice_get (hosts_of plan.now.system) number ≡ Some result }
-    ensures known { IsHostEnd plan.now.system result }
-{
-    plan.well_made();
-    ends_are_known();
-    plan.hosts()[number]
-}
-
-/// The record of the host of this number.
-fn host_port(plan: &Plan, number: usize) -> HostPort
-    requires { number < length (hosts_of plan.now.system) }
-    ensures is { IsHostAt plan.now.system number result }
-    ensures bounded { IsBoundedHost result }
-{
-    proper_records_are_bounded();
-    let Finished::Host(port) = plan.interface(host_end(plan, number)) else {
-        unreachable!();
-    };
-    port
-}
-
-/// The host that a word names.
-pub(crate) fn host_named(plan: &Plan, word: &[u8]) -> Option<NamedHost>
-    ensures value { result ≡ host_named plan.now.system word.now }
-    ensures number { IfSome result (λ host. host.number < length (hosts_of plan.now.system)) }
-    ensures port { IfSome result (λ host. IsBoundedHost host.port) }
-{
-    plan.well_made();
-    ends_are_known();
-    let Some(number) = place_of(plan, plan.hosts(), word) else {
-        return None;
-    };
-    Some(NamedHost {
+    let number = place_len(plan, ends, word);
+    refuse_if(ends.len() <= number, ScenarioRule::Interfaces)?;
+    Ok(Named {
         number,
-        port: host_port(plan, number),
+        port: plan.interface(ends[number]),
     })
 }
 
-/// The end of the agent of this number.
-fn agent_end(plan: &Plan, number: usize) -> EndId
-    requires { number < length (agents_of plan.now.system) }
-    ensures is { slice_get (agents_of plan.now.system) number ≡ Some result }
-    ensures known { IsAgentEnd plan.now.system result }
+/// The host that a word names.
+#[tactic(auto, unfolding(crate::specs::Interfaces::host_named))]
+pub(crate) fn host_named(plan: &Plan, word: &[u8]) -> Result<Named<HostPort>, ScenarioRule>
+    ensures ok { IfOk result (λ host. host_named plan.now.system word.now ≡ Some host) }
+    ensures number { IfOk result (λ host. host.number < length (hosts_of plan.now.system)) }
+    ensures port { IfOk result (λ host. IsBoundedHost host.port) }
+    ensures none { IfErr result (λ rule. (host_named plan.now.system word.now ≡ None) × (rule ≡ Interfaces)) }
 {
     plan.well_made();
     ends_are_known();
-    plan.agents()[number]
-}
-
-/// The record of the agent of this number.
-fn agent_port(plan: &Plan, number: usize) -> AgentPort
-    requires { number < length (agents_of plan.now.system) }
-    ensures is { IsAgentAt plan.now.system number result }
-    ensures bounded { IsBoundedAgent result }
-{
     proper_records_are_bounded();
-    let Finished::Agent(port) = plan.interface(agent_end(plan, number)) else {
+    let known = interface_named(plan, plan.hosts(), word)?;
+    let Finished::Host(port) = known.port else {
         unreachable!();
     };
-    port
+    Ok(Named {
+        number: known.number,
+        port,
+    })
 }
 
 /// The agent that a word names.
-pub(crate) fn agent_named(plan: &Plan, word: &[u8]) -> Option<NamedAgent>
-    ensures value { result ≡ agent_named plan.now.system word.now }
-    ensures number { IfSome result (λ agent. agent.number < length (agents_of plan.now.system)) }
-    ensures port { IfSome result (λ agent. IsBoundedAgent agent.port) }
+#[tactic(auto, unfolding(crate::specs::Interfaces::agent_named))]
+pub(crate) fn agent_named(plan: &Plan, word: &[u8]) -> Result<Named<AgentPort>, ScenarioRule>
+    ensures ok { IfOk result (λ agent. agent_named plan.now.system word.now ≡ Some agent) }
+    ensures number { IfOk result (λ agent. agent.number < length (agents_of plan.now.system)) }
+    ensures port { IfOk result (λ agent. IsBoundedAgent agent.port) }
+    ensures none { IfErr result (λ rule. (agent_named plan.now.system word.now ≡ None) × (rule ≡ Interfaces)) }
 {
     plan.well_made();
     ends_are_known();
-    let Some(number) = place_of(plan, plan.agents(), word) else {
-        return None;
+    proper_records_are_bounded();
+    let known = interface_named(plan, plan.agents(), word)?;
+    let Finished::Agent(port) = known.port else {
+        unreachable!();
     };
-    Some(NamedAgent {
-        number,
-        port: agent_port(plan, number),
+    Ok(Named {
+        number: known.number,
+        port,
     })
 }
 
@@ -211,19 +162,25 @@ fn stream_len(plan: &Plan, side: Side, word: &[u8]) -> usize
 
 /// The source, or the sink, that a word names.
 #[tactic(auto, unfolding(crate::specs::Interfaces::stream_named))]
-pub(crate) fn stream_named(plan: &Plan, side: Side, word: &[u8]) -> Option<NamedStream>
-    ensures value { result ≡ stream_named plan.now.system side word.now }
-    ensures number { IfSome result (λ stream. stream.number < length (stream_links plan.now.system)) }
-    ensures port { IfSome result (λ stream. IsBoundedStream stream.port) }
+pub(crate) fn stream_named(
+    plan: &Plan,
+    side: Side,
+    word: &[u8],
+) -> Result<Named<StreamPort>, ScenarioRule>
+    ensures ok { IfOk result (λ stream. stream_named plan.now.system side word.now ≡ Some stream) }
+    ensures number { IfOk result (λ stream. stream.number < length (stream_links plan.now.system)) }
+    ensures port { IfOk result (λ stream. IsBoundedStream stream.port) }
+    ensures none { IfErr result (λ rule. (stream_named plan.now.system side word.now ≡ None) × (rule ≡ Interfaces)) }
 {
     plan.well_made();
     streams_are_numbered();
     proper_records_are_bounded();
     let number = stream_len(plan, side, word);
-    if plan.stream_links().len() <= number {
-        return None;
-    }
-    Some(NamedStream {
+    refuse_if(
+        plan.stream_links().len() <= number,
+        ScenarioRule::Interfaces,
+    )?;
+    Ok(Named {
         number,
         port: port_of(&plan.stream_links()[number], side),
     })

@@ -3,12 +3,12 @@
 ghost use Rattle.std.specs.Prelude.{◌≡◌, ◌<◌, true, length, Some, None, Ok, OnOk, IfErr};
 ghost use Rattle.iface_roles.specs.Proper.{IsBoundedStream};
 ghost use Rattle.scenarios.specs.SoFar.{Breaks};
-ghost use Rattle.scenarios.specs.Streams.{IsShown, spells_beat, flags_of, beat_of, fits_ports, opened_by, keeps_packets, beat_rule, beat_in, gap_in};
+ghost use Rattle.scenarios.specs.Streams.{IsShown, spells_beat, flags_of, beat_of, fits_ports, opened_by, keeps_packets, beat_in, gap_in};
 
-use crate::faults::{LineFault, ScenarioRule};
-use crate::interfaces::NamedStream;
+use crate::faults::{LineFault, ScenarioRule, refuse_if};
+use crate::interfaces::Named;
 use crate::ports::fits;
-use crate::rests::{rest, rest_rule};
+use crate::rests::{is_full, rest};
 use crate::so_far::SoFar;
 use iface_roles::StreamPort;
 use scenario_tables::{SourceBeat, SourceStatement};
@@ -85,49 +85,29 @@ fn keeps_packets(source: &StreamPort, opened: Option<u16>, beat: &SourceBeat) ->
     is_marked_well && (beat.last || beat.empty == 0)
 }
 
-/// The least rule that a beat breaks, behind the statements of its source.
-#[tactic(auto, unfolding(crate::specs::Streams::beat_rule))]
-fn beat_rule(
-    source: &StreamPort,
-    early: bool,
-    script: &[SourceStatement],
-    words: &Words,
-) -> Option<ScenarioRule>
-    requires { IsBoundedStream source.now }
-    ensures { result ≡ beat_rule source.now early script.now words.now }
-{
-    if !spells_beat(words) {
-        return Some(ScenarioRule::Spelling);
-    }
-    if !fits_ports(source, words) {
-        return Some(ScenarioRule::Ranges);
-    }
-    if early {
-        return Some(ScenarioRule::Beginning);
-    }
-    if !keeps_packets(source, opened(script), &beat_of(source, words)) {
-        return Some(ScenarioRule::Packets);
-    }
-    if 4096 <= script.len() {
-        return Some(ScenarioRule::Limits);
-    }
-    None
-}
-
 /// Reads `beat SOURCE WORD CHANNEL ERROR FLAGS EMPTY`.
-#[tactic(auto, unfolding(crate::specs::Streams::beat_in))]
-pub(crate) fn beat(so_far: &mut SoFar, source: &NamedStream, words: &Words) -> Result<(), LineFault>
+#[tactic(auto, unfolding(crate::specs::Streams::beat_in, crate::specs::Streams::beat_rule))]
+pub(crate) fn beat(
+    so_far: &mut SoFar,
+    source: &Named<StreamPort>,
+    words: &Words,
+) -> Result<(), LineFault>
     requires port { IsBoundedStream source.now.port }
     requires number { source.now.number < length so_far.old.sources }
     ensures ok { OnOk result (beat_in so_far.old source.now words.now ≡ Ok so_far.new) }
     ensures err { IfErr result (Breaks (beat_in so_far.old source.now words.now)) }
 {
-    let early = so_far.is_early();
+    let port = &source.port;
     let script = so_far.sources.script(source.number);
-    if let Some(rule) = beat_rule(&source.port, early, script, words) {
-        return Err(LineFault::Broken { rule });
-    }
-    let beat = beat_of(&source.port, words);
+    refuse_if(!spells_beat(words), ScenarioRule::Spelling)?;
+    refuse_if(!fits_ports(port, words), ScenarioRule::Ranges)?;
+    refuse_if(so_far.is_early(), ScenarioRule::Beginning)?;
+    let beat = beat_of(port, words);
+    refuse_if(
+        !keeps_packets(port, opened(script), &beat),
+        ScenarioRule::Packets,
+    )?;
+    refuse_if(is_full(script.len()), ScenarioRule::Limits)?;
     so_far
         .sources
         .push(source.number, SourceStatement::Beat { beat })?;
@@ -136,16 +116,17 @@ pub(crate) fn beat(so_far: &mut SoFar, source: &NamedStream, words: &Words) -> R
 
 /// Reads `gap SOURCE CYCLES`.
 #[tactic(auto, unfolding(crate::specs::Streams::gap_in))]
-pub(crate) fn gap(so_far: &mut SoFar, source: &NamedStream, words: &Words) -> Result<(), LineFault>
+pub(crate) fn gap(
+    so_far: &mut SoFar,
+    source: &Named<StreamPort>,
+    words: &Words,
+) -> Result<(), LineFault>
     requires { source.now.number < length so_far.old.sources }
     ensures ok { OnOk result (gap_in so_far.old source.now words.now ≡ Ok so_far.new) }
     ensures err { IfErr result (Breaks (gap_in so_far.old source.now words.now)) }
 {
     let statements = so_far.sources.script(source.number).len();
-    if let Some(rule) = rest_rule(so_far.is_early(), statements, words) {
-        return Err(LineFault::Broken { rule });
-    }
-    let cycles = rest(words);
+    let cycles = rest(so_far.is_early(), statements, words)?;
     so_far
         .sources
         .push(source.number, SourceStatement::Gap { cycles })?;

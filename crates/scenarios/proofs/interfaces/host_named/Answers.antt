@@ -1,15 +1,17 @@
-use Rattle.std.proofs.Common.{List, sym, ap, ◌∙◌}
-use Rattle.system_tables.specs.declared.tables.EndId.{EndId}
-use Rattle.scenarios.specs.Interfaces.{place_of}
-use Rattle.scenarios.proofs.InterfaceLemmas.{a_host, no_host}
+use Rattle.std.proofs.Common.{subst}
+use Rattle.iface_roles.specs.Proper.{IsProper}
+use Rattle.scenarios.proofs.InterfaceLemmas.{a_host, host_record}
 use Rattle.scenarios.proofs.interfaces.host_named.Goals as goal
 
-pub returns-in_default-clause-value : goal.returns-in_default-clause-value
-returns-in_default-clause-value c =
-    no_host c.args.plan.now.system c.args.word.now
-    (sym c.in_default.is ∙ c.place_of.ensures.place ∙ ap (λ (ends : List EndId). place_of c.args.plan.now.system ends c.args.word.now) c.hosts.ensures)
+pub unreachable-requires : goal.unreachable-requires
+unreachable-requires c =
+    let one = host_record c.args.plan.now.system c.hosts.result.now c.args.word.now c.in_ok-known.known c.hosts.ensures c.in_ok-known.ensures.ok (c.ends_are_known.ensures.hosts c.args.plan.now.system c.well_made.ensures.system) in
+    c.in_default.not-Host one.host one.is
 
-pub returns-clause-value : goal.returns-clause-value
-returns-clause-value c =
-    a_host c.args.plan.now.system c.args.word.now c.in-Some.number _
-    (sym c.in-Some.is ∙ c.place_of.ensures.place ∙ ap (λ (ends : List EndId). place_of c.args.plan.now.system ends c.args.word.now) c.hosts.ensures) c.host_port.ensures.is
+pub returns-clause-ok : goal.returns-clause-ok
+returns-clause-ok c = a_host c.args.plan.now.system c.hosts.result.now c.args.word.now c.in_ok-known.known c.in-Host.port c.hosts.ensures c.in_ok-known.ensures.ok c.in-Host.is
+
+pub returns-clause-port : goal.returns-clause-port
+returns-clause-port c =
+    let one = host_record c.args.plan.now.system c.hosts.result.now c.args.word.now c.in_ok-known.known c.hosts.ensures c.in_ok-known.ensures.ok (c.ends_are_known.ensures.hosts c.args.plan.now.system c.well_made.ensures.system) in
+    c.proper_records_are_bounded.ensures.host _ (subst IsProper c.in-Host.is one.proper)

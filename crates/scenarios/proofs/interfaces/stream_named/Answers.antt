@@ -1,4 +1,5 @@
 use Rattle.std.proofs.Common.{arith, ◌≡◌, List, length, ap, sym, subst, ◌∙◌}
+use Rattle.std.proofs.lemmas.Bool.Decides.{nat_tests}
 use Rattle.iface_roles.specs.Proper.{IsBoundedStream}
 use Rattle.link_rules.specs.declared.plan_links.StreamLink.{StreamLink}
 use Rattle.scenarios.proofs.InterfaceLemmas.{stream_bounded}
@@ -9,4 +10,4 @@ returns-clause-port c =
     let same : length c.stream_links-2.result.now ≡ length c.stream_links.result.now = ap (λ (links : List StreamLink). length links) (c.stream_links-2.ensures ∙ sym c.stream_links.ensures) in
     subst IsBoundedStream (sym c.port_of.ensures)
     (stream_bounded c.args.plan.now.system c.args.side c.stream_links-2.result.now c.stream_len-number.result _ c.proper_records_are_bounded.ensures.source c.proper_records_are_bounded.ensures.sink
-    (record { are = c.stream_links-2.ensures; each = c.streams_are_numbered.ensures.links c.args.plan.now.system c.well_made.ensures.system }) (omega arith))
+    (record { are = c.stream_links-2.ensures; each = c.streams_are_numbered.ensures.links c.args.plan.now.system c.well_made.ensures.system }) (grind (arith, nat_tests, same, c.in_ok-refuse_if.ensures.ok)))
