@@ -2,7 +2,6 @@ pub mod Seating
 pub mod BurstWidths
 pub mod Asking
 pub mod AgentParts
-pub mod LoneAgents
 pub mod LoneHosts
 pub mod Below
 pub mod HostParts
@@ -13,6 +12,9 @@ pub mod RowsMade
 pub mod Choices
 pub mod Levels
 pub mod Known
+pub mod Unanswered
+pub mod StageReads
+pub mod SeatBounds
 pub mod Views
 pub mod FabricViews
 pub mod SilentReader

@@ -43,7 +43,7 @@ use Rattle.mm_fabric.proofs.Passing.{there_at, mapped}
 use Rattle.mm_fabric.proofs.Linking.{same_host, same_agent}
 use Rattle.mm_fabric.proofs.Seats.{seated_is_joined}
 use Rattle.mm_fabric.specs.Lone.{IsLoneWay}
-use Rattle.mm_fabric.proofs.LoneWays.{lone_way}
+use Rattle.mm_fabric.proofs.LoneWays.{IsSeatOn, lone_way}
 
 -- ---- the hosts that begin
 
@@ -225,20 +225,32 @@ all_joined plan old netlist begun ends parts are same each = record {
   ports = λ k part at. agent_port_at plan old ends parts k part are same at;
 }
 
--- the agent at the end of a link tells the host
-can_tell : (plan : PlanTable) (netlist : Netlist) (begun : List BegunHost) (parts : List AgentPart) (number : ℕ) (host : BegunHost) (route : Route) → IsLinkedPlan plan → AreAllJoined plan netlist begun parts → slice_get begun number ≡ Some host → HasLinkBetween plan number route.agent →
-    CanTell netlist (host.port.word_bytes * 8) number parts route
-can_tell plan netlist begun parts number host route linked all at link =
+-- the host's seat at the agent at the end of a link
+seat_on : (plan : PlanTable) (netlist : Netlist) (begun : List BegunHost) (parts : List AgentPart) (number : ℕ) (host : BegunHost) (route : Route) → IsLinkedPlan plan → AreAllJoined plan netlist begun parts → slice_get begun number ≡ Some host → HasLinkBetween plan number route.agent →
+    IsSeatOn plan netlist parts number host route
+seat_on plan netlist begun parts number host route linked all at link =
     let below = link.agent_below in
     let many = all.many in
     let there = there_at parts route.agent (omega (arith, below, many)) in
     let joined = joined_at plan netlist begun route.agent parts there.0 all.each there.1 in
     let seat = joined_seat plan netlist begun number route.agent there.0 linked link joined in
+    let asks = asks_at netlist there.0.port route.agent number begun _ there.0.seats seat.0 host joined.seats joined.askers seat.1 at in
     record {
       seat = seat.0;
       has = record { part = there.0; at = there.1; leads = seat.1 };
-      told = (asks_at netlist there.0.port route.agent number begun _ there.0.seats seat.0 host joined.seats joined.askers seat.1 at).seated.told;
+      port = all.ports route.agent there.0 there.1;
+      command = asks.command;
+      leads = asks.leads;
+      seated = asks.seated;
+      bounds = joined.bounds;
     }
+
+-- the agent at the end of a link tells the host
+can_tell : (plan : PlanTable) (netlist : Netlist) (begun : List BegunHost) (parts : List AgentPart) (number : ℕ) (host : BegunHost) (route : Route) → IsLinkedPlan plan → AreAllJoined plan netlist begun parts → slice_get begun number ≡ Some host → HasLinkBetween plan number route.agent →
+    CanTell netlist (host.port.word_bytes * 8) number parts route
+can_tell plan netlist begun parts number host route linked all at link =
+    let is = seat_on plan netlist begun parts number host route linked all at link in
+    record { seat = is.seat; has = is.has; told = is.seated.told }
 
 -- a begun host whose agents tell it may be finished, and where nothing next to it bounds its reads its only agent does
 may_finish : (plan : PlanTable) (netlist : Netlist) (parts : List AgentPart) (number : ℕ) (host : BegunHost) → IsBegun plan netlist number host → (is_unbounded host.trunk.host.reads ≡ true → IsLoneWay netlist parts number host) → length host.routes ≤ 32 → AllCanTell netlist (host.port.word_bytes * 8) number parts host.routes → MayFinish netlist parts number host
@@ -258,6 +270,6 @@ hosts_finish plan old netlist begun ends parts linked many are given same all = 
     let inside = slice_get_within begun k host at in
     let own = linked.hosts k (omega (arith, inside, many)) in
     let tell = all_can_tell netlist (host.port.word_bytes * 8) k parts (routes_of plan.system k) (λ j route there. can_tell plan netlist begun parts k host route linked all at (own.links j route there)) in
-    let lone = lone_way plan old netlist begun parts ends k host linked.ends given same all.each at is in
+    let lone = lone_way plan netlist parts k host linked.ends (λ j route there. seat_on plan netlist begun parts k host route linked all at (own.links j route there)) is in
     let may = may_finish plan netlist parts k host is lone (subst (λ (rs : List Route). length rs ≤ 32) (sym is.routes) own.few) (subst (AllCanTell netlist (host.port.word_bytes * 8) k parts) (sym is.routes) tell) in
     subst (λ n. MayFinish netlist parts n host) (omega arith) may))

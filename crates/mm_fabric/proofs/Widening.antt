@@ -1,7 +1,8 @@
 -- Commands on wider nets.
-use Rattle.std.proofs.Common.{◌≡◌, ℕ, zero, suc, ◌+◌, ◌*◌, ◌^◌, ◌≤◌, ◌<◌, Bool, true, false, if◌then◌else◌, List, [], ◌∷◌, ◌++◌, take, length, get_or, refl, sym, subst, ap, ◌∙◌, arith}
+use Rattle.std.proofs.Common.{◌≡◌, ℕ, zero, suc, ◌+◌, ◌*◌, ◌^◌, ◌≤◌, ◌<◌, Bool, true, false, cond, if◌then◌else◌, nat_eq, List, [], ◌∷◌, ◌++◌, take, length, get_or, Some, refl, sym, subst, ap, ◌∙◌, arith}
 use Rattle.std.proofs.lemmas.List.{take_more}
 use Rattle.std.proofs.lemmas.Bool.{ltb-false}
+use Rattle.std.proofs.lemmas.Option.{same_Some, none-some}
 use Rattle.std.proofs.Math.Pow.{pow_mono}
 use Rattle.std.specs.List.{AllZip, AllByRecursion}
 use Rattle.iface_roles.specs.declared.records.AgentPort.{AgentPort}
@@ -23,7 +24,7 @@ use Rattle.mm_route.specs.declared.back.BackNets.{BackNets}
 use Rattle.mm_burst.specs.CutterNets.{given_widths}
 use Rattle.mm_width.specs.Pairs.{MayAskOf, keeps_beats, bits_between, needs_cut, cutter_between, widths_below}
 use Rattle.mm_width.specs.Widths.{BegunWidth}
-use Rattle.memory_sides.specs.Sides.{burst_width, bound_of}
+use Rattle.memory_sides.specs.Sides.{burst_width}
 use Rattle.netlist.specs.Nets.{NetValue}
 use Rattle.netlist.specs.Runs.{Always}
 use Rattle.net_parts.specs.Laws.{extends_twice}
@@ -32,6 +33,8 @@ use Rattle.mm_fabric.specs.declared.parts.AgentPart.{AgentPart}
 use Rattle.mm_fabric.specs.declared.parts.Seat.{Seat}
 use Rattle.mm_fabric.specs.Askers.{IsAsked, AreAsked, AreToldBelow}
 use Rattle.mm_fabric.specs.Lasting.{agent_part_lasts}
+use Rattle.mm_fabric.specs.Bounds.{reads_at}
+use Rattle.mm_fabric.specs.Fabrics.{seat_of}
 use Rattle.mm_fabric.specs.Lone.{BoundsReads}
 use Rattle.mm_fabric.specs.Parts.{IsAgentPart, askers_of, commands_above, backs_above}
 use Rattle.mm_fabric.specs.Rows.{AllThree, MayLead, LeadsBelow, LeadsToSeat, TellsSeat, told_seat, told_seats}
@@ -278,25 +281,28 @@ part_lasts_told old new stages part told many h e =
       no_stage = stands.no_stage;
     }
 
--- an only seat was the only one
-only_told : (seats : List Seat) (told : List BackNets) (seat : Seat) → length told ≡ length seats → told_seats seats told ≡ seat ∷ [] → (first : Seat) × ((seats ≡ first ∷ []) × ((first.command ≡ seat.command) × (first.back ≡ seat.back)))
-only_told [] told seat many e = absurd (let none = ap (length {A = Seat}) e in omega (arith, none))
-only_told (first ∷ seats) [] seat many e = absurd (omega (arith, many))
-only_told (first ∷ []) (back ∷ told) seat many e = (first, (refl, (ap (λ (s : Seat). s.command) (first_same e), ap (λ (s : Seat). s.back) (first_same e))))
+-- a seat that is told was one with the same command and the same back
+record WasSeat (host : ℕ) (seats : List Seat) (seat : Seat) : Type 0 where
+  first : Seat
+  found : seat_of host seats ≡ Some first
+  command : first.command ≡ seat.command
+  back : first.back ≡ seat.back
+
+was_told : (host : ℕ) (seats : List Seat) (told : List BackNets) (seat : Seat) → length told ≡ length seats → seat_of host (told_seats seats told) ≡ Some seat → WasSeat host seats seat
+was_told host [] told seat many found = absurd (none-some seat found)
+was_told host (first ∷ seats) [] seat many found = absurd (omega (arith, many))
+was_told host (first ∷ seats) (back ∷ told) seat many found = by (nat_eq first.host host) refl found (was_told host seats told seat (omega (arith, many)))
   where
-    head_or : Seat → List Seat → Seat
-    head_or other [] = other
-    head_or other (x ∷ xs) = x
+    by : (b : Bool) → nat_eq first.host host ≡ b → cond b (Some (told_seat first back)) (seat_of host (told_seats seats told)) ≡ Some seat → (seat_of host (told_seats seats told) ≡ Some seat → WasSeat host seats seat) → WasSeat host (first ∷ seats) seat
+    by true own is rest =
+        let same = same_Some (told_seat first back) seat is in
+        record { first = first; found = ap (λ b. cond b (Some first) (seat_of host seats)) own; command = ap (λ (s : Seat). s.command) same; back = ap (λ (s : Seat). s.back) same }
+    by false other is rest = (let was = rest is in record { first = was.first; found = ap (λ b. cond b (Some first) (seat_of host seats)) other ∙ was.found; command = was.command; back = was.back })
 
-    first_same : {rest : List Seat} → told_seat first back ∷ rest ≡ seat ∷ [] → told_seat first back ≡ seat
-    first_same same = ap (head_or first) same
-only_told (first ∷ second ∷ seats) (back ∷ []) seat many e = absurd (omega (arith, many))
-only_told (first ∷ second ∷ seats) (back ∷ next ∷ told) seat many e = absurd (let one = ap (length {A = Seat}) e in omega (arith, one))
-
-pub bounds_told : (old new : Netlist) (part : AgentPart) (told : List BackNets) → length told ≡ length part.seats → BoundsReads old part → Extends old new → BoundsReads new (part_with part (told_seats part.seats told))
-bounds_told old new part told many h e words valid seat only =
-    let was = only_told part.seats told seat many only in
-    let most = h words valid was.0 was.1.0 in
+pub bounds_told : (old new : Netlist) (stages : ℕ) (part : AgentPart) (told : List BackNets) → length told ≡ length part.seats → BoundsReads old stages part → Extends old new → BoundsReads new stages (part_with part (told_seats part.seats told))
+bounds_told old new stages part told many h e reads plain host seat found =
+    let was = was_told host part.seats told seat many found in
+    let most = h reads plain host was.first was.found in
     λ longer f run endless c. (
-    subst (λ (back : BackNets). unanswered_in run seat.command.read back.wait back.answer.valid c ≤ bound_of part.port) was.1.1.1
-    (subst (λ (command : CommandNets). unanswered_in run command.read was.0.back.wait was.0.back.answer.valid c ≤ bound_of part.port) was.1.1.0 (most longer (extends_twice old new longer e f) run endless c)))
+    subst (λ (back : BackNets). unanswered_in run seat.command.read back.wait back.answer.valid c ≤ reads_at part.port + 3 * stages) was.back
+    (subst (λ (command : CommandNets). unanswered_in run command.read was.first.back.wait was.first.back.answer.valid c ≤ reads_at part.port + 3 * stages) was.command (most longer (extends_twice old new longer e f) run endless c)))

@@ -38,7 +38,7 @@ pub record IsBegun (plan : PlanTable) (netlist : Netlist) (number : ℕ) (begun 
   pub bounded : IsBoundedHost begun.port
   pub routes : begun.routes ≡ routes_of plan.system number
   pub trunk : IsTrunk netlist begun.port (length begun.routes) begun.trunk
-  -- the reads are bounded next to the host unless its only agent, wholly its own, bounds them
+  -- the reads are bounded next to the host unless its only agent bounds them
   pub bounds : is_unbounded begun.trunk.host.reads ≡ (reads_words begun.port && needs_no_count plan number begun.routes begun.trunk.host.command.address.width)
   pub forward : RouteForward begun.routes number begun.trunk.host.command begun.commands.items begun.trunk.route netlist
   pub commands : AreCommandsOf netlist (widths_below begun.trunk.host.command 4) begun.commands.items

@@ -1,36 +1,36 @@
--- Which hosts need no count of their unanswered reads: those whose only agent is wholly their own, with nothing between them, and bears fewer than 16.
-use Rattle.std.specs.Prelude.{ℕ, Bool, false, ◌&&◌, nat_eq, nat_lt, List, find, count_by, Option}
+-- Which hosts need no count of their unanswered reads: those whose only agent, with no link between them, bears fewer than 16.
+use Rattle.std.specs.Prelude.{ℕ, ◌+◌, ◌*◌, Bool, false, ◌&&◌, if◌then◌else◌, nat_eq, nat_lt, List, find, Option}
 use Rattle.std.specs.Option.{option_map_or}
 use Rattle.iface_roles.specs.declared.records.AgentPort.{AgentPort}
 use Rattle.link_rules.specs.declared.plan_links.MemoryLink.{MemoryLink}
 use Rattle.link_rules.specs.PlanLinks.{memory_links}
 use Rattle.link_rules.specs.Plans.{PlanTable}
-use Rattle.memory_sides.specs.Sides.{bound_of}
+use Rattle.memory_sides.specs.Sides.{agent_side, bound_of}
+use Rattle.mm_parts.specs.Agent.{row_places}
 use Rattle.memory_sides.specs.declared.route.Route.{Route}
 use Rattle.mm_route.specs.Entries.{is_lone}
 use Rattle.mm_width.specs.Pairs.{is_wire_pair}
 
--- the agent bears fewer than 16 unanswered reads, each of one word
-abbrev pub bears_few : AgentPort → Bool
-bears_few agent = agent.readdatavalid && nat_eq agent.burst_bits 0 && nat_lt (bound_of agent) 16
+-- how many reads at most the agent has unanswered, where each is of one word: as many as it bears, or one for each cycle until a word comes
+abbrev pub reads_at : AgentPort → ℕ
+reads_at agent = if agent.readdatavalid then bound_of agent else row_places (agent_side agent)
 
--- one host alone is joined to the agent
-abbrev pub has_one_host : List MemoryLink → ℕ → Bool
-has_one_host links agent = nat_eq (count_by (λ link. nat_eq link.agent_number agent) links) 1
+-- it reads, each read is of one word, and behind so many stages, which hold three each, fewer than 16 are unanswered
+abbrev pub bears_few : ℕ → AgentPort → Bool
+bears_few stages agent = agent.reads && nat_lt agent.burst_bits 2 && nat_lt (reads_at agent + 3 * stages) 16
 
--- neither a stage nor a link stands before the agent, which is wholly the host's and bears few
-abbrev pub bears_alone : PlanTable → MemoryLink → Bool
-bears_alone plan link =
-    nat_eq plan.system.stages 0 && has_one_host (memory_links plan.system) link.agent_number && bears_few link.agent && is_wire_pair link.host link.agent
+-- no link stands between the ends, and the agent bears few
+abbrev pub bears_link : PlanTable → MemoryLink → Bool
+bears_link plan link = bears_few plan.system.stages link.agent && is_wire_pair link.host link.agent
 
 -- the first link of the host, in the order of its connections
 abbrev pub first_link : ℕ → List MemoryLink → Option MemoryLink
 first_link host links = find (λ link. nat_eq link.host_number host) links
 
 -- so does the agent of that link
-abbrev pub first_bears_alone : PlanTable → ℕ → Bool
-first_bears_alone plan host = option_map_or (bears_alone plan) (first_link host (memory_links plan.system)) false
+abbrev pub first_bears_few : PlanTable → ℕ → Bool
+first_bears_few plan host = option_map_or (bears_link plan) (first_link host (memory_links plan.system)) false
 
 -- nothing need be counted next to the host: all its addresses, of so many bits, lead to such an agent
 abbrev pub needs_no_count : PlanTable → ℕ → List Route → ℕ → Bool
-needs_no_count plan host routes width = is_lone routes width && first_bears_alone plan host
+needs_no_count plan host routes width = is_lone routes width && first_bears_few plan host

@@ -34,12 +34,12 @@ AreAgentEnds plan netlist begun number (end ∷ ends) = IsAgentEnd plan netlist 
 
 -- ---- what is made
 
--- the part stands behind the hosts that ask, with links from each to its seat, and where no stage stands before it bounds the reads of one host alone
+-- the part stands behind the hosts that ask, with links from each to its seat, and bounds the reads of each
 pub record IsJoined (plan : PlanTable) (netlist : Netlist) (begun : List BegunHost) (number : ℕ) (part : AgentPart) : Type 0 where
   pub is : IsAgentPart netlist plan.system.stages part
   pub askers : askers_of part.seats ≡ asking plan.system number
   pub seats : AllZip (IsSeatFor netlist part.port number begun) (asking plan.system number) part.seats
-  pub bounds : plan.system.stages ≡ 0 → BoundsReads netlist part
+  pub bounds : BoundsReads netlist plan.system.stages part
 
 abbrev pub AreJoinedFrom : PlanTable → Netlist → List BegunHost → ℕ → List AgentPart → Type 0
 AreJoinedFrom plan netlist begun number [] = Unit {0}

@@ -112,7 +112,7 @@ pub(crate) fn emit_agent_part(
     ensures askers { IfOk result (λ part. askers_of part.seats ≡ askers.now) }
     ensures commands { IfOk result (λ part. commands_above part.seats ≡ commands.now) }
     ensures backs { IfOk result (λ part. AreToldBelow builder.new (port.now.word_bytes * 8) part.seats) }
-    ensures bounds { IfOk result (λ part. stages ≡ 0 → BoundsReads builder.new part) }
+    ensures bounds { IfOk result (BoundsReads builder.new stages) }
     ensures grows { GrowsInMemory (agent_part_nets (length askers.now)) 1 builder.old builder.new }
     ensures waits { StillWait builder.old builder.new }
     ensures no_more_wait { OnOk result (StillWait builder.new builder.old) }
@@ -167,7 +167,7 @@ pub(crate) fn join_agent(
     ensures nets { IfOk result (λ part. part.nets ≡ nets.now) }
     ensures askers { IfOk result (λ part. askers_of part.seats ≡ askers.now) }
     ensures seats { IfOk result (λ part. AllZip (IsSeated builder.new port.now) asking.now part.seats) }
-    ensures bounds { IfOk result (λ part. stages ≡ 0 → BoundsReads builder.new part) }
+    ensures bounds { IfOk result (BoundsReads builder.new stages) }
     ensures grows { GrowsInMemory (joined_agent_nets (length askers.now)) (joined_agent_memories (length askers.now)) builder.old builder.new }
     ensures waits { StillWait builder.old builder.new }
     ensures no_more_wait { OnOk result (StillWait builder.new builder.old) }

@@ -106,7 +106,7 @@ pub(crate) fn join_hosts(
     ensures nets { IfOk result (λ part. part.nets ≡ end.now.nets) }
     ensures askers { IfOk result (λ part. askers_of part.seats ≡ asking plan.now.system number) }
     ensures seats { IfOk result (λ part. AllZip (IsSeatFor builder.new end.now.port number begun.now) (asking plan.now.system number) part.seats) }
-    ensures bounds { IfOk result (λ part. plan.now.system.stages ≡ 0 → BoundsReads builder.new part) }
+    ensures bounds { IfOk result (BoundsReads builder.new plan.now.system.stages) }
     ensures grows { GrowsInMemory (joined_agent_nets (length (asking plan.now.system number))) (joined_agent_memories (length (asking plan.now.system number))) builder.old builder.new }
     ensures waits { StillWait builder.old builder.new }
     ensures no_more_wait { OnOk result (StillWait builder.new builder.old) }

@@ -2,7 +2,7 @@
 
 ghost use Rattle.std.specs.Prelude.{◌≡◌, ℕ, ◌^◌};
 ghost use Rattle.iface_roles.specs.Proper.{IsBoundedHost, range_of};
-ghost use Rattle.mm_fabric.specs.Bounds.{bears_few, has_one_host, bears_alone, first_link, first_bears_alone, needs_no_count};
+ghost use Rattle.mm_fabric.specs.Bounds.{reads_at, bears_few, bears_link, first_link, first_bears_few, needs_no_count};
 
 use command_nets::lane_bits;
 use iface_roles::{AgentPort, HostPort};
@@ -23,29 +23,31 @@ fn byte_address_bits(port: &HostPort) -> u8
     }
 }
 
-/// Whether an agent never has 16 reads of one word unanswered.
-fn bears_few(port: &AgentPort) -> bool
-    ensures { result ≡ bears_few port.now }
+/// How many reads at most an agent has unanswered, where each is of one word.
+fn reads_at(port: &AgentPort) -> u8
+    ensures { result ≡ reads_at port.now }
 {
-    port.readdatavalid && port.burst_bits == 0 && port.pending < 16
+    if port.readdatavalid {
+        if port.pending == 0 { 1 } else { port.pending }
+    } else if port.read_latency == 0 {
+        1
+    } else {
+        port.read_latency
+    }
 }
 
-/// Whether one host alone is joined to the agent of this number.
-fn has_one_host(links: &[MemoryLink], agent: u8) -> bool
-    ensures { result ≡ has_one_host links.now agent }
+/// Whether an agent reads and behind so many stages never has 16 reads unanswered, each of one word.
+fn bears_few(port: &AgentPort, stages: u8) -> bool
+    ensures { result ≡ bears_few stages port.now }
 {
-    let hosts = links.iter().filter(|link| link.agent_number == agent);
-    hosts.count() == 1
+    port.reads && port.burst_bits < 2 && u32::from(reads_at(port)) + 3 * u32::from(stages) < 16
 }
 
-/// Whether nothing stands between the ends of a link, no other host is joined to its agent, and that never has 16 reads unanswered.
-fn bears_alone(plan: &Plan, link: &MemoryLink) -> bool
-    ensures { result ≡ bears_alone plan.now link.now }
+/// Whether no link stands between the ends of a link, and its agent never has 16 reads unanswered.
+fn bears_link(plan: &Plan, link: &MemoryLink) -> bool
+    ensures { result ≡ bears_link plan.now link.now }
 {
-    plan.stages() == 0
-        && has_one_host(plan.memory_links(), link.agent_number)
-        && bears_few(&link.agent)
-        && is_wire_pair(&link.host, &link.agent)
+    bears_few(&link.agent, plan.stages()) && is_wire_pair(&link.host, &link.agent)
 }
 
 /// The first link of the host of this number.
@@ -61,20 +63,19 @@ fn first_link(links: &[MemoryLink], host: u8) -> Option<MemoryLink>
 }
 
 /// The same of the agent of the first link of the host of this number.
-fn first_bears_alone(plan: &Plan, host: u8) -> bool
-    ensures { result ≡ first_bears_alone plan.now host }
+fn first_bears_few(plan: &Plan, host: u8) -> bool
+    ensures { result ≡ first_bears_few plan.now host }
 {
     match first_link(plan.memory_links(), host) {
-        Some(link) => bears_alone(plan, &link),
+        Some(link) => bears_link(plan, &link),
         None => false,
     }
 }
 
-/// Whether all addresses of the host of this number lead to one agent, wholly its own and with nothing between, that never has 16
-/// reads unanswered.
+/// Whether all addresses of the host of this number lead to one agent, with no link between, that never has 16 reads unanswered.
 pub(crate) fn needs_no_count(plan: &Plan, host: u8, port: &HostPort, routes: &[Route]) -> bool
     requires { IsBoundedHost port.now }
     ensures { (width : ℕ) → 2 ^ width ≡ range_of port.now → result ≡ needs_no_count plan.now host routes.now width }
 {
-    is_lone(routes, byte_address_bits(port)) && first_bears_alone(plan, host)
+    is_lone(routes, byte_address_bits(port)) && first_bears_few(plan, host)
 }

@@ -12,9 +12,9 @@ use Rattle.mm_agent.specs.Memories.{memory_grows_fewer, memory_grows_within, wri
 use Rattle.mm_arbiter.specs.Forward.{keeps_lasts, forward_lasts}
 use Rattle.mm_fabric.specs.Askers.{AreToldBelow}
 use Rattle.mm_fabric.proofs.BurstWidths.{few_bits}
-use Rattle.mm_fabric.proofs.Asking.{all_widths, asked_are_commands, asked_have_widths, address_width, word_width, enables_width, count_width, tag_width, lone_bears, answers_bear, owned_wait, told_of, fewer_nets, fewer_memories, no_room_for}
+use Rattle.mm_fabric.proofs.Asking.{all_widths, none_of, asked_are_commands, asked_have_widths, address_width, word_width, enables_width, count_width, tag_width, lone_bears, answers_bear, owned_wait, told_of, fewer_nets, fewer_memories, no_room_for}
 use Rattle.mm_fabric.proofs.AgentParts.{agent_part_is}
-use Rattle.mm_fabric.proofs.LoneAgents.{bounds_reads}
+use Rattle.mm_fabric.proofs.SeatBounds.{bounds_reads}
 use Rattle.mm_arbiter.specs.Backward.{AreBelowNets}
 use Rattle.mm_fabric.proofs.Below.{own_width, bears_below, bears_on, stages_last}
 use Rattle.mm_fabric.proofs.agents.emit_agent_part.Goals as goal
@@ -303,17 +303,23 @@ returns-clause-part c =
     c.in_ok-seats.ensures.askers c.in_ok-seats.ensures.commands (c.in_ok-seats.ensures.backs ∙ c.deref.ensures.value)
 
 pub returns-clause-bounds : goal.returns-clause-bounds
-returns-clause-bounds c none =
+returns-clause-bounds c =
     let same = AllZip-long _ _ _ c.requires.commands.each in
-    bounds_reads c.emit_agent.new.builder c.finish_arbiter.new.builder c.args.port.now c.args.nets.now c.args.askers.now c.args.commands.now c.in_ok-asked.asked c.in_ok-command.command c.in_ok-asked.arbiter c.in_ok-told.told c.in_ok-made.made c.in_ok-backs.backs.items c.in_ok-seats.seats
+    let last = extends_twice _ _ _ c.finish_stages.ensures.grows.extends c.finish_arbiter.ensures.grows.extends in
+    let from_agent = extends_twice _ _ _ c.emit_agent.ensures.grows.extends last in
+    let from_stages = extends_twice _ _ _ c.begin_stages.ensures.grows.extends from_agent in
+    bounds_reads c.args.builder.now c.emit_agent.new.builder c.finish_arbiter.new.builder c.args.stages c.args.port.now c.args.nets.now c.args.askers.now c.args.commands.now c.in_ok-asked.asked c.in_ok-command.command c.in_ok-asked.arbiter c.in_ok-told.told c.in_ok-made.made c.in_ok-backs.backs.items c.in_ok-seats.seats
     (record {
       part = c.in_ok-made.ensures.part;
-      grows = extends_twice _ _ _ c.finish_stages.ensures.grows.extends c.finish_arbiter.ensures.grows.extends;
-      kind = c.in_ok-asked.ensures.kept.kind ∙ ap (nat_lt 1) same;
-      asked_is = sym (c.in_ok-command.ensures.no_stage none);
-      told_is = c.in_ok-told.ensures.no_stage none;
-      command_is = c.in_ok-asked.ensures.made.alone;
-      back_is = c.in_ok-backs.ensures.made.alone;
+      queue = c.in_ok-made.ensures.queue;
+      grows = last;
+      widths = c.requires.commands.widths;
+      each = c.requires.commands.each;
+      grew = extends_twice _ _ _ c.emit_arbiter.ensures.grows.extends from_stages;
+      passes = c.in_ok-backs.ensures.passes c.args.commands.now c.in_ok-asked.asked same (forward_lasts _ _ _ _ _ _ c.in_ok-asked.ensures.made from_stages);
+      lone = λ one. c.in_ok-asked.ensures.made.alone (none_of c.in_ok-asked.arbiter.round (c.in_ok-asked.ensures.kept.kind ∙ ap (nat_lt 1) same ∙ one));
+      stages_run = (returns-clause-part c).stages_run;
+      one_tag = c.in_ok-command.ensures.one_tag;
     })
     c.in_ok-seats.ensures.askers c.in_ok-seats.ensures.commands (c.in_ok-seats.ensures.backs ∙ c.deref.ensures.value)
 

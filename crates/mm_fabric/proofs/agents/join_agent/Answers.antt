@@ -190,14 +190,14 @@ returns-clause-seats c =
     subst (λ (ss : List Seat). AllZip (IsSeated c.finish_rows.new.builder c.args.port.now) c.args.asking.now ss) (sym seats) (all_seated c.finish_rows.new.builder c.args.port.now c.args.asking.now part.seats told tells)
 
 pub returns-clause-bounds : goal.returns-clause-bounds
-returns-clause-bounds c none =
+returns-clause-bounds c =
     let part = c.in_ok-part.part in
     let told = c.in_ok-told.told.items in
     let seats : c.in_ok-part-2.field-0 ≡ told_seats part.seats told = c.in_ok-part-2.ensures.seats ∙ ap (λ (ss : List Seat). told_seats ss c.deref-4.result.now) c.as_slice-2.ensures ∙ ap (λ (ts : List BackNets). told_seats part.seats ts) c.deref-4.ensures.value in
     let tells : AllThree (TellsSeat c.finish_rows.new.builder c.args.port.now) c.args.asking.now part.seats told = subst (λ (ss : List Seat). AllThree (TellsSeat c.finish_rows.new.builder c.args.port.now) c.args.asking.now ss told) c.as_slice.ensures c.in_ok-told.ensures.told in
     let many = sym (three_last (TellsSeat c.finish_rows.new.builder c.args.port.now) c.args.asking.now part.seats told tells) in
-    subst (λ (ss : List Seat). BoundsReads c.finish_rows.new.builder (record part { seats = ss })) (sym seats)
-    (bounds_told c.emit_agent_part.new.builder c.finish_rows.new.builder part told many (c.in_ok-part.ensures.bounds none) c.finish_rows.ensures.grows.extends)
+    subst (λ (ss : List Seat). BoundsReads c.finish_rows.new.builder c.args.stages (record part { seats = ss })) (sym seats)
+    (bounds_told c.emit_agent_part.new.builder c.finish_rows.new.builder c.args.stages part told many c.in_ok-part.ensures.bounds c.finish_rows.ensures.grows.extends)
 
 pub returns-clause-grows : goal.returns-clause-grows
 returns-clause-grows c =

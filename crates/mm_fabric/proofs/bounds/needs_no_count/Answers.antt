@@ -2,7 +2,7 @@ use Rattle.std.proofs.Common.{◌≡◌, ℕ, ◌^◌, Bool, true, false, ◌&&�
 use Rattle.std.proofs.lemmas.Bool.{ltb-true, ltb-false}
 use Rattle.std.proofs.Math.Pow.{pow-lt}
 use Rattle.mm_route.specs.Entries.{is_lone}
-use Rattle.mm_fabric.specs.Bounds.{first_bears_alone}
+use Rattle.mm_fabric.specs.Bounds.{first_bears_few}
 use Rattle.mm_fabric.proofs.bounds.needs_no_count.Goals as goal
 
 -- the range of a host tells the width of its byte addresses
@@ -17,9 +17,9 @@ same_width m n e = by_case (nat_lt m n) (nat_lt n m) refl refl
 pub returns-then-is_lone : goal.returns-then-is_lone
 returns-then-is_lone c width range =
     let same = same_width c.byte_address_bits.result width (c.byte_address_bits.ensures ∙ sym range) in
-    c.first_bears_alone.ensures ∙ ap (λ t. t && first_bears_alone c.args.plan.now c.args.host) (sym c.if-is_lone.true ∙ c.is_lone.ensures ∙ ap (is_lone c.args.routes.now) same)
+    c.first_bears_few.ensures ∙ ap (λ t. t && first_bears_few c.args.plan.now c.args.host) (sym c.if-is_lone.true ∙ c.is_lone.ensures ∙ ap (is_lone c.args.routes.now) same)
 
 pub returns-else-is_lone : goal.returns-else-is_lone
 returns-else-is_lone c width range =
     let same = same_width c.byte_address_bits.result width (c.byte_address_bits.ensures ∙ sym range) in
-    c.if-is_lone.false ∙ ap (λ t. t && first_bears_alone c.args.plan.now c.args.host) (sym c.if-is_lone.false ∙ c.is_lone.ensures ∙ ap (is_lone c.args.routes.now) same)
+    c.if-is_lone.false ∙ ap (λ t. t && first_bears_few c.args.plan.now c.args.host) (sym c.if-is_lone.false ∙ c.is_lone.ensures ∙ ap (is_lone c.args.routes.now) same)
