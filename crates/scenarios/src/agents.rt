@@ -2,7 +2,7 @@
 
 ghost use Rattle.std.specs.Prelude.{◌≡◌, ◌<◌, true, length, Some, None, Ok, Err, OnOk, IfErr, IfOk, if◌then◌else◌};
 ghost use Rattle.iface_roles.specs.Proper.{IsBoundedAgent};
-ghost use Rattle.waves.specs.Spelling.{is_hexadecimal, are_bytes, is_count, count_in, bytes_in};
+ghost use Rattle.waves.specs.Spelling.{is_hexadecimal, are_bytes, is_count, count_in};
 ghost use Rattle.waves.specs.Words.{word_at};
 ghost use Rattle.scenarios.specs.SoFar.{Breaks};
 ghost use Rattle.scenarios.specs.declared.faults.ScenarioRule.TheVariants.{Ranges};

@@ -1,6 +1,6 @@
 //! The statements of hosts.
 
-ghost use Rattle.std.specs.Prelude.{◌≡◌, ◌<◌, true, map, length, Some, Ok, OnOk, IfErr, IfOk};
+ghost use Rattle.std.specs.Prelude.{◌≡◌, ◌<◌, true, map, length, Ok, OnOk, IfErr, IfOk};
 ghost use Rattle.std.specs.List.{list_all};
 ghost use Rattle.iface_roles.specs.Proper.{IsBoundedHost};
 ghost use Rattle.waves.specs.Words.{word_at};

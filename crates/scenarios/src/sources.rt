@@ -3,7 +3,7 @@
 ghost use Rattle.std.specs.Prelude.{◌≡◌, ◌<◌, true, length, Some, None, Ok, OnOk, IfErr};
 ghost use Rattle.iface_roles.specs.Proper.{IsBoundedStream};
 ghost use Rattle.scenarios.specs.SoFar.{Breaks};
-ghost use Rattle.scenarios.specs.Streams.{IsShown, spells_beat, flags_of, beat_of, fits_ports, opened_by, keeps_packets, beat_in, gap_in};
+ghost use Rattle.scenarios.specs.Streams.{IsShown, spells_beat, beat_of, fits_ports, opened_by, keeps_packets, beat_in, gap_in};
 
 use crate::faults::{LineFault, ScenarioRule, refuse_if};
 use crate::interfaces::Named;
