@@ -36,9 +36,11 @@ fn range(host: &HostPort) -> u64
     }
 }
 
-fn span(agent: &AgentPort) -> u64
+/// How many bytes an agent's addresses reach.
+pub fn span(agent: &AgentPort) -> u64
     requires { IsBoundedAgent agent.now }
-    ensures { result ≡ span_of agent.now }
+    ensures value { result ≡ span_of agent.now }
+    ensures small { result ≤ 2 ^ 32 }
 {
     let addresses = 2u64.pow(u32::from(agent.address_bits));
     let word = u64::from(agent.word_bytes);

@@ -1,30 +1,17 @@
 ghost use Rattle.std.specs.Prelude.{◌≡◌, ◌*◌, ◌-◌, ◌+◌, ◌^◌, ◌<◌, ◌≤◌, ℕ, length, Some, slice_get, IfOk};
 ghost use Rattle.link_rules.specs.declared.plan_links.MemoryLink.{MemoryLink as Link};
-ghost use Rattle.iface_roles.specs.Proper.{span_of, IsBoundedAgent, IsWordSize};
 ghost use Rattle.scenario_tables.specs.Statements.{all_lanes};
 ghost use Rattle.drawn_scenarios.specs.Hosts.{words_reached, write, is_write, transfer, reach, access, host_statement, host_script, links_among, IsReached};
 ghost use Rattle.drawn_scenarios.specs.Drawn.{host_scripts};
 
 use crate::generator::Generator;
 use crate::laws::{hosts_have_links, links_are_reached};
+use address_map::span;
 use av_base::{List, NoMemory};
-use iface_roles::{AgentPort, HostPort};
+use iface_roles::HostPort;
 use link_rules::{MemoryLink, Plan};
 use scenario_tables::{HostStatement, Scripts};
 use std::alloc::Global;
-
-fn span(agent: &AgentPort) -> u64
-    requires { IsBoundedAgent agent.now }
-    ensures { result ≡ span_of agent.now }
-{
-    let addresses = 2u64.pow(u32::from(agent.address_bits));
-    let word = u64::from(agent.word_bytes);
-    if agent.byte_units {
-        addresses.max(word)
-    } else {
-        addresses * word
-    }
-}
 
 /// Among how many words of the link's agent one is drawn.
 fn words_reached(link: &MemoryLink) -> u64
