@@ -65,7 +65,7 @@ class Sizes(NamedTuple):
 
 
 def host_window(sizes, agent, host):
-    """`host_window` of crates/mm_waits/specs/Windows.antt, with the names that the pieces have there."""
+    """`host_window` of crates/memory_waits/specs/Windows.antt, with the names that the pieces have there."""
     below, stages = sizes.agents[agent], sizes.stages
 
     def fitted_steps(each):
@@ -93,7 +93,7 @@ def host_window(sizes, agent, host):
 
 
 def prompt_window(sizes, agent, host, late):
-    """`prompt_window` of crates/mm_awake/specs/Onward.antt, where all hosts are plain and the agent owes nothing after `late` cycles in which it takes nothing."""
+    """`prompt_window` of crates/memory_awake/specs/Onward.antt, where all hosts are plain and the agent owes nothing after `late` cycles in which it takes nothing."""
     around = sizes.round_by(agent, host, sizes.longest)
     return sizes.standing_by(agent, around) + late * (around + 2 * sizes.stages + 1)
 

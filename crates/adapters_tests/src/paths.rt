@@ -7,7 +7,7 @@ use iface_roles::StreamPort;
 use net_parts::{constant, level};
 use netlist::{Builder, Net, NetFault};
 use std::alloc::Global;
-use stream_path::{SourceNets, emit_path};
+use st_path::{SourceNets, emit_path};
 
 /// The nets of a source without channels, errors and packets.
 fn plain_source(valid: Net, word: Net) -> SourceNets

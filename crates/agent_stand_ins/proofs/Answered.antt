@@ -7,9 +7,9 @@ use Rattle.std.proofs.lemmas.List.Elements.{filter-append}
 use Rattle.std.proofs.lemmas.Grind.{flat_map-append}
 use Rattle.iface_roles.specs.declared.records.AgentPort.{AgentPort}
 use Rattle.histories.specs.History.{is_raised, one_if, only_if, numbers, stands_on, total, unreached}
-use Rattle.mm_runs.specs.Views.{Shape, Signals, Levels, levels_at, AgentSide, AgentView}
-use Rattle.mm_runs.specs.Commands.{Transfer, accepted, agent_accepts, burst_after, burst_before, is_of_reads, longest_burst, presents, read_beats, read_beat, read_transfer, reads_among, shows, transfer_of, words_before}
-use Rattle.mm_runs.specs.Legal.{AreLegal, IsWithinPendingBound, is_under_way, words_asked}
+use Rattle.memory_runs.specs.Views.{Shape, Signals, Levels, levels_at, AgentSide, AgentView}
+use Rattle.memory_runs.specs.Commands.{Transfer, accepted, agent_accepts, burst_after, burst_before, is_of_reads, longest_burst, presents, read_beats, read_beat, read_transfer, reads_among, shows, transfer_of, words_before}
+use Rattle.memory_runs.specs.Legal.{AreLegal, IsWithinPendingBound, is_under_way, words_asked}
 use Rattle.memory_sides.specs.Sides.{agent_side}
 use Rattle.scenario_tables.specs.declared.statements.AgentStatement.{AgentStatement}
 use Rattle.agent_stand_ins.specs.declared.delayed.Answer.{Answer}

@@ -7,7 +7,7 @@ use Rattle.std.proofs.Math.Nat.{div-add-mod, pow-succ', pow-le-pow_right}
 use Rattle.std.proofs.lemmas.Bool.Decides.{nat_tests}
 use Rattle.std.specs.Result.{IsOk, OnOk}
 use Rattle.histories.specs.History.{numbers}
-use Rattle.mm_runs.specs.Operations.{is_enabled, byte_at, written, memory_after}
+use Rattle.memory_runs.specs.Operations.{is_enabled, byte_at, written, memory_after}
 use Rattle.agent_stand_ins.specs.Contents.{number_of}
 use Rattle.agent_stand_ins.specs.declared.memory.StoredWord.{StoredWord}
 use Rattle.agent_stand_ins.specs.Memory.{MemoryValue, bytes_of_word, contents_of, with_bytes, lane_write, lane_writes}

@@ -4,7 +4,7 @@ use Rattle.std.proofs.Math.Path.{fun_ext}
 use Rattle.std.proofs.lemmas.List.Elements.{All-tail}
 use Rattle.iface_roles.specs.declared.records.AgentPort.{AgentPort}
 use Rattle.histories.specs.History.{numbers}
-use Rattle.mm_runs.specs.Views.{Levels, levels_at, AgentSide, AgentView}
+use Rattle.memory_runs.specs.Views.{Levels, levels_at, AgentSide, AgentView}
 use Rattle.memory_sides.specs.Sides.{agent_side}
 use Rattle.scenario_tables.specs.declared.statements.AgentStatement.{AgentStatement}
 use Rattle.scenario_tables.specs.declared.statements.AgentStatement.TheVariants.{Stall, Latency, Fill, Code}

@@ -5,9 +5,9 @@ use Rattle.std.proofs.lemmas.List.Elements.{filter-append}
 use Rattle.std.proofs.lemmas.Grind.{flat_map-append}
 use Rattle.iface_roles.specs.declared.records.AgentPort.{AgentPort}
 use Rattle.histories.specs.History.{before, is_raised, one_if, only_if, numbers}
-use Rattle.mm_runs.specs.Views.{Shape, Signals, Levels, levels_at, AgentSide, AgentView}
-use Rattle.mm_runs.specs.Commands.{Transfer, accepted, agent_accepts, burst_before, transfer_of, read_transfer, read_beats, read_beat, reads_among, words_before, is_of_reads}
-use Rattle.mm_runs.specs.Legal.{IsLegalAgent, AreOwed, words_asked}
+use Rattle.memory_runs.specs.Views.{Shape, Signals, Levels, levels_at, AgentSide, AgentView}
+use Rattle.memory_runs.specs.Commands.{Transfer, accepted, agent_accepts, burst_before, transfer_of, read_transfer, read_beats, read_beat, reads_among, words_before, is_of_reads}
+use Rattle.memory_runs.specs.Legal.{IsLegalAgent, AreOwed, words_asked}
 use Rattle.memory_sides.specs.Sides.{agent_side}
 use Rattle.scenario_tables.specs.declared.statements.AgentStatement.{AgentStatement}
 use Rattle.agent_stand_ins.specs.Contents.{contents_before}

@@ -5,7 +5,7 @@ use Rattle.std.proofs.lemmas.Bool.Decides.{nat_tests}
 use Rattle.std.proofs.lemmas.List.{length-append, drop-append-le}
 use Rattle.std.proofs.Math.Seq.{drop-append-add}
 use Rattle.histories.specs.History.{numbers, total, unreached}
-use Rattle.mm_runs.specs.Views.{AgentSide, Levels}
+use Rattle.memory_runs.specs.Views.{AgentSide, Levels}
 use Rattle.agent_stand_ins.specs.declared.waiting.Waiting.{Waiting}
 use Rattle.agent_stand_ins.specs.Answers.{commands_among, asked_word, asked_words}
 

@@ -1,7 +1,7 @@
 -- What operations leave, one after another.
 use Rattle.std.proofs.Common.{◌≡◌, ◌<◌, ℕ, suc, List, [], ◌∷◌, ◌++◌, length, drop, flat_map, get_or, refl, sym, ap, ◌∙◌, drop-cons}
-use Rattle.mm_runs.specs.Operations.{Operation, memory_after, written}
-use Rattle.mm_runs.specs.Operations.Operation.{Write, Read}
+use Rattle.memory_runs.specs.Operations.{Operation, memory_after, written}
+use Rattle.memory_runs.specs.Operations.Operation.{Write, Read}
 
 pub memory_append : (contents : ℕ → ℕ) (before more : List Operation) → memory_after contents (before ++ more) ≡ memory_after (memory_after contents before) more
 memory_append contents [] more = refl

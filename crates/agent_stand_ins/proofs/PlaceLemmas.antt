@@ -7,9 +7,9 @@ use Rattle.std.proofs.Math.Nat.{div-add-mod, mul-mod_left, mul-mod_right, mod_se
 use Rattle.iface_roles.specs.declared.records.AgentPort.{AgentPort}
 use Rattle.iface_roles.specs.Proper.{IsWordSize, IsBoundedAgent, span_of}
 use Rattle.histories.specs.History.{numbers}
-use Rattle.mm_runs.specs.Views.Kind.{Writes}
-use Rattle.mm_runs.specs.Operations.{Operation, own_operations, is_enabled, byte_at}
-use Rattle.mm_runs.specs.Operations.Operation.{Write}
+use Rattle.memory_runs.specs.Views.Kind.{Writes}
+use Rattle.memory_runs.specs.Operations.{Operation, own_operations, is_enabled, byte_at}
+use Rattle.memory_runs.specs.Operations.Operation.{Write}
 use Rattle.memory_sides.specs.Sides.{agent_side}
 use Rattle.agent_stand_ins.specs.Contents.{number_of, word_at}
 use Rattle.agent_stand_ins.specs.Memory.{MemoryValue, contents_of, lane_write, lane_writes}

@@ -6,9 +6,9 @@ use Rattle.std.proofs.lemmas.List.{length-append}
 use Rattle.std.proofs.lemmas.Grind.{flat_map-append}
 use Rattle.iface_roles.specs.declared.records.AgentPort.{AgentPort}
 use Rattle.histories.specs.History.{is_raised, one_if, only_if, numbers}
-use Rattle.mm_runs.specs.Views.{Shape, Levels, levels_at, AgentSide, AgentView}
-use Rattle.mm_runs.specs.Operations.{Beat, own_operations, operation_at, is_enabled, memory_after}
-use Rattle.mm_runs.specs.Commands.{Transfer, Burst, byte_address, accepted, agent_accepts, burst_after, burst_before, stood_before, transfer_of, write_transfer, read_transfer, read_beat}
+use Rattle.memory_runs.specs.Views.{Shape, Levels, levels_at, AgentSide, AgentView}
+use Rattle.memory_runs.specs.Operations.{Beat, own_operations, operation_at, is_enabled, memory_after}
+use Rattle.memory_runs.specs.Commands.{Transfer, Burst, byte_address, accepted, agent_accepts, burst_after, burst_before, stood_before, transfer_of, write_transfer, read_transfer, read_beat}
 use Rattle.memory_sides.specs.Sides.{agent_side}
 use Rattle.scenario_tables.specs.declared.statements.AgentStatement.{AgentStatement}
 use Rattle.agent_stand_ins.specs.Contents.{filled, contents_before}

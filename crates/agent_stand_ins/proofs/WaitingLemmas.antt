@@ -6,7 +6,7 @@ use Rattle.std.proofs.lemmas.List.{length-append, length-map, map-append}
 use Rattle.std.proofs.lemmas.List.Elements.{filter-append}
 use Rattle.std.proofs.Math.Nat.{mul-le-mul_left, mul-add}
 use Rattle.histories.specs.History.{numbers}
-use Rattle.mm_runs.specs.Views.{AgentSide, Levels}
+use Rattle.memory_runs.specs.Views.{AgentSide, Levels}
 use Rattle.agent_stand_ins.specs.declared.waiting.Waiting.{Waiting}
 use Rattle.agent_stand_ins.specs.Answers.{commands_among, asked_word, asked_words}
 use Rattle.agent_stand_ins.specs.Kept.{AreGrouped, FitRoom}

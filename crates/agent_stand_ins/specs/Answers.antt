@@ -1,8 +1,8 @@
 -- When an agent gives the words that it was asked for, and with which codes.
 use Rattle.std.specs.Prelude.{ℕ, zero, suc, ◌+◌, ◌-◌, ◌==◌, Bool, false, not, ◌&&◌, nat_lt, nat_le, List, [], ◌∷◌, ◌++◌, length, map, filter, drop, if◌then◌else◌}
 use Rattle.histories.specs.History.{is_raised, numbers}
-use Rattle.mm_runs.specs.Views.{Levels, levels_at, AgentSide, AgentView}
-use Rattle.mm_runs.specs.Commands.{byte_address, longest_burst, agent_accepts, read_beat}
+use Rattle.memory_runs.specs.Views.{Levels, levels_at, AgentSide, AgentView}
+use Rattle.memory_runs.specs.Commands.{byte_address, longest_burst, agent_accepts, read_beat}
 use Rattle.scenario_tables.specs.declared.statements.AgentStatement.{AgentStatement}
 use Rattle.scenario_tables.specs.Statements.{latencies_of}
 use Rattle.agent_stand_ins.specs.declared.delayed.Answer.{Answer}

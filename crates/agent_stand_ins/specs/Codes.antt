@@ -1,6 +1,6 @@
 -- The codes that words are answered with.
 use Rattle.std.specs.Prelude.{ℕ, ◌/◌, ◌%◌, Bool, nat_eq, List, [], ◌∷◌, if◌then◌else◌}
-use Rattle.mm_runs.specs.Views.{AgentSide}
+use Rattle.memory_runs.specs.Views.{AgentSide}
 use Rattle.scenario_tables.specs.declared.statements.AgentStatement.{AgentStatement}
 use Rattle.scenario_tables.specs.declared.statements.AgentStatement.TheVariants.{Stall, Latency, Fill, Code}
 

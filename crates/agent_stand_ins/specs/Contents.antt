@@ -1,9 +1,9 @@
 -- An agent as a map of bytes, and the words that it holds.
 use Rattle.std.specs.Prelude.{ℕ, zero, suc, ◌+◌, ◌*◌, ◌%◌, List, [], ◌∷◌, flat_map}
-use Rattle.mm_runs.specs.Views.{AgentSide, AgentView}
-use Rattle.mm_runs.specs.Operations.{Operation, own_operations, memory_after}
-use Rattle.mm_runs.specs.Operations.Operation.{Write}
-use Rattle.mm_runs.specs.Commands.{Transfer, accepted, agent_accepts}
+use Rattle.memory_runs.specs.Views.{AgentSide, AgentView}
+use Rattle.memory_runs.specs.Operations.{Operation, own_operations, memory_after}
+use Rattle.memory_runs.specs.Operations.Operation.{Write}
+use Rattle.memory_runs.specs.Commands.{Transfer, accepted, agent_accepts}
 use Rattle.scenario_tables.specs.declared.statements.AgentStatement.{AgentStatement}
 use Rattle.scenario_tables.specs.declared.statements.AgentStatement.TheVariants.{Stall, Latency, Fill, Code}
 

@@ -1,7 +1,7 @@
 -- The memory of an agent as contracts see it.
 use Rattle.std.specs.Prelude.{◌<◌, ◌≤◌, ℕ, ◌+◌, ◌*◌, ◌/◌, ◌%◌, nat_eq, List, [], ◌∷◌, map, filter, replicate, slice_index, AllPairs, if◌then◌else◌}
-use Rattle.mm_runs.specs.Operations.{Operation, is_enabled, byte_at}
-use Rattle.mm_runs.specs.Operations.Operation.{Write}
+use Rattle.memory_runs.specs.Operations.{Operation, is_enabled, byte_at}
+use Rattle.memory_runs.specs.Operations.Operation.{Write}
 use Rattle.agent_stand_ins.specs.declared.memory.StoredWord.{StoredWord}
 
 -- the words that were written, how many bytes a word has, and for how many further words there is room

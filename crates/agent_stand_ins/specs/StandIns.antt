@@ -2,8 +2,8 @@
 use Rattle.std.specs.Prelude.{◌≡◌, ◌<◌, ◌%◌, ℕ, Bool, false, ◌&&◌, List, [], ◌∷◌, length, slice_index_or, if◌then◌else◌, map}
 use Rattle.iface_roles.specs.declared.records.AgentPort.{AgentPort}
 use Rattle.histories.specs.History.{one_if, before, only_if, is_raised, numbers}
-use Rattle.mm_runs.specs.Views.{AgentSide, AgentView, levels_at}
-use Rattle.mm_runs.specs.Commands.{read_beat}
+use Rattle.memory_runs.specs.Views.{AgentSide, AgentView, levels_at}
+use Rattle.memory_runs.specs.Commands.{read_beat}
 use Rattle.memory_sides.specs.Sides.{agent_side}
 use Rattle.scenario_tables.specs.declared.statements.AgentStatement.{AgentStatement}
 use Rattle.scenario_tables.specs.declared.statements.Pattern.{Pattern}

@@ -3,9 +3,9 @@ use Rattle.std.specs.Prelude.{◌*◌, ◌≡◌, ◌+◌, ◌%◌, ◌^◌, ◌
 use Rattle.iface_roles.specs.declared.records.AgentPort.{AgentPort}
 use Rattle.iface_roles.specs.Proper.{IsBoundedAgent}
 use Rattle.histories.specs.History.{is_raised, one_if}
-use Rattle.mm_runs.specs.Views.{Levels, levels_at, AgentSide, AgentView}
-use Rattle.mm_runs.specs.Operations.{Beat, own_operations, memory_after}
-use Rattle.mm_runs.specs.Commands.{Burst, transfer_at, byte_address, agent_accepts, burst_after, burst_before, stood_before, write_transfer, longest_burst}
+use Rattle.memory_runs.specs.Views.{Levels, levels_at, AgentSide, AgentView}
+use Rattle.memory_runs.specs.Operations.{Beat, own_operations, memory_after}
+use Rattle.memory_runs.specs.Commands.{Burst, transfer_at, byte_address, agent_accepts, burst_after, burst_before, stood_before, write_transfer, longest_burst}
 use Rattle.memory_sides.specs.Sides.{agent_side}
 use Rattle.scenario_tables.specs.declared.statements.AgentStatement.{AgentStatement}
 use Rattle.agent_stand_ins.specs.declared.delayed.Answer.{Answer}

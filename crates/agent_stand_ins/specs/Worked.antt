@@ -2,7 +2,7 @@
 use Rattle.std.specs.Prelude.{ℕ, Bool, true, false, ◌||◌, ◌==◌, nat_lt, List, [], ◌∷◌}
 use Rattle.iface_roles.specs.declared.records.AgentPort.{AgentPort}
 use Rattle.histories.specs.History.{one_if}
-use Rattle.mm_runs.specs.Views.{AgentView}
+use Rattle.memory_runs.specs.Views.{AgentView}
 use Rattle.memory_sides.specs.Sides.{agent_side}
 use Rattle.scenario_tables.specs.declared.statements.AgentStatement.{AgentStatement}
 use Rattle.scenario_tables.specs.declared.statements.AgentStatement.TheVariants.{Stall, Latency, Fill, Code}

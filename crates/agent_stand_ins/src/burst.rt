@@ -2,8 +2,8 @@
 
 ghost use Rattle.std.specs.Prelude.{◌≡◌, ◌+◌, ◌*◌, ◌%◌, ◌<◌, ◌≤◌, nat_eq, if◌then◌else◌};
 ghost use Rattle.iface_roles.specs.Proper.{IsBoundedAgent};
-ghost use Rattle.mm_runs.specs.Operations.{own_operations, memory_after};
-ghost use Rattle.mm_runs.specs.Commands.{byte_address, next_burst, write_transfer};
+ghost use Rattle.memory_runs.specs.Operations.{own_operations, memory_after};
+ghost use Rattle.memory_runs.specs.Commands.{byte_address, next_burst, write_transfer};
 ghost use Rattle.memory_sides.specs.Sides.{agent_side};
 ghost use Rattle.host_stand_ins.specs.Steps.{levels_of};
 ghost use Rattle.agent_stand_ins.specs.Memory.{contents_of};

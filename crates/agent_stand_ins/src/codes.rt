@@ -2,7 +2,7 @@
 
 ghost use Rattle.std.specs.Prelude.{◌≡◌, ◌%◌};
 ghost use Rattle.iface_roles.specs.Proper.{IsBoundedAgent};
-ghost use Rattle.mm_runs.specs.Views.{AgentSide};
+ghost use Rattle.memory_runs.specs.Views.{AgentSide};
 ghost use Rattle.memory_sides.specs.Sides.{agent_side};
 ghost use Rattle.agent_stand_ins.specs.Codes.{code_at};
 

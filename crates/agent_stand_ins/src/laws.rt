@@ -2,9 +2,9 @@
 
 ghost use Rattle.std.specs.Prelude.{◌≡◌, ◌+◌, ◌≤◌, ℕ, true, false, IsTrue, IsFalse, List, [], ◌∷◌, length, map, ◌++◌};
 ghost use Rattle.iface_roles.specs.declared.records.AgentPort.{AgentPort};
-ghost use Rattle.mm_runs.specs.Views.{AgentView, levels_at};
-ghost use Rattle.mm_runs.specs.Legal.{IsLegalAgent, AreLegal, IsWithinPendingBound, words_asked};
-ghost use Rattle.mm_runs.specs.Commands.{agent_accepts, words_before};
+ghost use Rattle.memory_runs.specs.Views.{AgentView, levels_at};
+ghost use Rattle.memory_runs.specs.Legal.{IsLegalAgent, AreLegal, IsWithinPendingBound, words_asked};
+ghost use Rattle.memory_runs.specs.Commands.{agent_accepts, words_before};
 ghost use Rattle.agent_stand_ins.specs.Answers.{waiting_before, answer_of};
 ghost use Rattle.memory_sides.specs.Sides.{agent_side};
 ghost use Rattle.scenario_tables.specs.declared.statements.AgentStatement.{AgentStatement};

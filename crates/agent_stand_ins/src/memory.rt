@@ -4,7 +4,7 @@ ghost use Rattle.std.specs.Prelude.{◌≡◌, ◌+◌, ◌*◌, ◌<◌, ◌≤
 ghost use Rattle.std.specs.List.{HoldsAt};
 ghost use Rattle.std.specs.List.Sorted.{IsSearchInRange, IsPartitionPoint};
 ghost use Rattle.histories.specs.History.{numbers};
-ghost use Rattle.mm_runs.specs.Operations.{is_enabled, byte_at, written, memory_after};
+ghost use Rattle.memory_runs.specs.Operations.{is_enabled, byte_at, written, memory_after};
 ghost use Rattle.agent_stand_ins.specs.Contents.{number_of};
 ghost use Rattle.agent_stand_ins.specs.Memory.{MemoryValue, IsByteCount, bytes_of_word, contents_of, with_bytes, lane_writes};
 

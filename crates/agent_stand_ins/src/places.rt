@@ -2,7 +2,7 @@
 
 ghost use Rattle.std.specs.Prelude.{◌≡◌, ◌+◌, ◌*◌, ◌/◌, ◌%◌, ◌<◌, ◌≤◌, ◌^◌, ℕ};
 ghost use Rattle.iface_roles.specs.Proper.{IsBoundedAgent, span_of};
-ghost use Rattle.mm_runs.specs.Commands.{byte_address};
+ghost use Rattle.memory_runs.specs.Commands.{byte_address};
 ghost use Rattle.memory_sides.specs.Sides.{agent_side};
 ghost use Rattle.agent_stand_ins.specs.Contents.{word_at};
 ghost use Rattle.agent_stand_ins.specs.Memory.{contents_of};

@@ -3,7 +3,7 @@
 ghost use Rattle.std.specs.Prelude.{◌≡◌, ◌+◌, ◌<◌, ◌≤◌, ◌^◌, All, OnOk, length, flat_map};
 ghost use Rattle.iface_roles.specs.declared.records.AgentPort.{AgentPort};
 ghost use Rattle.iface_roles.specs.Proper.{IsBoundedAgent};
-ghost use Rattle.mm_runs.specs.Operations.{memory_after};
+ghost use Rattle.memory_runs.specs.Operations.{memory_after};
 ghost use Rattle.scenario_tables.specs.Statements.{FitsAgent};
 ghost use Rattle.agent_stand_ins.specs.Contents.{writes_from, fills};
 ghost use Rattle.agent_stand_ins.specs.Answers.{latency_of};

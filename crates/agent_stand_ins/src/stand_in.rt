@@ -2,7 +2,7 @@
 
 ghost use Rattle.std.specs.Prelude.{◌≡◌, ◌%◌, ◌+◌, ◌<◌, ◌≤◌, ◌&&◌, ◌||◌, not, nat_eq, [], IsTrue, IfOk, if◌then◌else◌};
 ghost use Rattle.iface_roles.specs.Proper.{IsBoundedAgent, span_of};
-ghost use Rattle.mm_runs.specs.Commands.{longest_burst};
+ghost use Rattle.memory_runs.specs.Commands.{longest_burst};
 ghost use Rattle.memory_sides.specs.Sides.{agent_side, bound_of};
 ghost use Rattle.scenario_tables.specs.Statements.{IsAgentScript};
 ghost use Rattle.host_stand_ins.specs.Steps.{levels_of};

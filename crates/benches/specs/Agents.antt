@@ -8,8 +8,8 @@ use Rattle.address_map.specs.Maps.{agents_of}
 use Rattle.system_tables.specs.Tables.{SystemTable}
 use Rattle.map_text.specs.Text.{end_name}
 use Rattle.cycle_sim.specs.Sims.{SimValue}
-use Rattle.mm_runs.specs.Views.{Levels, AgentView, levels_at}
-use Rattle.mm_runs.specs.Legal.{Word as CodedWord}
+use Rattle.memory_runs.specs.Views.{Levels, AgentView, levels_at}
+use Rattle.memory_runs.specs.Legal.{Word as CodedWord}
 use Rattle.port_rows.specs.Levels.{Level}
 use Rattle.scenario_tables.specs.declared.statements.AgentStatement.{AgentStatement}
 use Rattle.scenario_tables.specs.Scenarios.{IsAgentAt}

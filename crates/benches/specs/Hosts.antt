@@ -6,7 +6,7 @@ use Rattle.address_map.specs.Maps.{hosts_of}
 use Rattle.system_tables.specs.Tables.{SystemTable}
 use Rattle.map_text.specs.Text.{end_name}
 use Rattle.cycle_sim.specs.Sims.{SimValue}
-use Rattle.mm_runs.specs.Views.{Levels, HostView, levels_at}
+use Rattle.memory_runs.specs.Views.{Levels, HostView, levels_at}
 use Rattle.port_rows.specs.Levels.{Level}
 use Rattle.scenario_tables.specs.declared.statements.HostStatement.{HostStatement}
 use Rattle.scenario_tables.specs.Scenarios.{IsHostAt}

@@ -4,8 +4,8 @@ use Rattle.iface_roles.specs.declared.records.StreamPort.{StreamPort}
 use Rattle.iface_roles.specs.Proper.{IsBoundedStream}
 use Rattle.iface_roles.specs.Records.{ready_latency}
 use Rattle.system_tables.specs.Tables.{SystemTable}
-use Rattle.link_rules.specs.declared.plan_links.StreamLink.{StreamLink}
-use Rattle.link_rules.specs.PlanLinks.{IsStreamLink}
+use Rattle.link_rules.specs.declared.plan_connections.StreamConnection.{StreamConnection}
+use Rattle.link_rules.specs.PlanConnections.{IsStreamConnection}
 use Rattle.port_tables.specs.Ends.{IsAnEnd}
 use Rattle.scenario_tables.specs.declared.statements.Pattern.{Pattern}
 use Rattle.scenario_tables.specs.Statements.{IsPattern}
@@ -32,8 +32,8 @@ pub record IsKept (source sink : StreamPort) (keeping : Keeping) (script : List 
   pub patterns : All IsPattern script
 
 -- the link of a stream of a plan: its ends are ends of the module, and their records are sound
-pub record IsSoundLink (system : SystemTable) (number : ℕ) (link : StreamLink) : Type 0 where
-  pub is : IsStreamLink system number link
+pub record IsSoundLink (system : SystemTable) (number : ℕ) (link : StreamConnection) : Type 0 where
+  pub is : IsStreamConnection system number link
   pub source_end : IsAnEnd system link.source_end
   pub sink_end : IsAnEnd system link.sink_end
   pub sink_of : IsSinkEnd system number link.sink_end

@@ -4,8 +4,8 @@ use Rattle.av_base.specs.Word.{word}
 use Rattle.histories.specs.History.{one_if, only_if}
 use Rattle.iface_roles.specs.declared.records.StreamPort.{StreamPort}
 use Rattle.system_tables.specs.Tables.{SystemTable}
-use Rattle.link_rules.specs.declared.plan_links.StreamLink.{StreamLink}
-use Rattle.link_rules.specs.PlanLinks.{stream_links}
+use Rattle.link_rules.specs.declared.plan_connections.StreamConnection.{StreamConnection}
+use Rattle.link_rules.specs.PlanConnections.{stream_connections}
 use Rattle.map_text.specs.Text.{end_name}
 use Rattle.cycle_sim.specs.Sims.{SimValue}
 use Rattle.stream_runs.specs.View.{EndView, Beat, beat_at}
@@ -49,8 +49,8 @@ pub record BenchStreamValue : Type 0 where
 
 -- it is the stream of this number in a system, with this pattern of its sink
 pub record IsStreamOf (system : SystemTable) (number : ℕ) (script : List Pattern) (stream : BenchStreamValue) : Type 0 where
-  pub link : StreamLink
-  pub link_is : slice_get (stream_links system) number ≡ Some link
+  pub link : StreamConnection
+  pub link_is : slice_get (stream_connections system) number ≡ Some link
   pub source : stream.source ≡ link.source
   pub sink : stream.sink ≡ link.sink
   pub source_name : stream.source_name ≡ end_name system link.source_end
@@ -69,7 +69,7 @@ pub record IsFirstStream (system : SystemTable) (number : ℕ) (statements : Lis
 
 -- these are the streams of a system, each before its first cycle
 pub record AreFirstStreams (system : SystemTable) (sources : List (List SourceStatement)) (sinks : List (List Pattern)) (streams : List BenchStreamValue) : Type 0 where
-  pub count : length streams ≡ length (stream_links system)
+  pub count : length streams ≡ length (stream_connections system)
   pub each : (s : ℕ) (stream : BenchStreamValue) (statements : List SourceStatement) (script : List Pattern) → slice_get streams s ≡ Some stream
       → slice_get sources s ≡ Some statements → slice_get sinks s ≡ Some script → IsFirstStream system s statements script stream
 

@@ -6,7 +6,7 @@ use Rattle.netlist.specs.Nets.{NetValue}
 use Rattle.netlist.specs.Netlists.{Netlist, IsWaiting}
 use Rattle.netlist.specs.Runs.{Cycle, Run, cycle_of, IsRun}
 use Rattle.netlist.specs.Longer.{Extends}
-use Rattle.mm_machines.specs.Machines.{Raw}
+use Rattle.memory_machines.specs.Machines.{Raw}
 use Rattle.net_parts.specs.Laws.{net_lasts}
 use Rattle.net_parts.specs.Groups.{AreNets, AreWaiting, InGroup, group_widths, values_of}
 use Rattle.command_nets.specs.declared.nets.CommandNets.{CommandNets}

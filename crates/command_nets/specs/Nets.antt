@@ -3,10 +3,10 @@ use Rattle.std.specs.Prelude.{◌≡◌, ℕ, List, [], ◌∷◌}
 use Rattle.netlist.specs.Nets.{NetValue}
 use Rattle.netlist.specs.Netlists.{Netlist, IsNet}
 use Rattle.netlist.specs.Runs.{Cycle, Run}
-use Rattle.mm_runs.specs.Views.{Shape}
-use Rattle.mm_machines.specs.Paths.{CommandView, AnswerView}
-use Rattle.mm_machines.specs.Link.{Port}
-use Rattle.mm_machines.specs.Machines.{Raw, port_of}
+use Rattle.memory_runs.specs.Views.{Shape}
+use Rattle.memory_machines.specs.Paths.{CommandView, AnswerView}
+use Rattle.memory_machines.specs.Link.{Port}
+use Rattle.memory_machines.specs.Machines.{Raw, port_of}
 use Rattle.net_parts.specs.Nets.{IsBit, IsNetOfWidth}
 use Rattle.command_nets.specs.declared.nets.CommandNets.{CommandNets}
 use Rattle.command_nets.specs.declared.nets.AnswerNets.{AnswerNets}

@@ -11,9 +11,9 @@ use Rattle.iface_roles.specs.declared.records.HostPort.{HostPort}
 use Rattle.iface_roles.specs.declared.records.Finished.TheVariants.{Host, Agent}
 use Rattle.address_map.specs.Footprints.{known_at}
 use Rattle.address_map.specs.Maps.{hosts_of, agents_of}
-use Rattle.link_rules.specs.declared.plan_links.MemoryLink.{MemoryLink}
-use Rattle.link_rules.specs.declared.plan_links.StreamLink.{StreamLink}
-use Rattle.link_rules.specs.PlanLinks.{memory_links, stream_links, IsMemoryLink}
+use Rattle.link_rules.specs.declared.plan_connections.MemoryConnection.{MemoryConnection}
+use Rattle.link_rules.specs.declared.plan_connections.StreamConnection.{StreamConnection}
+use Rattle.link_rules.specs.PlanConnections.{memory_connections, stream_connections, IsMemoryConnection}
 use Rattle.link_rules.specs.Plans.{PlanTable, IsPlan}
 use Rattle.scenario_tables.specs.declared.statements.HostStatement.{HostStatement}
 use Rattle.scenario_tables.specs.declared.statements.AgentStatement.{AgentStatement}
@@ -35,25 +35,25 @@ use Rattle.drawn_scenarios.proofs.StreamFits.{source_fits, sink_fits}
 
 -- what is drawn piece by piece is the scenario
 pub scenario_is : (plan : PlanTable) (number lane cycles : ℕ) (hosts : List (List HostStatement)) (at_agents : ℕ) (agents : List (List AgentStatement)) (at_streams : ℕ) (streams : List (List SourceStatement) × List (List Pattern)) (to : ℕ)
-    → (hosts, at_agents) ≡ host_scripts plan.system (8 * number + lane) → (agents, at_streams) ≡ agent_scripts plan.system at_agents → (streams, to) ≡ stream_scripts (stream_links plan.system) at_streams
+    → (hosts, at_agents) ≡ host_scripts plan.system (8 * number + lane) → (agents, at_streams) ≡ agent_scripts plan.system at_agents → (streams, to) ≡ stream_scripts (stream_connections plan.system) at_streams
     → ◌≡◌ {A = Scenario} (record { cycles = cycles; hosts = hosts; agents = agents; sources = streams.0; sinks = streams.1 }) (drawn_scenario plan number lane cycles)
 unfolding drawn_scenario scenario_for
 scenario_is plan number lane cycles hosts at_agents agents at_streams streams to hosts_are agents_are streams_are =
     let system = plan.system in
     let P : (List (List SourceStatement) × List (List Pattern)) × ℕ → Scenario = λ s. record { cycles = cycles; hosts = hosts; agents = agents; sources = s.0.0; sinks = s.0.1 } in
-    let Q : List (List AgentStatement) × ℕ → Scenario = λ a. let s = stream_scripts (stream_links system) a.1 in record { cycles = cycles; hosts = hosts; agents = a.0; sources = s.0.0; sinks = s.0.1 } in
-    let R : List (List HostStatement) × ℕ → Scenario = λ h. let a = agent_scripts system h.1 in let s = stream_scripts (stream_links system) a.1 in record { cycles = cycles; hosts = h.0; agents = a.0; sources = s.0.0; sinks = s.0.1 } in
+    let Q : List (List AgentStatement) × ℕ → Scenario = λ a. let s = stream_scripts (stream_connections system) a.1 in record { cycles = cycles; hosts = hosts; agents = a.0; sources = s.0.0; sinks = s.0.1 } in
+    let R : List (List HostStatement) × ℕ → Scenario = λ h. let a = agent_scripts system h.1 in let s = stream_scripts (stream_connections system) a.1 in record { cycles = cycles; hosts = h.0; agents = a.0; sources = s.0.0; sinks = s.0.1 } in
     ap P streams_are ∙ ap Q agents_are ∙ ap R hosts_are
 
 host_is : (a b : HostPort) → Host a ≡ Host b → a ≡ b
 host_is a b e = cc
 
 module _ (plan : PlanTable) (is_plan : IsPlan plan)
-    (numbered : (k : ℕ) (link : MemoryLink) → slice_get (memory_links plan.system) k ≡ Some link → IsMemoryLink plan.system link)
-    (reached : (host k : ℕ) (link : MemoryLink) → slice_get (links_of plan.system host) k ≡ Some link → IsReached link)
-    (drawable : (k : ℕ) (link : StreamLink) → slice_get (stream_links plan.system) k ≡ Some link → IsDrawable link.source) where
+    (numbered : (k : ℕ) (link : MemoryConnection) → slice_get (memory_connections plan.system) k ≡ Some link → IsMemoryConnection plan.system link)
+    (reached : (host k : ℕ) (link : MemoryConnection) → slice_get (links_of plan.system host) k ≡ Some link → IsReached link)
+    (drawable : (k : ℕ) (link : StreamConnection) → slice_get (stream_connections plan.system) k ≡ Some link → IsDrawable link.source) where
   -- the links of a host show its record
-  link_of_host : (h : ℕ) (port : HostPort) → IsHostAt plan.system h port → (k : ℕ) (link : MemoryLink) → slice_get (links_of plan.system h) k ≡ Some link → (link.host ≡ port) × IsReached link
+  link_of_host : (h : ℕ) (port : HostPort) → IsHostAt plan.system h port → (k : ℕ) (link : MemoryConnection) → slice_get (links_of plan.system h) k ≡ Some link → (link.host ≡ port) × IsReached link
   link_of_host h port at k link there =
       let own = own_link plan.system h k link there in
       let l = numbered own.0 link own.1 in
@@ -88,10 +88,10 @@ module _ (plan : PlanTable) (is_plan : IsPlan plan)
   from_pair part s script pairs (Some pair) at e = (pair, at, same_Some (part pair) script e)
   from_pair part s script pairs None at e = absurd (none-some script e)
 
-  at_sources : (state s : ℕ) (link : StreamLink) (script : List SourceStatement) → slice_get (stream_links plan.system) s ≡ Some link → slice_get (stream_scripts (stream_links plan.system) state).0.0 s ≡ Some script → IsSourceScript link.source script
+  at_sources : (state s : ℕ) (link : StreamConnection) (script : List SourceStatement) → slice_get (stream_connections plan.system) s ≡ Some link → slice_get (stream_scripts (stream_connections plan.system) state).0.0 s ≡ Some script → IsSourceScript link.source script
   unfolding stream_scripts stream_script
   at_sources state s link script at there =
-      let links = stream_links plan.system in
+      let links = stream_connections plan.system in
       let pairs = (for_each stream_script links state).0 in
       let part : List SourceStatement × List Pattern → List SourceStatement = λ pair. pair.0 in
       let pair = from_pair part s script pairs (slice_get pairs s) refl (sym (slice_get-map part pairs s) ∙ there) in
@@ -101,10 +101,10 @@ module _ (plan : PlanTable) (is_plan : IsPlan plan)
       let P : List SourceStatement → Type 0 = IsSourceScript link.source in
       subst P (sym is) (source_fits link.source drawn.state (drawable s link at).bounded)
 
-  at_sinks : (state s : ℕ) (link : StreamLink) (script : List Pattern) → slice_get (stream_links plan.system) s ≡ Some link → slice_get (stream_scripts (stream_links plan.system) state).0.1 s ≡ Some script → IsSinkScript link.sink script
+  at_sinks : (state s : ℕ) (link : StreamConnection) (script : List Pattern) → slice_get (stream_connections plan.system) s ≡ Some link → slice_get (stream_scripts (stream_connections plan.system) state).0.1 s ≡ Some script → IsSinkScript link.sink script
   unfolding stream_scripts stream_script
   at_sinks state s link script at there =
-      let links = stream_links plan.system in
+      let links = stream_connections plan.system in
       let pairs = (for_each stream_script links state).0 in
       let part : List SourceStatement × List Pattern → List Pattern = λ pair. pair.1 in
       let pair = from_pair part s script pairs (slice_get pairs s) refl (sym (slice_get-map part pairs s) ∙ there) in
@@ -122,11 +122,11 @@ module _ (plan : PlanTable) (is_plan : IsPlan plan)
   unfolding agent_scripts
   agent_count state = each_count (agent_script_at plan.system) _ state
 
-  source_count : (state : ℕ) → length (stream_scripts (stream_links plan.system) state).0.0 ≡ length (stream_links plan.system)
+  source_count : (state : ℕ) → length (stream_scripts (stream_connections plan.system) state).0.0 ≡ length (stream_connections plan.system)
   unfolding stream_scripts
   source_count state = length-map _ _ ∙ each_count stream_script _ state
 
-  sink_count : (state : ℕ) → length (stream_scripts (stream_links plan.system) state).0.1 ≡ length (stream_links plan.system)
+  sink_count : (state : ℕ) → length (stream_scripts (stream_connections plan.system) state).0.1 ≡ length (stream_connections plan.system)
   unfolding stream_scripts
   sink_count state = length-map _ _ ∙ each_count stream_script _ state
 

@@ -4,7 +4,7 @@ use Rattle.std.specs.Prelude.{◌==◌, nat_lt, IsTrue, slice_get, Option, Some,
 use Rattle.std.proofs.Math.Nat.{le-max_left, one-le-pow}
 use Rattle.iface_roles.specs.declared.records.HostPort.{HostPort}
 use Rattle.iface_roles.specs.Proper.{IsBoundedHost, range_of}
-use Rattle.link_rules.specs.declared.plan_links.MemoryLink.{MemoryLink}
+use Rattle.link_rules.specs.declared.plan_connections.MemoryConnection.{MemoryConnection}
 use Rattle.scenario_tables.specs.declared.statements.HostStatement.TheVariants.{Read}
 use Rattle.scenario_tables.specs.Statements.{all_lanes, longest_of, FitsCommand, FitsHost, IsHostScript}
 use Rattle.drawn_scenarios.specs.Draws.{draw}
@@ -43,16 +43,16 @@ transfer_by host choice address state false e bounded below =
     let fits : FitsHost host (Read address (all_lanes host.word_bytes) 1) = record { reads = read_role host.writes (nat_lt choice 2) host.reads e bounded.ports.transfers; command = command_fits host address below } in
     rw e fits
 
-one_word : (link : MemoryLink) → 0 < words_reached link
+one_word : (link : MemoryConnection) → 0 < words_reached link
 one_word link = le-max_left 1 _
 
-reach_fits : (choice : ℕ) (link : MemoryLink) (state : ℕ) → IsReached link → FitsHost link.host (reach choice (Some link) state).0
+reach_fits : (choice : ℕ) (link : MemoryConnection) (state : ℕ) → IsReached link → FitsHost link.host (reach choice (Some link) state).0
 unfolding reach
 reach_fits choice link state reached =
     let below = below_range link (draw (words_reached link) state).0 reached (draw_small (words_reached link) state (one_word link)) in
     transfer_by link.host choice _ _ (is_write link.host choice) refl reached.host below
 
-reach_any : (host : HostPort) (choice : ℕ) (link : Option MemoryLink) (state : ℕ) → ((own : MemoryLink) → link ≡ Some own → (own.host ≡ host) × IsReached own) → FitsHost host (reach choice link state).0
+reach_any : (host : HostPort) (choice : ℕ) (link : Option MemoryConnection) (state : ℕ) → ((own : MemoryConnection) → link ≡ Some own → (own.host ≡ host) × IsReached own) → FitsHost host (reach choice link state).0
 unfolding reach
 reach_any host choice None state own = (omega arith, omega arith)
 reach_any host choice (Some link) state own =
@@ -63,13 +63,13 @@ reach_any host choice (Some link) state own =
 rest_fits : (state : ℕ) → (1 ≤ 1 + (draw 8 state).0) × (1 + (draw 8 state).0 ≤ 65536)
 rest_fits state = let small = draw_small 8 state (omega arith) in (omega arith, omega arith)
 
-statement_by : (host : HostPort) (links : List MemoryLink) (choice state : ℕ) (b : Bool) → ((k : ℕ) (link : MemoryLink) → slice_get links k ≡ Some link → (link.host ≡ host) × IsReached link)
+statement_by : (host : HostPort) (links : List MemoryConnection) (choice state : ℕ) (b : Bool) → ((k : ℕ) (link : MemoryConnection) → slice_get links k ≡ Some link → (link.host ≡ host) × IsReached link)
     → FitsHost host (cond b idle (access links choice) state).0
 unfolding idle access
 statement_by host links choice state true own = rest_fits state
 statement_by host links choice state false own = reach_any host choice _ _ (λ link at. own _ link at)
 
-pub script_fits : (host : HostPort) (links : List MemoryLink) (state : ℕ) → ((k : ℕ) (link : MemoryLink) → slice_get links k ≡ Some link → (link.host ≡ host) × IsReached link) → IsHostScript host (host_script links state).0
+pub script_fits : (host : HostPort) (links : List MemoryConnection) (state : ℕ) → ((k : ℕ) (link : MemoryConnection) → slice_get links k ≡ Some link → (link.host ≡ host) × IsReached link) → IsHostScript host (host_script links state).0
 unfolding host_script host_statement
 script_fits host links state own =
     let count = repeated_count (host_statement links) 16 state in

@@ -5,7 +5,7 @@ use Rattle.std.proofs.Math.Nat.{div-mul-le_self, le-max_left, le-max_right, max-
 use Rattle.std.proofs.lemmas.Bool.Decides.{Decides-eqb}
 use Rattle.iface_roles.specs.declared.records.HostPort.{HostPort}
 use Rattle.iface_roles.specs.Proper.{IsWordSize, range_of, span_of}
-use Rattle.link_rules.specs.declared.plan_links.MemoryLink.{MemoryLink}
+use Rattle.link_rules.specs.declared.plan_connections.MemoryConnection.{MemoryConnection}
 use Rattle.scenario_tables.specs.declared.statements.HostStatement.{HostStatement}
 use Rattle.scenario_tables.specs.declared.statements.HostStatement.TheVariants.{Idle, Write, Read}
 use Rattle.scenario_tables.specs.Statements.{all_lanes}
@@ -25,12 +25,12 @@ pub transfer_reads : (host : HostPort) (choice address from : ℕ) → is_write 
 unfolding transfer
 transfer_reads host choice address from e = rw e refl
 
-pub reaches : (choice : ℕ) (link : MemoryLink) (from words to : ℕ) (out : HostStatement × ℕ) → (words, to) ≡ draw (words_reached link) from
+pub reaches : (choice : ℕ) (link : MemoryConnection) (from words to : ℕ) (out : HostStatement × ℕ) → (words, to) ≡ draw (words_reached link) from
     → out ≡ transfer link.host choice (link.base + words * link.host.word_bytes) to → out ≡ reach choice (Some link) from
 unfolding reach
 reaches choice link from words to out e then_is = behind (draw (words_reached link)) (λ w. transfer link.host choice (link.base + w * link.host.word_bytes)) from words to out e then_is
 
-pub idles : (links : List MemoryLink) (from choice then_at more to : ℕ) → (choice, then_at) ≡ draw 4 from → choice ≡ 3 → (more, to) ≡ draw 8 then_at → (Idle (1 + more), to) ≡ host_statement links from
+pub idles : (links : List MemoryConnection) (from choice then_at more to : ℕ) → (choice, then_at) ≡ draw 4 from → choice ≡ 3 → (more, to) ≡ draw 8 then_at → (Idle (1 + more), to) ≡ host_statement links from
 unfolding host_statement idle
 idles links from choice then_at more to e three then_is =
     let P : ℕ × ℕ → HostStatement × ℕ = λ p. (Idle (1 + p.0), p.1) in
@@ -38,11 +38,11 @@ idles links from choice then_at more to e three then_is =
     let out : (Idle (1 + more), to) ≡ cond (choice == 3) idle (access links choice) then_at = rw at_three (ap P then_is) in
     behind (draw 4) (λ c. cond (c == 3) idle (access links c)) from choice then_at _ e out
 
-pub accesses : (links : List MemoryLink) (from choice then_at number at : ℕ) (link : MemoryLink) (out : HostStatement × ℕ) → (choice, then_at) ≡ draw 4 from → (choice == 3) ≡ false
+pub accesses : (links : List MemoryConnection) (from choice then_at number at : ℕ) (link : MemoryConnection) (out : HostStatement × ℕ) → (choice, then_at) ≡ draw 4 from → (choice == 3) ≡ false
     → (number, at) ≡ draw (length links) then_at → slice_get links number ≡ Some link → out ≡ reach choice (Some link) at → out ≡ host_statement links from
 unfolding host_statement access
 accesses links from choice then_at number at link out e other number_is there then_is =
-    let Q : Option MemoryLink → HostStatement × ℕ = λ o. reach choice o at in
+    let Q : Option MemoryConnection → HostStatement × ℕ = λ o. reach choice o at in
     let reached : out ≡ reach choice (slice_get links number) at = then_is ∙ ap Q (sym there) in
     let picked : out ≡ access links choice then_at = behind (draw (length links)) (λ n. reach choice (slice_get links n)) then_at number at out number_is reached in
     let chosen : out ≡ cond (choice == 3) idle (access links choice) then_at = rw other picked in
@@ -81,7 +81,7 @@ word_bytes_some bytes is = by is.exponent is.small is.power
     by (suc (suc (suc (suc zero)))) small e = (omega arith, omega arith)
     by (suc (suc (suc (suc (suc k))))) small e = absurd (omega arith)
 
-pub below_range : (link : MemoryLink) (words : ℕ) → IsReached link → words < words_reached link → link.base + words * link.host.word_bytes < range_of link.host
+pub below_range : (link : MemoryConnection) (words : ℕ) → IsReached link → words < words_reached link → link.base + words * link.host.word_bytes < range_of link.host
 below_range link words reached less =
     let b = link.host.word_bytes in
     let inside = words_within (span_of link.agent) b words (word_bytes_some b reached.host.ports.word).0 less in

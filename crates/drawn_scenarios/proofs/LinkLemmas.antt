@@ -21,9 +21,9 @@ use Rattle.address_map.specs.declared.footprint.Footprint.{Footprint}
 use Rattle.address_map.specs.Footprints.{known_at, footprint_as, footprint_of, footprints, footprint_bytes}
 use Rattle.address_map.specs.MapRules.{breaks_after, ends_past_range}
 use Rattle.address_map.specs.Maps.{hosts_of, is_mm, IsJoined}
-use Rattle.link_rules.specs.declared.plan_links.MemoryLink.{MemoryLink}
-use Rattle.link_rules.specs.declared.plan_links.StreamLink.{StreamLink}
-use Rattle.link_rules.specs.PlanLinks.{memory_links, IsMemoryLink, HasMemoryLink, IsStreamLink, KeepsStreamRules}
+use Rattle.link_rules.specs.declared.plan_connections.MemoryConnection.{MemoryConnection}
+use Rattle.link_rules.specs.declared.plan_connections.StreamConnection.{StreamConnection}
+use Rattle.link_rules.specs.PlanConnections.{memory_connections, IsMemoryConnection, HasMemoryConnection, IsStreamConnection, KeepsStreamRules}
 use Rattle.link_rules.specs.Plans.{PlanTable, IsPlan}
 use Rattle.drawn_scenarios.specs.Hosts.{IsReached, links_of}
 use Rattle.drawn_scenarios.specs.Streams.{IsDrawable}
@@ -32,7 +32,7 @@ pub known_is : (system : SystemTable) (end : EndId) (known : Finished) → IsEnd
 known_is system end known e = rw (e.instance_is, e.interface_is) e.is
 
 -- by the rule on ranges a link ends within the range of its host
-pub ends_within : (plan : PlanTable) → IsPlan plan → (link : MemoryLink) → IsMemoryLink plan.system link → link.base + footprint_bytes link.host link.agent ≤ range_of link.host
+pub ends_within : (plan : PlanTable) → IsPlan plan → (link : MemoryConnection) → IsMemoryConnection plan.system link → link.base + footprint_bytes link.host link.agent ≤ range_of link.host
 ends_within plan is_plan link l =
     let c = l.connection in
     let f : Footprint = record { host = c.start; range = range_of link.host; base = c.base; bytes = footprint_bytes link.host link.agent; reads = link.agent.reads; writes = link.agent.writes } in
@@ -76,13 +76,13 @@ kept_some p [] k x at passes = absurd (none-some x at)
 kept_some p (y ∷ xs) k x at passes = some_by p y xs x (p y) refl passes (λ j there. kept_some p xs j x there passes) k at
 
 -- a link of a host is one of the plan, and is numbered so
-pub own_link : (system : SystemTable) (host k : ℕ) (link : MemoryLink) → slice_get (links_of system host) k ≡ Some link → (j : ℕ) × (slice_get (memory_links system) j ≡ Some link) × (link.host_number ≡ host)
+pub own_link : (system : SystemTable) (host k : ℕ) (link : MemoryConnection) → slice_get (links_of system host) k ≡ Some link → (j : ℕ) × (slice_get (memory_connections system) j ≡ Some link) × (link.host_number ≡ host)
 own_link system host k link at =
-    let from = kept_from (λ l. l.host_number == host) (memory_links system) k link at in
+    let from = kept_from (λ l. l.host_number == host) (memory_connections system) k link at in
     (from.0, from.1, (Decides-eqb link.host_number host).0 from.2)
 
-pub has_link : (system : SystemTable) (host j : ℕ) (link : MemoryLink) → slice_get (memory_links system) j ≡ Some link → link.host_number ≡ host → 0 < length (links_of system host)
-has_link system host j link at e = kept_some (λ l. l.host_number == host) (memory_links system) j link at ((Decides-eqb link.host_number host).1 e)
+pub has_link : (system : SystemTable) (host j : ℕ) (link : MemoryConnection) → slice_get (memory_connections system) j ≡ Some link → link.host_number ≡ host → 0 < length (links_of system host)
+has_link system host j link at e = kept_some (λ l. l.host_number == host) (memory_connections system) j link at ((Decides-eqb link.host_number host).1 e)
 
 mm_kind : (kind : Kind) → is_mm kind ≡ true → kind ≡ Mm
 mm_kind Mm e = refl
@@ -94,9 +94,9 @@ end_there (end ∷ ends) zero less = (end, refl)
 end_there (end ∷ ends) (suc k) less = end_there ends k (omega arith)
 
 module _ (plan : PlanTable) (is_plan : IsPlan plan)
-    (numbered : (k : ℕ) (link : MemoryLink) → slice_get (memory_links plan.system) k ≡ Some link → IsMemoryLink plan.system link) where
+    (numbered : (k : ℕ) (link : MemoryConnection) → slice_get (memory_connections plan.system) k ≡ Some link → IsMemoryConnection plan.system link) where
   pub link_reached : ((host : HostPort) → IsProper (Host host) → IsBoundedHost host) → ((agent : AgentPort) → IsProper (Agent agent) → IsBoundedAgent agent)
-      → (host k : ℕ) (link : MemoryLink) → slice_get (links_of plan.system host) k ≡ Some link → IsReached link
+      → (host k : ℕ) (link : MemoryConnection) → slice_get (links_of plan.system host) k ≡ Some link → IsReached link
   link_reached hosts agents host k link at =
       let own = own_link plan.system host k link at in
       let l = numbered own.0 link own.1 in
@@ -104,7 +104,7 @@ module _ (plan : PlanTable) (is_plan : IsPlan plan)
 
   pub host_has_link : ((number : ℕ) (end : EndId) → slice_get (hosts_of plan.system) number ≡ Some end → IsJoined plan.system Start end)
       → ((j k : ℕ) (end : EndId) → slice_get (hosts_of plan.system) j ≡ Some end → slice_get (hosts_of plan.system) k ≡ Some end → j ≡ k)
-      → ((number : ℕ) (connection : Connection) → slice_get plan.system.connections number ≡ Some connection → connection.kind ≡ Mm → HasMemoryLink plan.system number)
+      → ((number : ℕ) (connection : Connection) → slice_get plan.system.connections number ≡ Some connection → connection.kind ≡ Mm → HasMemoryConnection plan.system number)
       → (host : ℕ) → host < length (hosts_of plan.system) → 0 < length (links_of plan.system host)
   host_has_link joined one each host less =
       let end = end_there (hosts_of plan.system) host less in
@@ -120,7 +120,7 @@ either false b e = refl
 either true b e = cc
 
 -- by the rule on long beats a beat of a source has at most 128 bits
-pub source_drawable : (system : SystemTable) (k : ℕ) (link : StreamLink) → IsStreamLink system k link → ((source : StreamPort) → IsProper (Source source) → IsBoundedStream source) → KeepsStreamRules system link → IsDrawable link.source
+pub source_drawable : (system : SystemTable) (k : ℕ) (link : StreamConnection) → IsStreamConnection system k link → ((source : StreamPort) → IsProper (Source source) → IsBoundedStream source) → KeepsStreamRules system link → IsDrawable link.source
 source_drawable system k link l sources keeps =
     let short = either (nat_lt 128 (link.source.symbols * link.source.symbol_bits)) _ (keeps l.connection l.connection_is 6) in
     record { bounded = sources link.source l.source_proper; short = ltb-false 128 (link.source.symbols * link.source.symbol_bits) short }

@@ -4,7 +4,7 @@ use Rattle.std.specs.Prelude.{nat_lt, slice_get, Some}
 use Rattle.std.proofs.lemmas.List.{append-nil, drop_all}
 use Rattle.std.proofs.lemmas.Option.{same_Some, none-some}
 use Rattle.iface_roles.specs.declared.records.StreamPort.{StreamPort}
-use Rattle.link_rules.specs.declared.plan_links.StreamLink.{StreamLink}
+use Rattle.link_rules.specs.declared.plan_connections.StreamConnection.{StreamConnection}
 use Rattle.scenario_tables.specs.declared.statements.Pattern.{Pattern}
 use Rattle.scenario_tables.specs.declared.statements.SourceStatement.{SourceStatement}
 use Rattle.scenario_tables.specs.declared.statements.SourceStatement.TheVariants.{Beat}
@@ -35,7 +35,7 @@ pub sink_free : (sink : StreamPort) (from : ℕ) → sink.ready ≡ false → �
 unfolding sink_script
 sink_free sink from clear = rw clear refl
 
-pub stream_drawn : (link : StreamLink) (from : ℕ) (beats : List SourceStatement) (then_at : ℕ) (stalls : List Pattern) (to : ℕ) → (beats, then_at) ≡ source_script link.source from → (stalls, to) ≡ sink_script link.sink then_at
+pub stream_drawn : (link : StreamConnection) (from : ℕ) (beats : List SourceStatement) (then_at : ℕ) (stalls : List Pattern) (to : ℕ) → (beats, then_at) ≡ source_script link.source from → (stalls, to) ≡ sink_script link.sink then_at
     → ((beats, stalls), to) ≡ stream_script link from
 unfolding stream_script
 stream_drawn link from beats then_at stalls to beats_are stalls_are =
@@ -55,7 +55,7 @@ both_joined sources sinks first rest beats stalls to e =
     let right = append_assoc sinks (stalls ∷ []) (apart (rest to).0).1 in
     ap P (sym e) ∙ (let same : P ((beats, stalls), to) ≡ both_prepended (sources ++ beats ∷ []) (sinks ++ stalls ∷ []) (rest to) = cc in same)
 
-both_turn : (links : List StreamLink) (k : ℕ) (link : StreamLink) (sources : List (List SourceStatement)) (sinks : List (List Pattern)) (beats : List SourceStatement) (stalls : List Pattern) (from to : ℕ) → slice_get links k ≡ Some link
+both_turn : (links : List StreamConnection) (k : ℕ) (link : StreamConnection) (sources : List (List SourceStatement)) (sinks : List (List Pattern)) (beats : List SourceStatement) (stalls : List Pattern) (from to : ℕ) → slice_get links k ≡ Some link
     → ((beats, stalls), to) ≡ stream_script link from
     → both_prepended sources sinks (for_each stream_script (drop k links) from) ≡ both_prepended (sources ++ beats ∷ []) (sinks ++ stalls ∷ []) (for_each stream_script (drop (suc k) links) to)
 both_turn [] k link sources sinks beats stalls from to at e = absurd (none-some link at)
@@ -63,7 +63,7 @@ both_turn (z ∷ links) zero link sources sinks beats stalls from to at e =
     both_joined sources sinks (stream_script z from) (for_each stream_script links) beats stalls to (e ∙ ap (λ l. stream_script l from) (sym (same_Some z link at)))
 both_turn (z ∷ links) (suc k) link sources sinks beats stalls from to at e = both_turn links k link sources sinks beats stalls from to at e
 
-pub both_more : (links : List StreamLink) (k : ℕ) (link : StreamLink) (sources more_sources : List (List SourceStatement)) (sinks more_sinks : List (List Pattern)) (beats : List SourceStatement) (stalls : List Pattern) (from to : ℕ) (all : (List (List SourceStatement) × List (List Pattern)) × ℕ)
+pub both_more : (links : List StreamConnection) (k : ℕ) (link : StreamConnection) (sources more_sources : List (List SourceStatement)) (sinks more_sinks : List (List Pattern)) (beats : List SourceStatement) (stalls : List Pattern) (from to : ℕ) (all : (List (List SourceStatement) × List (List Pattern)) × ℕ)
     → slice_get links k ≡ Some link → ((beats, stalls), to) ≡ stream_script link from → more_sources ≡ sources ++ beats ∷ [] → more_sinks ≡ sinks ++ stalls ∷ []
     → both_prepended sources sinks (for_each stream_script (drop k links) from) ≡ all → both_prepended more_sources more_sinks (for_each stream_script (drop (k + 1) links) to) ≡ all
 both_more links k link sources more_sources sinks more_sinks beats stalls from to all at e sources_are sinks_are before =
@@ -71,15 +71,15 @@ both_more links k link sources more_sources sinks more_sinks beats stalls from t
     let turned = both_turn links k link sources sinks beats stalls from to at e in
     rw (next, sources_are, sinks_are) (sym turned ∙ before)
 
-pub both_done : (links : List StreamLink) (k : ℕ) (sources : List (List SourceStatement)) (sinks : List (List Pattern)) (from : ℕ) (all : (List (List SourceStatement) × List (List Pattern)) × ℕ) → length links ≤ k
+pub both_done : (links : List StreamConnection) (k : ℕ) (sources : List (List SourceStatement)) (sinks : List (List Pattern)) (from : ℕ) (all : (List (List SourceStatement) × List (List Pattern)) × ℕ) → length links ≤ k
     → both_prepended sources sinks (for_each stream_script (drop k links) from) ≡ all → ((sources, sinks), from) ≡ all
 both_done links k sources sinks from all done e =
-    let P : List StreamLink → Type 0 = λ l. both_prepended sources sinks (for_each stream_script l from) ≡ all in
+    let P : List StreamConnection → Type 0 = λ l. both_prepended sources sinks (for_each stream_script l from) ≡ all in
     let at_end : ((sources ++ [], sinks ++ []), from) ≡ all = subst P (drop_all k links done) e in
     let left = append-nil sources in
     let right = append-nil sinks in
     cc
 
-pub both_first : (links : List StreamLink) (sources : List (List SourceStatement)) (sinks : List (List Pattern)) (from : ℕ) → sources ≡ [] → sinks ≡ [] → both_prepended sources sinks (for_each stream_script links from) ≡ stream_scripts links from
+pub both_first : (links : List StreamConnection) (sources : List (List SourceStatement)) (sinks : List (List Pattern)) (from : ℕ) → sources ≡ [] → sinks ≡ [] → both_prepended sources sinks (for_each stream_script links from) ≡ stream_scripts links from
 unfolding stream_scripts
 both_first links sources sinks from none no_sinks = rw (none, no_sinks) refl

@@ -5,7 +5,7 @@ use Rattle.system_tables.specs.declared.tables.EndId.{EndId}
 use Rattle.system_tables.specs.Tables.{SystemTable}
 use Rattle.address_map.specs.Footprints.{known_at}
 use Rattle.address_map.specs.Maps.{hosts_of, agents_of}
-use Rattle.link_rules.specs.PlanLinks.{stream_links}
+use Rattle.link_rules.specs.PlanConnections.{stream_connections}
 use Rattle.link_rules.specs.Plans.{PlanTable}
 use Rattle.scenario_tables.specs.declared.statements.HostStatement.{HostStatement}
 use Rattle.scenario_tables.specs.declared.statements.AgentStatement.{AgentStatement}
@@ -32,7 +32,7 @@ unfoldable pub scenario_for : SystemTable → ℕ → Draws Scenario
 scenario_for system cycles = do
   hosts ← host_scripts system
   agents ← agent_scripts system
-  streams ← stream_scripts (stream_links system)
+  streams ← stream_scripts (stream_connections system)
   always (record {
     cycles = cycles;
     hosts = hosts;

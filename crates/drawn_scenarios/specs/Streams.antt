@@ -2,7 +2,7 @@
 use Rattle.std.specs.Prelude.{◌≤◌, ℕ, ◌+◌, ◌*◌, ◌^◌, nat_lt, min, List, [], ◌∷◌, map, if◌then◌else◌}
 use Rattle.iface_roles.specs.declared.records.StreamPort.{StreamPort}
 use Rattle.iface_roles.specs.Proper.{IsBoundedStream}
-use Rattle.link_rules.specs.declared.plan_links.StreamLink.{StreamLink}
+use Rattle.link_rules.specs.declared.plan_connections.StreamConnection.{StreamConnection}
 use Rattle.scenario_tables.specs.declared.statements.Pattern.{Pattern}
 use Rattle.scenario_tables.specs.declared.statements.SourceBeat.{SourceBeat}
 use Rattle.scenario_tables.specs.declared.statements.SourceStatement.{SourceStatement}
@@ -38,7 +38,7 @@ unfoldable pub sink_script : StreamPort → Draws (List Pattern)
 sink_script sink = if sink.ready then sink_pattern else always []
 
 -- what the source and the sink of a stream do
-unfoldable pub stream_script : StreamLink → Draws (List SourceStatement × List Pattern)
+unfoldable pub stream_script : StreamConnection → Draws (List SourceStatement × List Pattern)
 stream_script link = do
   beats ← source_script link.source
   stalls ← sink_script link.sink
@@ -48,7 +48,7 @@ stream_script link = do
 abbrev pub apart : List (List SourceStatement × List Pattern) → List (List SourceStatement) × List (List Pattern)
 apart scripts = (map (λ script. script.0) scripts, map (λ script. script.1) scripts)
 
-unfoldable pub stream_scripts : List StreamLink → Draws (List (List SourceStatement) × List (List Pattern))
+unfoldable pub stream_scripts : List StreamConnection → Draws (List (List SourceStatement) × List (List Pattern))
 stream_scripts links = do
   scripts ← for_each stream_script links
   always (apart scripts)

@@ -2,7 +2,7 @@
 use Rattle.std.specs.Prelude.{true, false}
 use Rattle.iface_roles.specs.declared.records.HostPort.{HostPort}
 use Rattle.iface_roles.specs.declared.records.AgentPort.{AgentPort}
-use Rattle.link_rules.specs.declared.plan_links.MemoryLink.{MemoryLink}
+use Rattle.link_rules.specs.declared.plan_connections.MemoryConnection.{MemoryConnection}
 
 -- of 32 bits, with 16 bits of byte address
 abbrev pub host : HostPort
@@ -53,5 +53,5 @@ agent = record {
 }
 
 -- the host's link to the agent, from address 0x2000 on
-abbrev pub link : HostPort → MemoryLink
+abbrev pub link : HostPort → MemoryConnection
 link port = record { connection = 0; host_number = 0; agent_number = 0; host = port; agent = agent; base = 8192; shares = 1 }

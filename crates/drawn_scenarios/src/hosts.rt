@@ -1,20 +1,20 @@
 ghost use Rattle.std.specs.Prelude.{◌≡◌, ◌*◌, ◌-◌, ◌+◌, ◌^◌, ◌<◌, ◌≤◌, ℕ, length, Some, slice_get, IfOk};
-ghost use Rattle.link_rules.specs.declared.plan_links.MemoryLink.{MemoryLink as Link};
+ghost use Rattle.link_rules.specs.declared.plan_connections.MemoryConnection.{MemoryConnection as Link};
 ghost use Rattle.scenario_tables.specs.Statements.{all_lanes};
 ghost use Rattle.drawn_scenarios.specs.Hosts.{words_reached, write, is_write, transfer, reach, access, host_statement, host_script, links_among, IsReached};
 ghost use Rattle.drawn_scenarios.specs.Drawn.{host_scripts};
 
 use crate::generator::Generator;
-use crate::laws::{hosts_have_links, links_are_reached};
+use crate::laws::{hosts_have_connections, links_are_reached};
 use address_map::span;
 use av_base::{List, NoMemory};
 use iface_roles::HostPort;
-use link_rules::{MemoryLink, Plan};
+use link_rules::{MemoryConnection, Plan};
 use scenario_tables::{HostStatement, Scripts};
 use std::alloc::Global;
 
 /// Among how many words of the link's agent one is drawn.
-fn words_reached(link: &MemoryLink) -> u64
+fn words_reached(link: &MemoryConnection) -> u64
     requires { IsReached link.now }
     ensures value { result ≡ words_reached link.now }
     ensures some { 0 < result }
@@ -75,7 +75,7 @@ fn transfer(
 }
 
 /// The address of a word of the link's agent.
-fn address_of(link: &MemoryLink, words: u64) -> u32
+fn address_of(link: &MemoryConnection, words: u64) -> u32
     requires reached { IsReached link.now }
     requires within { words < words_reached link.now }
     ensures { result ≡ link.now.base + words * link.now.host.word_bytes }
@@ -87,7 +87,7 @@ fn reach(
     alloc: Global,
     generator: &mut Generator,
     choice: u64,
-    link: &MemoryLink,
+    link: &MemoryConnection,
 ) -> Result<HostStatement, NoMemory>
     requires { IsReached link.now }
     ensures { IfOk result (λ statement. (statement, generator.new) ≡ reach choice (Some link.now) generator.old) }
@@ -105,7 +105,7 @@ fn reach(
 fn host_statement(
     alloc: Global,
     generator: &mut Generator,
-    links: &[MemoryLink],
+    links: &[MemoryConnection],
 ) -> Result<HostStatement, NoMemory>
     requires some { 0 < length links.now }
     requires reached { (k : ℕ) (link : Link) → slice_get links.now k ≡ Some link → IsReached link }
@@ -124,7 +124,7 @@ fn host_statement(
 fn host_script(
     alloc: Global,
     generator: &mut Generator,
-    links: &[MemoryLink],
+    links: &[MemoryConnection],
 ) -> Result<List<HostStatement>, NoMemory>
     requires some { 0 < length links.now }
     requires reached { (k : ℕ) (link : Link) → slice_get links.now k ≡ Some link → IsReached link }
@@ -139,7 +139,7 @@ fn host_script(
 }
 
 /// Those links that are the host's.
-fn links_among(alloc: Global, links: &[MemoryLink], host: u8) -> Result<List<MemoryLink>, NoMemory>
+fn links_among(alloc: Global, links: &[MemoryConnection], host: u8) -> Result<List<MemoryConnection>, NoMemory>
     ensures { IfOk result (λ own. own ≡ links_among host links.now) }
 {
     let mut own = List::new(alloc);
@@ -162,10 +162,10 @@ pub(crate) fn host_scripts(
     plan.is_within_limits();
     plan.well_made();
     links_are_reached();
-    hosts_have_links();
+    hosts_have_connections();
     let mut scripts = Scripts::blank(alloc, 0)?;
     'hosts: for host in 0..plan.hosts().len() as u8 {
-        let links = links_among(alloc, plan.memory_links(), host)?;
+        let links = links_among(alloc, plan.memory_connections(), host)?;
         let script = host_script(alloc, generator, links.as_slice())?;
         scripts.add(script)?;
     }

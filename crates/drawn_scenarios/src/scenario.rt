@@ -32,7 +32,7 @@ pub fn draw_scenario(
     let mut generator = Generator::of_lane(number, lane);
     let hosts = host_scripts(alloc, &mut generator, plan)?;
     let agents = agent_scripts(alloc, &mut generator, plan)?;
-    let (sources, sinks) = stream_scripts(alloc, &mut generator, plan.stream_links())?;
+    let (sources, sinks) = stream_scripts(alloc, &mut generator, plan.stream_connections())?;
     Ok(Scenario {
         cycles,
         hosts,

@@ -1,12 +1,12 @@
 ghost use Rattle.std.specs.Prelude.{◌≡◌, ◌*◌, ◌^◌, ◌<◌, ◌≤◌, ℕ, Some, slice_get, IfOk};
 ghost use Rattle.iface_roles.specs.Proper.{IsBoundedStream};
-ghost use Rattle.link_rules.specs.declared.plan_links.StreamLink.{StreamLink as Link};
+ghost use Rattle.link_rules.specs.declared.plan_connections.StreamConnection.{StreamConnection as Link};
 ghost use Rattle.drawn_scenarios.specs.Streams.{symbol_bound, channel_of, source_statement, source_script, sink_script, stream_script, stream_scripts, IsDrawable};
 
 use crate::generator::Generator;
 use av_base::{List, NoMemory};
 use iface_roles::StreamPort;
-use link_rules::StreamLink;
+use link_rules::StreamConnection;
 use scenario_tables::{Pattern, Scripts, SourceBeat, SourceStatement};
 use std::alloc::Global;
 
@@ -83,7 +83,7 @@ fn sink_script(
 fn stream_script(
     alloc: Global,
     generator: &mut Generator,
-    link: &StreamLink,
+    link: &StreamConnection,
 ) -> Result<(List<SourceStatement>, List<Pattern>), NoMemory>
     requires { IsDrawable link.now.source }
     ensures { IfOk result (λ script. (script, generator.new) ≡ stream_script link.now generator.old) }
@@ -97,7 +97,7 @@ fn stream_script(
 pub(crate) fn stream_scripts(
     alloc: Global,
     generator: &mut Generator,
-    links: &[StreamLink],
+    links: &[StreamConnection],
 ) -> Result<(Scripts<SourceStatement>, Scripts<Pattern>), NoMemory>
     requires { (k : ℕ) (link : Link) → slice_get links.now k ≡ Some link → IsDrawable link.source }
     ensures { IfOk result (λ scripts. (scripts, generator.new) ≡ stream_scripts links.now generator.old) }

@@ -4,9 +4,9 @@ use Rattle.std.proofs.lemmas.Bool.{and_parts}
 use Rattle.std.proofs.lemmas.Bool.Decides.{nat_tests}
 use Rattle.iface_roles.specs.declared.records.HostPort.{HostPort}
 use Rattle.histories.specs.History.{is_raised, stands_on, is_first}
-use Rattle.mm_runs.specs.Views.{Levels, Shape, HostView}
-use Rattle.mm_runs.specs.Commands.{Burst, burst_after, burst_before, next_burst, longest_burst, presents, shows}
-use Rattle.mm_runs.specs.Legal.{IsLegalHost, host_accepts}
+use Rattle.memory_runs.specs.Views.{Levels, Shape, HostView}
+use Rattle.memory_runs.specs.Commands.{Burst, burst_after, burst_before, next_burst, longest_burst, presents, shows}
+use Rattle.memory_runs.specs.Legal.{IsLegalHost, host_accepts}
 use Rattle.memory_sides.specs.Sides.{host_side}
 use Rattle.scenario_tables.specs.declared.statements.HostStatement.{HostStatement}
 use Rattle.scenario_tables.specs.declared.statements.HostStatement.TheVariants.{Idle, Write, Read}

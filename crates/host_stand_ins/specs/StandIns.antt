@@ -2,7 +2,7 @@
 use Rattle.std.specs.Prelude.{◌≡◌, ◌<◌, ℕ, zero, suc, List}
 use Rattle.iface_roles.specs.declared.records.HostPort.{HostPort}
 use Rattle.histories.specs.History.{is_raised}
-use Rattle.mm_runs.specs.Views.{levels_at, HostView}
+use Rattle.memory_runs.specs.Views.{levels_at, HostView}
 use Rattle.scenario_tables.specs.declared.statements.HostStatement.{HostStatement}
 use Rattle.host_stand_ins.specs.Steps.{Step, all_steps, shown, left_after}
 

@@ -2,7 +2,7 @@
 use Rattle.std.specs.Prelude.{ℕ, ◌/◌, Bool, nat_eq, List, [], ◌∷◌, length, map, replicate, flat_map, if◌then◌else◌}
 use Rattle.iface_roles.specs.declared.records.HostPort.{HostPort}
 use Rattle.histories.specs.History.{one_if}
-use Rattle.mm_runs.specs.Views.{Levels}
+use Rattle.memory_runs.specs.Views.{Levels}
 use Rattle.scenario_tables.specs.declared.statements.HostStatement.{HostStatement}
 use Rattle.scenario_tables.specs.declared.statements.HostStatement.TheVariants.{Idle, Write, Read}
 use Rattle.scenario_tables.specs.Statements.{all_lanes}

@@ -2,7 +2,7 @@
 use Rattle.std.specs.Prelude.{ℕ, ◌==◌, true, false, List, [], ◌∷◌}
 use Rattle.iface_roles.specs.declared.records.HostPort.{HostPort}
 use Rattle.histories.specs.History.{one_if}
-use Rattle.mm_runs.specs.Views.{Levels}
+use Rattle.memory_runs.specs.Views.{Levels}
 use Rattle.scenario_tables.specs.declared.statements.HostStatement.{HostStatement}
 use Rattle.scenario_tables.specs.declared.statements.HostStatement.TheVariants.{Idle, Write, Read}
 use Rattle.host_stand_ins.specs.Steps.{all_steps, shown}

@@ -2,8 +2,8 @@
 
 ghost use Rattle.std.specs.Prelude.{◌≡◌, ℕ, List};
 ghost use Rattle.iface_roles.specs.declared.records.HostPort.{HostPort};
-ghost use Rattle.mm_runs.specs.Views.{HostView};
-ghost use Rattle.mm_runs.specs.Legal.{IsLegalHost};
+ghost use Rattle.memory_runs.specs.Views.{HostView};
+ghost use Rattle.memory_runs.specs.Legal.{IsLegalHost};
 ghost use Rattle.memory_sides.specs.Sides.{host_side};
 ghost use Rattle.scenario_tables.specs.declared.statements.HostStatement.{HostStatement};
 ghost use Rattle.scenario_tables.specs.Statements.{IsHostScript};

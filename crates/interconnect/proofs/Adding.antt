@@ -15,7 +15,7 @@ use Rattle.mm_fabric.specs.declared.begun.HostEnd.{HostEnd}
 use Rattle.mm_fabric.specs.declared.asks.AgentEnd.{AgentEnd}
 use Rattle.mm_fabric.specs.declared.fabric.FabricParts.{FabricParts}
 use Rattle.mm_fabric.specs.Askers.{HasNoRoomFor}
-use Rattle.link_rules.specs.PlanLinks.{memory_links}
+use Rattle.link_rules.specs.PlanConnections.{memory_connections}
 use Rattle.mm_fabric.specs.Ends.{AreHosts, AreAgents, AreParts, host_end_of, agent_end_of, fabric_nets, fabric_memories}
 use Rattle.port_tables.specs.PortMaps.{HasKnownPorts}
 use Rattle.interconnect.specs.Hosts.{AreHostsIn}
@@ -39,7 +39,7 @@ are_agents plan netlist agents h = record {
 
 -- there is room for them all
 pub room_for_all : (system : SystemTable) (netlist : Netlist) (hosts agents : ℕ) → HasKnownPorts system → IsBegun system netlist → hosts ≡ length (hosts_of system) → agents ≡ length (agents_of system)
-    → HasFewLinks system → HasNoRoomFor (fabric_nets hosts agents (length (memory_links system))) (fabric_memories hosts agents (length (memory_links system))) netlist → ⊥
+    → HasFewLinks system → HasNoRoomFor (fabric_nets hosts agents (length (memory_connections system))) (fabric_memories hosts agents (length (memory_connections system))) netlist → ⊥
 room_for_all system netlist hosts agents h begun many_hosts many_agents links (inr full) =
     let none = ap (λ (ms : List Memory). length ms) begun.memories in
     let few_hosts = h.planned.few_hosts in
@@ -47,7 +47,7 @@ room_for_all system netlist hosts agents h begun many_hosts many_agents links (i
     let few_links = links.agents in
     omega (arith, none, few_hosts, few_agents, few_links, many_hosts, many_agents, full)
 room_for_all system netlist hosts agents h begun many_hosts many_agents links (inl full) =
-    let most = fabric_few hosts agents (length (memory_links system)) in
+    let most = fabric_few hosts agents (length (memory_connections system)) in
     let few_links = links.agents in
     let few_hosts = h.planned.few_hosts in
     let few_agents = h.planned.few_agents in
@@ -63,7 +63,7 @@ pub record IsMade (plan : PlanTable) (old new : Netlist) (hosts : List HostEnd) 
   pub hosts_are : map host_end_of parts.hosts ≡ hosts
   pub agents_are : map agent_end_of parts.agents ≡ agents
   pub stands : AreParts plan new parts
-  pub grows : GrowsInMemory (fabric_nets (length hosts) (length agents) (length (memory_links plan.system))) (fabric_memories (length hosts) (length agents) (length (memory_links plan.system))) old new
+  pub grows : GrowsInMemory (fabric_nets (length hosts) (length agents) (length (memory_connections plan.system))) (fabric_memories (length hosts) (length agents) (length (memory_connections plan.system))) old new
   pub no_more_wait : StillWait new old
   pub no_more_wait_for_write : StillWaitForWrite new old
 
@@ -79,8 +79,8 @@ adds_fabric plan old new hosts agents parts m =
         agents = λ a part at. m.agents_in.each a (agent_end_of part) (ap (λ (es : List AgentEnd). slice_get es a) (sym m.agents_are) ∙ mapped agent_end_of parts.agents a part at);
       };
       stands = m.stands;
-      grows = subst (λ (n : ℕ). GrowsInMemory (fabric_nets n (length (agents_of plan.system)) (length (memory_links plan.system))) (fabric_memories n (length (agents_of plan.system)) (length (memory_links plan.system))) old new) host_count
-          (subst (λ (n : ℕ). GrowsInMemory (fabric_nets (length hosts) n (length (memory_links plan.system))) (fabric_memories (length hosts) n (length (memory_links plan.system))) old new) agent_count m.grows);
+      grows = subst (λ (n : ℕ). GrowsInMemory (fabric_nets n (length (agents_of plan.system)) (length (memory_connections plan.system))) (fabric_memories n (length (agents_of plan.system)) (length (memory_connections plan.system))) old new) host_count
+          (subst (λ (n : ℕ). GrowsInMemory (fabric_nets (length hosts) n (length (memory_connections plan.system))) (fabric_memories (length hosts) n (length (memory_connections plan.system))) old new) agent_count m.grows);
       no_more_wait = m.no_more_wait;
       no_more_wait_for_write = m.no_more_wait_for_write;
     }

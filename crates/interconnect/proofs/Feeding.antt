@@ -12,12 +12,12 @@ use Rattle.netlist.specs.Signals.{port_net}
 use Rattle.fed_runs.specs.Fed.{GoesOnFed}
 use Rattle.stream_runs.specs.Ends.{signal_or}
 use Rattle.histories.specs.History.{is_raised}
-use Rattle.mm_runs.specs.Views.{Signals, Levels, HostView, AgentView, System, Run as MemoryRun, levels_at}
-use Rattle.mm_runs.specs.Beginnings.{RunsAgreeBefore}
-use Rattle.mm_runs.specs.Commands.{shows, is_held}
-use Rattle.mm_runs.specs.Legal.{host_accepts}
-use Rattle.mm_runs.specs.Whole.{IsLegalRun}
-use Rattle.mm_going.specs.Going.{waits_on, HostRests, AgentRests, AreAtRest}
+use Rattle.memory_runs.specs.Views.{Signals, Levels, HostView, AgentView, System, Run as MemoryRun, levels_at}
+use Rattle.memory_runs.specs.Beginnings.{RunsAgreeBefore}
+use Rattle.memory_runs.specs.Commands.{shows, is_held}
+use Rattle.memory_runs.specs.Legal.{host_accepts}
+use Rattle.memory_runs.specs.Whole.{IsLegalRun}
+use Rattle.memory_going.specs.Going.{waits_on, HostRests, AgentRests, AreAtRest}
 use Rattle.iface_roles.specs.declared.records.Finished.{Finished}
 use Rattle.iface_roles.specs.declared.records.Finished.TheVariants.{Host, Agent, Source, Sink, Other}
 use Rattle.iface_roles.specs.declared.records.HostPort.{HostPort}

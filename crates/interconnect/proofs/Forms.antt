@@ -9,12 +9,12 @@ use Rattle.iface_roles.specs.Proper.{IsBoundedStream}
 use Rattle.system_tables.specs.Tables.{SystemTable}
 use Rattle.address_map.specs.Footprints.{known_at}
 use Rattle.link_rules.specs.Pairs.{KeepsAll, stream_tests, is_multiple}
-use Rattle.link_rules.specs.declared.plan_links.StreamLink.{StreamLink}
+use Rattle.link_rules.specs.declared.plan_connections.StreamConnection.{StreamConnection}
 use Rattle.link_rules.specs.Links.{tests_as}
-use Rattle.link_rules.specs.PlanLinks.{IsStreamLink}
+use Rattle.link_rules.specs.PlanConnections.{IsStreamConnection}
 use Rattle.stream_runs.specs.Ends.{Declared, AreAlike, pace_of}
 use Rattle.st_timing.specs.Ends.{declared, IsPaced}
-use Rattle.stream_path.specs.Joining.{FitsPorts, CanJoin}
+use Rattle.st_path.specs.Joining.{FitsPorts, CanJoin}
 use Rattle.port_tables.specs.Wires.{both_or_neither, has_same_beats, has_plain_ready, is_wire_stream}
 use Rattle.port_tables.specs.EndFacts.{IsPlanned}
 use Rattle.interconnect.proofs.StreamEnds.{connection_of, start_known, finish_known}
@@ -122,7 +122,7 @@ takes_by false true m e is = absurd (false≢true (sym e))
 takes_by false false true e is = (refl, refl)
 takes_by false false false e is = absurd (false≢true (sym e))
 
-pub can_join : (system : SystemTable) (number : ℕ) (link : StreamLink) → IsPlanned system → IsStreamLink system number link → IsBoundedStream link.source → IsBoundedStream link.sink
+pub can_join : (system : SystemTable) (number : ℕ) (link : StreamConnection) → IsPlanned system → IsStreamConnection system number link → IsBoundedStream link.source → IsBoundedStream link.sink
     → CanJoin (declared link.source) (declared link.sink)
 can_join system number link h is source_bounded sink_bounded =
     let source = link.source in

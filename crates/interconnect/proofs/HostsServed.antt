@@ -19,18 +19,18 @@ use Rattle.link_rules.specs.Pairs.{KeepsAll, mm_tests}
 use Rattle.netlist.specs.Netlists.{Netlist, IsWellMade}
 use Rattle.netlist.specs.Runs.{Run, cycle_of, IsRun, IsEndlessRun, GoesOn}
 use Rattle.netlist.specs.Longer.{Extends}
-use Rattle.mm_runs.specs.Views.{HostView, AgentView, System, Responses, Run as MemoryRun, levels_at}
-use Rattle.mm_runs.specs.Views.Responses.{AreCodes}
-use Rattle.mm_runs.specs.Beginnings.{RunsAgreeBefore}
-use Rattle.mm_runs.specs.Plan.{IsMemoryPlan}
-use Rattle.mm_runs.specs.Order.{ActsAsMemory, ReadsFromMemory, ReturnsInCommandOrder}
-use Rattle.mm_runs.specs.Whole.{IsLegalRun, IsSafe}
-use Rattle.mm_runs.specs.Awake.{NeverIdles, IsFair}
-use Rattle.mm_runs.specs.Onward.{NoHostHangs, AcceptsSoon}
-use Rattle.mm_runs.specs.Moment.{Moment, AgentSees, HaveAlikeInputs, IgnoresReaddata}
-use Rattle.mm_runs.specs.Packed.{ReadsEachTouchedWordOnce}
-use Rattle.mm_awake.specs.Onward.{prompt_window}
-use Rattle.mm_waits.specs.Windows.{host_window}
+use Rattle.memory_runs.specs.Views.{HostView, AgentView, System, Responses, Run as MemoryRun, levels_at}
+use Rattle.memory_runs.specs.Views.Responses.{AreCodes}
+use Rattle.memory_runs.specs.Beginnings.{RunsAgreeBefore}
+use Rattle.memory_runs.specs.Plan.{IsMemoryPlan}
+use Rattle.memory_runs.specs.Order.{ActsAsMemory, ReadsFromMemory, ReturnsInCommandOrder}
+use Rattle.memory_runs.specs.Whole.{IsLegalRun, IsSafe}
+use Rattle.memory_runs.specs.Awake.{NeverIdles, IsFair}
+use Rattle.memory_runs.specs.Onward.{NoHostHangs, AcceptsSoon}
+use Rattle.memory_runs.specs.Moment.{Moment, AgentSees, HaveAlikeInputs, IgnoresReaddata}
+use Rattle.memory_runs.specs.Packed.{ReadsEachTouchedWordOnce}
+use Rattle.memory_awake.specs.Onward.{prompt_window}
+use Rattle.memory_waits.specs.Windows.{host_window}
 use Rattle.memory_plans.specs.Systems.{side_of_host, side_of_agent, memory_system}
 use Rattle.memory_plans.specs.Maps.{IsAgentOf}
 use Rattle.memory_plans.specs.Shown.{silent_host, silent_agent, moment_in, standing_still}

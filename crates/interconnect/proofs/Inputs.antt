@@ -8,19 +8,19 @@ use Rattle.iface_roles.specs.Proper.{IsProper, IsBoundedStream}
 use Rattle.system_tables.specs.declared.tables.EndId.{EndId}
 use Rattle.system_tables.specs.Tables.{SystemTable}
 use Rattle.address_map.specs.Footprints.{known_at}
-use Rattle.link_rules.specs.declared.plan_links.StreamLink.{StreamLink}
+use Rattle.link_rules.specs.declared.plan_connections.StreamConnection.{StreamConnection}
 use Rattle.link_rules.specs.Links.{streams_of}
 use Rattle.link_rules.specs.Plans.{PlanTable}
-use Rattle.link_rules.specs.PlanLinks.{IsStreamLink}
+use Rattle.link_rules.specs.PlanConnections.{IsStreamConnection}
 use Rattle.netlist.specs.declared.line.PortLine.{PortLine}
 use Rattle.netlist.specs.Nets.{NetValue, net_of}
 use Rattle.netlist.specs.Netlists.{Netlist, IsInputPort, input_count, input_net}
 use Rattle.net_parts.specs.Nets.{IsNetOfWidth}
 use Rattle.st_timing.specs.Ends.{declared}
-use Rattle.stream_path.specs.Ends.{IsNetIf, AreSourceNets, ArePathNets}
-use Rattle.stream_path.specs.Serving.{most_nets, most_memories, ServesInLonger}
-use Rattle.stream_path.specs.declared.ends.SourceNets.{SourceNets}
-use Rattle.stream_path.specs.declared.ends.PathNets.{PathNets}
+use Rattle.st_path.specs.Ends.{IsNetIf, AreSourceNets, ArePathNets}
+use Rattle.st_path.specs.Serving.{most_nets, most_memories, ServesInLonger}
+use Rattle.st_path.specs.declared.ends.SourceNets.{SourceNets}
+use Rattle.st_path.specs.declared.ends.PathNets.{PathNets}
 use Rattle.port_tables.specs.declared.roles.PortRole.{PortRole}
 use Rattle.port_tables.specs.declared.roles.PortRole.TheVariants as role
 use Rattle.port_tables.specs.declared.roles.RolePort.{RolePort}
@@ -203,7 +203,7 @@ are_nets system netlist end source valid word v d channel error startofpacket en
 
 -- ---- the ends of a link
 
-pub source_of : (system : SystemTable) (number : ℕ) (link : StreamLink) → HasKnownPorts system → IsStreamLink system number link → IsSourceAt system link.source_end link.source
+pub source_of : (system : SystemTable) (number : ℕ) (link : StreamConnection) → HasKnownPorts system → IsStreamConnection system number link → IsSourceAt system link.source_end link.source
 source_of system number link h is = source_at system link.source_end link.source h (source_among system number link h.planned is) (source_known system number link is)
 
 pub record IsSinkAt (system : SystemTable) (end : EndId) (sink : StreamPort) : Type 0 where
@@ -211,7 +211,7 @@ pub record IsSinkAt (system : SystemTable) (end : EndId) (sink : StreamPort) : T
   pub among : Among end (ends_of system)
   pub known : known_at system end ≡ Sink sink
 
-pub sink_of : (system : SystemTable) (number : ℕ) (link : StreamLink) → HasKnownPorts system → IsStreamLink system number link → IsSinkAt system link.sink_end link.sink
+pub sink_of : (system : SystemTable) (number : ℕ) (link : StreamConnection) → HasKnownPorts system → IsStreamConnection system number link → IsSinkAt system link.sink_end link.sink
 sink_of system number link h is = record { ports = h; among = sink_among system number link h.planned is; known = sink_known system number link is }
 
 ready_port : (system : SystemTable) (end : EndId) (sink : StreamPort) → IsSinkAt system end sink → IsPortIf (ports_of system) false (bits_if sink.ready 1) (port_at system end role.Ready)
@@ -252,8 +252,8 @@ low_known : (system : SystemTable) (number place : ℕ) (low : NetValue) (b : Bo
 low_known system number place low true e f = (e, cc)
 low_known system number place low false e f = absurd (let none : Some low ≡ None = f in cc)
 
-pub adds_wire : WiresAreServed → (system : SystemTable) (number : ℕ) (link : StreamLink) (low : NetValue) (netlist : Netlist) (from : SourceNets) (ready : Option NetValue) (made : PathNets) → HasKnownPorts system
-    → IsStreamLink system number link → IsBoundedStream link.source → AreInputs system link.source_end (declared link.source) from → AreSourceNets netlist (declared link.source) from
+pub adds_wire : WiresAreServed → (system : SystemTable) (number : ℕ) (link : StreamConnection) (low : NetValue) (netlist : Netlist) (from : SourceNets) (ready : Option NetValue) (made : PathNets) → HasKnownPorts system
+    → IsStreamConnection system number link → IsBoundedStream link.source → AreInputs system link.source_end (declared link.source) from → AreSourceNets netlist (declared link.source) from
     → IsRead system netlist link.sink_end role.Ready ready → Some low ≡ low_at system number link.connection → HasLows system netlist → made ≡ wire_nets from ready low
     → AddsStream system link (Some low) netlist netlist made
 adds_wire law system number link low netlist from ready made h at bounded inputs nets read low_is lows is =

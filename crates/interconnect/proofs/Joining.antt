@@ -9,10 +9,10 @@ use Rattle.system_tables.specs.declared.tables.EndId.{EndId}
 use Rattle.system_tables.specs.Tables.{SystemTable}
 use Rattle.address_map.specs.Footprints.{known_at}
 use Rattle.address_map.specs.Maps.{hosts_of, agents_of}
-use Rattle.link_rules.specs.declared.plan_links.StreamLink.{StreamLink}
+use Rattle.link_rules.specs.declared.plan_connections.StreamConnection.{StreamConnection}
 use Rattle.link_rules.specs.Links.{streams_of}
 use Rattle.link_rules.specs.Plans.{PlanTable}
-use Rattle.link_rules.specs.PlanLinks.{IsStreamLink}
+use Rattle.link_rules.specs.PlanConnections.{IsStreamConnection}
 use Rattle.netlist.specs.declared.line.Line.{Line}
 use Rattle.netlist.specs.declared.line.Memory.{Memory}
 use Rattle.netlist.specs.Nets.{NetValue}
@@ -22,9 +22,9 @@ use Rattle.stream_runs.specs.Ends.{Declared}
 use Rattle.net_parts.specs.Laws.{extends_twice, net_lasts}
 use Rattle.net_parts.specs.Nets.{IsNetOfWidth, IsBit}
 use Rattle.st_timing.specs.Ends.{declared}
-use Rattle.stream_path.specs.Ends.{IsNetWhere, ArePathNets}
-use Rattle.stream_path.specs.Serving.{ServesInLonger}
-use Rattle.stream_path.specs.declared.ends.PathNets.{PathNets}
+use Rattle.st_path.specs.Ends.{IsNetWhere, ArePathNets}
+use Rattle.st_path.specs.Serving.{ServesInLonger}
+use Rattle.st_path.specs.declared.ends.PathNets.{PathNets}
 use Rattle.port_tables.specs.declared.roles.PortRole.{PortRole}
 use Rattle.port_tables.specs.declared.roles.PortRole.TheVariants as role
 use Rattle.port_tables.specs.Ports.{bits_if, port_of, is_forward, ports_of}
@@ -280,9 +280,9 @@ one_stream_of system number place a b source sink at e is =
     record { place_is = cc; connection_is = same; source_is = cc; sink_is = cc }
 
 -- the steps: what stands between the ends, and its nets drive the outputs at the source and at the sink
-pub record AreSteps (plan : PlanTable) (number : ℕ) (link : StreamLink) (old middle half new : Netlist) (made : PathNets) : Type 0 where
+pub record AreSteps (plan : PlanTable) (number : ℕ) (link : StreamConnection) (old middle half new : Netlist) (made : PathNets) : Type 0 where
   pub ports : HasKnownPorts plan.system
-  pub is : IsStreamLink plan.system number link
+  pub is : IsStreamConnection plan.system number link
   pub adds : AddsStream plan.system link (low_at plan.system number link.connection) old middle made
   pub source : IsDrivenOver plan.system link.source_end (source_outputs made) middle half
   pub sink : IsDrivenOver plan.system link.sink_end (sink_outputs made) half new
@@ -307,7 +307,7 @@ path_nets_last old new sink made e nets =
     }
 
 -- the new stream is joined
-newly_joined : (plan : PlanTable) (number : ℕ) (link : StreamLink) (old middle half new : Netlist) (made : PathNets) → (s : AreSteps plan number link old middle half new made)
+newly_joined : (plan : PlanTable) (number : ℕ) (link : StreamConnection) (old middle half new : Netlist) (made : PathNets) → (s : AreSteps plan number link old middle half new made)
     → IsJoinedStream plan.system new number link.connection s.is.connection link.source link.sink
 newly_joined plan number link old middle half new made s =
     let system = plan.system in
@@ -334,13 +334,13 @@ joined_as system netlist number place a b source sink at e j =
     (subst (λ (s : StreamPort). IsJoinedStream system netlist number at.place b s at.sink_port) e.source_is j)))
 
 -- the stream of a link
-pub link_is_stream : (system : SystemTable) (number : ℕ) (link : StreamLink) → IsPlanned system → (is : IsStreamLink system number link) → IsStream system number is.connection link.source link.sink
+pub link_is_stream : (system : SystemTable) (number : ℕ) (link : StreamConnection) → IsPlanned system → (is : IsStreamConnection system number link) → IsStream system number is.connection link.source link.sink
 unfolding link_place
 link_is_stream system number link h is =
     let at = link_place system number link is.connection h is is.connection_is in
     record { place = link.connection; place_is = is.place_is; connection_is = is.connection_is; source_is = at.source_is; sink_is = at.sink_is }
 
-pub one_more_joined : (plan : PlanTable) (number : ℕ) (link : StreamLink) (old middle half new : Netlist) (made : PathNets) → KeepsOn → AreSteps plan number link old middle half new made
+pub one_more_joined : (plan : PlanTable) (number : ℕ) (link : StreamConnection) (old middle half new : Netlist) (made : PathNets) → KeepsOn → AreSteps plan number link old middle half new made
     → IsJoinedUpTo plan number old → IsJoinedUpTo plan (number + 1) new
 unfolding link_place
 one_more_joined plan number link old middle half new made law s upto =
@@ -381,8 +381,8 @@ one_more_joined plan number link old middle half new made law s upto =
     }
 
 -- the ports of the stream whose turn it is may be driven
-pub source_may_now : (plan : PlanTable) (number : ℕ) (link : StreamLink) (old middle : Netlist) (low : Option NetValue) (made : PathNets) → HasKnownPorts plan.system
-    → IsStreamLink plan.system number link → IsJoinedUpTo plan number old → AddsStream plan.system link low old middle made → (outputs : List Output) → outputs ≡ source_outputs made
+pub source_may_now : (plan : PlanTable) (number : ℕ) (link : StreamConnection) (old middle : Netlist) (low : Option NetValue) (made : PathNets) → HasKnownPorts plan.system
+    → IsStreamConnection plan.system number link → IsJoinedUpTo plan number old → AddsStream plan.system link low old middle made → (outputs : List Output) → outputs ≡ source_outputs made
     → MayDriveAt plan.system link.source_end outputs middle
 unfolding link_place
 source_may_now plan number link old middle low made h is upto adds outputs same =
@@ -394,8 +394,8 @@ source_may_now plan number link old middle low made h is upto adds outputs same 
     (source_may system number is.connection middle made h at (adds.grows.extends.keeps.ports ∙ upto.ports) adds.nets
     (λ r. stays_undriven old middle (port_at system is.connection.start r) (λ k here. same_drivers old middle k adds.grows.drivers) (undriven r))))
 
-pub sink_may_now : (plan : PlanTable) (number : ℕ) (link : StreamLink) (old middle half : Netlist) (low : Option NetValue) (made : PathNets) → HasKnownPorts plan.system
-    → IsStreamLink plan.system number link → IsJoinedUpTo plan number old → AddsStream plan.system link low old middle made → IsDrivenOver plan.system link.source_end (source_outputs made) middle half
+pub sink_may_now : (plan : PlanTable) (number : ℕ) (link : StreamConnection) (old middle half : Netlist) (low : Option NetValue) (made : PathNets) → HasKnownPorts plan.system
+    → IsStreamConnection plan.system number link → IsJoinedUpTo plan number old → AddsStream plan.system link low old middle made → IsDrivenOver plan.system link.source_end (source_outputs made) middle half
     → (outputs : List Output) → outputs ≡ sink_outputs made → MayDriveAt plan.system link.sink_end outputs half
 unfolding link_place
 sink_may_now plan number link old middle half low made h is upto adds over outputs same =
@@ -412,19 +412,19 @@ sink_may_now plan number link old middle half low made h is upto adds over outpu
     ∙ same_drivers old middle k adds.grows.drivers) (undriven r))))
 
 -- the outputs at the source are driven, and those at the sink
-pub source_over : (system : SystemTable) (number : ℕ) (link : StreamLink) (made : PathNets) (outputs : List Output) (old new : Netlist) → IsStreamLink system number link → outputs ≡ source_outputs made → HasSameNets old new
+pub source_over : (system : SystemTable) (number : ℕ) (link : StreamConnection) (made : PathNets) (outputs : List Output) (old new : Netlist) → IsStreamConnection system number link → outputs ≡ source_outputs made → HasSameNets old new
     → Extends old new → AreDrivenAt system link.source_end outputs new → ((k : ℕ) → IsNoPortOf system link.source_end k → driver_of new k ≡ driver_of old k)
     → IsDrivenOver system link.source_end (source_outputs made) old new
 source_over system number link made outputs old new l is same extends driven others =
     record { same = same; extends = extends; driven = subst (λ (os : List Output). AreDrivenAt system link.source_end os new) is driven; others = others }
 
-pub sink_over : (system : SystemTable) (number : ℕ) (link : StreamLink) (made : PathNets) (outputs : List Output) (old new : Netlist) → IsStreamLink system number link → outputs ≡ sink_outputs made → HasSameNets old new
+pub sink_over : (system : SystemTable) (number : ℕ) (link : StreamConnection) (made : PathNets) (outputs : List Output) (old new : Netlist) → IsStreamConnection system number link → outputs ≡ sink_outputs made → HasSameNets old new
     → Extends old new → AreDrivenAt system link.sink_end outputs new → ((k : ℕ) → IsNoPortOf system link.sink_end k → driver_of new k ≡ driver_of old k)
     → IsDrivenOver system link.sink_end (sink_outputs made) old new
 sink_over system number link made outputs old new l is same extends driven others =
     record { same = same; extends = extends; driven = subst (λ (os : List Output). AreDrivenAt system link.sink_end os new) is driven; others = others }
 
-pub stream_joined : KeepsOn → (plan : PlanTable) (number : ℕ) (link : StreamLink) (old middle half new : Netlist) (low : Option NetValue) (made : PathNets) → HasKnownPorts plan.system → IsStreamLink plan.system number link
+pub stream_joined : KeepsOn → (plan : PlanTable) (number : ℕ) (link : StreamConnection) (old middle half new : Netlist) (low : Option NetValue) (made : PathNets) → HasKnownPorts plan.system → IsStreamConnection plan.system number link
     → AddsStream plan.system link low old middle made → low ≡ low_at plan.system number link.connection → IsDrivenOver plan.system link.source_end (source_outputs made) middle half
     → IsDrivenOver plan.system link.sink_end (sink_outputs made) half new → IsJoinedUpTo plan number old → IsJoinedUpTo plan (number + 1) new
 stream_joined law plan number link old middle half new low made h is adds lows source sink upto =

@@ -11,8 +11,8 @@ use Rattle.system_tables.specs.Tables.{SystemTable}
 use Rattle.address_map.specs.Ends.{each_once}
 use Rattle.address_map.specs.Footprints.{known_at}
 use Rattle.address_map.specs.Maps.{mm_connections, mm_ends, end_at, IsJoined, hosts_of, agents_of}
-use Rattle.link_rules.specs.declared.plan_links.MemoryLink.{MemoryLink}
-use Rattle.link_rules.specs.PlanLinks.{memory_links, IsMemoryLink, HasMemoryLink}
+use Rattle.link_rules.specs.declared.plan_connections.MemoryConnection.{MemoryConnection}
+use Rattle.link_rules.specs.PlanConnections.{memory_connections, IsMemoryConnection, HasMemoryConnection}
 use Rattle.link_rules.specs.Plans.{PlanTable, IsPlan}
 use Rattle.port_tables.specs.EndFacts.{IsPlanned, planned, known_is}
 use Rattle.port_tables.specs.Lists.{Among, among_at, among_map, among_image}
@@ -22,22 +22,22 @@ use Rattle.interconnect.proofs.Passing.{there_at}
 -- what the laws of links and ends say of a plan
 pub record LinkLaws (plan : PlanTable) : Type 0 where
   pub is_plan : IsPlan plan
-  pub numbered : (k : ℕ) (link : MemoryLink) → slice_get (memory_links plan.system) k ≡ Some link → IsMemoryLink plan.system link
-  pub each : (number : ℕ) (connection : Connection) → slice_get plan.system.connections number ≡ Some connection → connection.kind ≡ Mm → HasMemoryLink plan.system number
+  pub numbered : (k : ℕ) (link : MemoryConnection) → slice_get (memory_connections plan.system) k ≡ Some link → IsMemoryConnection plan.system link
+  pub each : (number : ℕ) (connection : Connection) → slice_get plan.system.connections number ≡ Some connection → connection.kind ≡ Mm → HasMemoryConnection plan.system number
   pub one : (side : Side) (j k : ℕ) (end : EndId) → slice_get (mm_ends side plan.system) j ≡ Some end → slice_get (mm_ends side plan.system) k ≡ Some end → j ≡ k
   pub joined : (side : Side) (number : ℕ) (end : EndId) → slice_get (mm_ends side plan.system) number ≡ Some end → IsJoined plan.system side end
 
 -- ---- the links of a plan
 
 module _ (plan : PlanTable) (laws : LinkLaws plan) where
-  abbrev pub links : List MemoryLink
-  links = memory_links plan.system
+  abbrev pub links : List MemoryConnection
+  links = memory_connections plan.system
 
   pub is_planned : IsPlanned plan.system
   is_planned = planned plan laws.is_plan
 
-  module _ (k : ℕ) (link : MemoryLink) (at : slice_get (memory_links plan.system) k ≡ Some link) where
-    pub of_connection : IsMemoryLink plan.system link
+  module _ (k : ℕ) (link : MemoryConnection) (at : slice_get (memory_connections plan.system) k ≡ Some link) where
+    pub of_connection : IsMemoryConnection plan.system link
     of_connection = laws.numbered k link at
 
     pub start_known : known_at plan.system of_connection.connection.start ≡ Host link.host
@@ -54,7 +54,7 @@ module _ (plan : PlanTable) (laws : LinkLaws plan) where
 
   -- ---- hosts and agents have links
 
-  link_there : (side : Side) (number : ℕ) (end : EndId) → slice_get (mm_ends side plan.system) number ≡ Some end → (place : ℕ) × (link : MemoryLink) × (at : slice_get links place ≡ Some link) × (end_at side (of_connection place link at).connection ≡ end)
+  link_there : (side : Side) (number : ℕ) (end : EndId) → slice_get (mm_ends side plan.system) number ≡ Some end → (place : ℕ) × (link : MemoryConnection) × (at : slice_get links place ≡ Some link) × (end_at side (of_connection place link at).connection ≡ end)
   link_there side number end is =
       let j = laws.joined side number end is in
       let has = laws.each j.number j.connection j.is (mm_kind j.connection.kind j.kind) in
@@ -64,8 +64,8 @@ module _ (plan : PlanTable) (laws : LinkLaws plan) where
 
   pub record HostHasLink (host : ℕ) : Type 0 where
     pub place : ℕ
-    pub link : MemoryLink
-    pub at : slice_get (memory_links plan.system) place ≡ Some link
+    pub link : MemoryConnection
+    pub at : slice_get (memory_connections plan.system) place ≡ Some link
     pub is : link.host_number ≡ host
 
   pub host_has_link : (host : ℕ) → host < length (hosts_of plan.system) → HostHasLink host
@@ -76,8 +76,8 @@ module _ (plan : PlanTable) (laws : LinkLaws plan) where
 
   pub record AgentHasLink (agent : ℕ) : Type 0 where
     pub place : ℕ
-    pub link : MemoryLink
-    pub at : slice_get (memory_links plan.system) place ≡ Some link
+    pub link : MemoryConnection
+    pub at : slice_get (memory_connections plan.system) place ≡ Some link
     pub is : link.agent_number ≡ agent
 
   pub agent_has_link : (agent : ℕ) → agent < length (agents_of plan.system) → AgentHasLink agent

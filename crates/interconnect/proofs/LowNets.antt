@@ -5,9 +5,9 @@ use Rattle.std.specs.List.{count_by}
 use Rattle.std.proofs.lemmas.List.Sums.{sum_by-cons, sum_by-append, count_by-le-length}
 use Rattle.std.proofs.lemmas.Option.{slice_get_within}
 use Rattle.system_tables.specs.Tables.{SystemTable}
-use Rattle.link_rules.specs.declared.plan_links.StreamLink.{StreamLink}
+use Rattle.link_rules.specs.declared.plan_connections.StreamConnection.{StreamConnection}
 use Rattle.link_rules.specs.Links.{streams_of}
-use Rattle.link_rules.specs.PlanLinks.{IsStreamLink}
+use Rattle.link_rules.specs.PlanConnections.{IsStreamConnection}
 use Rattle.netlist.specs.declared.line.Line.{Line}
 use Rattle.netlist.specs.declared.line.PortLine.{PortLine}
 use Rattle.netlist.specs.declared.line.Memory.{Memory}
@@ -65,7 +65,7 @@ count_more test xs x b e = sum_by-append (λ (y : ℕ). cond (test y) 1 0) xs (x
 wires_more : (system : SystemTable) (number place : ℕ) (b : Bool) → slice_get (streams_of system) number ≡ Some place → is_wire_at system place ≡ b → wires_before system (number + 1) ≡ wires_before system number + cond b 1 0
 wires_more system number place b e is = ap (count_by (is_wire_at system)) (take_one_more (streams_of system) number place e) ∙ count_more (is_wire_at system) (take number (streams_of system)) place b is
 
-pub wire_test : (system : SystemTable) (number : ℕ) (link : StreamLink) → IsStreamLink system number link → is_wire_at system link.connection ≡ is_wire_link link
+pub wire_test : (system : SystemTable) (number : ℕ) (link : StreamConnection) → IsStreamConnection system number link → is_wire_at system link.connection ≡ is_wire_link link
 wire_test system number link at =
     let of = connection_of system number link at.connection at at.connection_is in
     let start = start_known system number link at.connection at of in
@@ -128,8 +128,8 @@ low_room system number old now lows h is to =
     omega (arith, lines, long, wires, inputs, streams)
 
 -- a wire gets a low net
-pub wire_low : (system : SystemTable) (number : ℕ) (link : StreamLink) (old now new : Netlist) (lows : List (Option NetValue)) (net : NetValue) → old ≡ started (module_name system) (ports_of system)
-    → IsStreamLink system number link → is_wire_link link ≡ true → AreLowsTo system number old now lows → new ≡ appended now low_line → net ≡ net_of (length now.lines) 1 → StillWait new now
+pub wire_low : (system : SystemTable) (number : ℕ) (link : StreamConnection) (old now new : Netlist) (lows : List (Option NetValue)) (net : NetValue) → old ≡ started (module_name system) (ports_of system)
+    → IsStreamConnection system number link → is_wire_link link ≡ true → AreLowsTo system number old now lows → new ≡ appended now low_line → net ≡ net_of (length now.lines) 1 → StillWait new now
     → AreLowsTo system (number + 1) old new (lows ++ Some net ∷ [])
 wire_low system number link old now new lows net is at wire to e f waits =
     let test = wire_test system number link at ∙ wire in
@@ -145,7 +145,7 @@ wire_low system number link old now new lows net is at wire to e f waits =
     }
 
 -- another stream gets none
-pub no_low : (system : SystemTable) (number : ℕ) (link : StreamLink) (old now : Netlist) (lows : List (Option NetValue)) → IsStreamLink system number link → is_wire_link link ≡ false
+pub no_low : (system : SystemTable) (number : ℕ) (link : StreamConnection) (old now : Netlist) (lows : List (Option NetValue)) → IsStreamConnection system number link → is_wire_link link ≡ false
     → AreLowsTo system number old now lows → AreLowsTo system (number + 1) old now (lows ++ None ∷ [])
 no_low system number link old now lows at wire to =
     let test = wire_test system number link at ∙ wire in
@@ -159,8 +159,8 @@ no_low system number link old now lows at wire to =
     }
 
 -- one stream more, whether a wire or not
-pub low_more : (system : SystemTable) (number : ℕ) (link : StreamLink) (old now new : Netlist) (lows more : List (Option NetValue)) (low : Option NetValue) → old ≡ started (module_name system) (ports_of system)
-    → IsStreamLink system number link → AreLowsTo system number old now lows → AddsLow (is_wire_link link) now new low → more ≡ lows ++ low ∷ [] → AreLowsTo system (number + 1) old new more
+pub low_more : (system : SystemTable) (number : ℕ) (link : StreamConnection) (old now new : Netlist) (lows more : List (Option NetValue)) (low : Option NetValue) → old ≡ started (module_name system) (ports_of system)
+    → IsStreamConnection system number link → AreLowsTo system number old now lows → AddsLow (is_wire_link link) now new low → more ≡ lows ++ low ∷ [] → AreLowsTo system (number + 1) old new more
 low_more system number link old now new lows more low is at to adds e = subst (AreLowsTo system (number + 1) old new) (sym e) (by_wire (is_wire_link link) refl adds)
   where
     by_wire : (b : Bool) → is_wire_link link ≡ b → AddsLow b now new low → AreLowsTo system (number + 1) old new (lows ++ low ∷ [])

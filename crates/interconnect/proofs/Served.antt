@@ -20,8 +20,8 @@ use Rattle.stream_runs.specs.Source.{IsLegalSource}
 use Rattle.stream_runs.specs.Awake.{IsServedAwake}
 use Rattle.stream_runs.specs.Ends.{Declared, Signals, side_of, view_of, signal_or, stream_of, run_of}
 use Rattle.st_timing.specs.Ends.{declared}
-use Rattle.stream_path.specs.Ends.{signal_on, signal_of, signal_where, source_signals, sink_signals}
-use Rattle.stream_path.specs.declared.ends.PathNets.{PathNets}
+use Rattle.st_path.specs.Ends.{signal_on, signal_of, signal_where, source_signals, sink_signals}
+use Rattle.st_path.specs.declared.ends.PathNets.{PathNets}
 use Rattle.port_tables.specs.declared.roles.PortRole.{PortRole}
 use Rattle.port_tables.specs.declared.roles.PortRole.TheVariants as role
 use Rattle.port_tables.specs.declared.roles.RolePort.{RolePort}

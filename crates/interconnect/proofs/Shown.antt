@@ -10,7 +10,7 @@ use Rattle.netlist.specs.Nets.{NetValue, net_of}
 use Rattle.netlist.specs.Netlists.{Netlist, IsInputPort, IsWellMade, driver_of, input_net}
 use Rattle.netlist.specs.Runs.{Run}
 use Rattle.netlist.specs.Signals.{port_net, port_value, port_named, signal}
-use Rattle.stream_path.specs.Ends.{signal_of, signal_where}
+use Rattle.st_path.specs.Ends.{signal_of, signal_where}
 use Rattle.port_tables.specs.declared.roles.PortRole.{PortRole}
 use Rattle.port_tables.specs.Ports.{role_word, bits_if, port_name, name_at, ports_of}
 use Rattle.port_tables.specs.PortMaps.{IsPortIf, port_at}

@@ -10,9 +10,9 @@ use Rattle.system_tables.specs.declared.tables.Connection.{Connection}
 use Rattle.system_tables.specs.Tables.{SystemTable}
 use Rattle.address_map.specs.Footprints.{known_at}
 use Rattle.address_map.specs.Maps.{hosts_of, agents_of}
-use Rattle.link_rules.specs.declared.plan_links.StreamLink.{StreamLink}
+use Rattle.link_rules.specs.declared.plan_connections.StreamConnection.{StreamConnection}
 use Rattle.link_rules.specs.Links.{streams_of}
-use Rattle.link_rules.specs.PlanLinks.{stream_links, IsStreamLink}
+use Rattle.link_rules.specs.PlanConnections.{stream_connections, IsStreamConnection}
 use Rattle.port_tables.specs.Lists.{Among, among_at, among_back, among_flat}
 use Rattle.port_tables.specs.Ends.{IsStreamPlace}
 use Rattle.port_tables.specs.EndFacts.{IsPlanned, known_is}
@@ -43,32 +43,32 @@ stream_ends_among system number connection source sink is = (there connection.st
 
 -- ---- the ends of a link
 
-pub source_known : (system : SystemTable) (number : ℕ) (link : StreamLink) → IsStreamLink system number link → known_at system link.source_end ≡ Source link.source
+pub source_known : (system : SystemTable) (number : ℕ) (link : StreamConnection) → IsStreamConnection system number link → known_at system link.source_end ≡ Source link.source
 source_known system number link is = known_is system link.source_end (Source link.source) is.source
 
-pub sink_known : (system : SystemTable) (number : ℕ) (link : StreamLink) → IsStreamLink system number link → known_at system link.sink_end ≡ Sink link.sink
+pub sink_known : (system : SystemTable) (number : ℕ) (link : StreamConnection) → IsStreamConnection system number link → known_at system link.sink_end ≡ Sink link.sink
 sink_known system number link is = known_is system link.sink_end (Sink link.sink) is.sink
 
 -- the connection has the ends and the queue of the link
-pub record IsConnectionOf (link : StreamLink) (connection : Connection) : Type 0 where
+pub record IsConnectionOf (link : StreamConnection) (connection : Connection) : Type 0 where
   pub start : connection.start ≡ link.source_end
   pub end : connection.end ≡ link.sink_end
   pub fifo : connection.fifo ≡ link.fifo
 
-pub connection_of : (system : SystemTable) (number : ℕ) (link : StreamLink) (connection : Connection) → IsStreamLink system number link → slice_get system.connections link.connection ≡ Some connection
+pub connection_of : (system : SystemTable) (number : ℕ) (link : StreamConnection) (connection : Connection) → IsStreamConnection system number link → slice_get system.connections link.connection ≡ Some connection
     → IsConnectionOf link connection
 connection_of system number link connection is e =
     let f = is.connection_is in
     let same : is.connection ≡ connection = cc in
     subst (IsConnectionOf link) same (record { start = is.start; end = is.end; fifo = is.fifo })
 
-pub start_known : (system : SystemTable) (number : ℕ) (link : StreamLink) (connection : Connection) → IsStreamLink system number link → IsConnectionOf link connection → known_at system connection.start ≡ Source link.source
+pub start_known : (system : SystemTable) (number : ℕ) (link : StreamConnection) (connection : Connection) → IsStreamConnection system number link → IsConnectionOf link connection → known_at system connection.start ≡ Source link.source
 start_known system number link connection is of = ap (λ (end : EndId). known_at system end) of.start ∙ source_known system number link is
 
-pub finish_known : (system : SystemTable) (number : ℕ) (link : StreamLink) (connection : Connection) → IsStreamLink system number link → IsConnectionOf link connection → known_at system connection.end ≡ Sink link.sink
+pub finish_known : (system : SystemTable) (number : ℕ) (link : StreamConnection) (connection : Connection) → IsStreamConnection system number link → IsConnectionOf link connection → known_at system connection.end ≡ Sink link.sink
 finish_known system number link connection is of = ap (λ (end : EndId). known_at system end) of.end ∙ sink_known system number link is
 
-unfoldable pub link_place : (system : SystemTable) (number : ℕ) (link : StreamLink) (connection : Connection) → IsPlanned system → IsStreamLink system number link → slice_get system.connections link.connection ≡ Some connection
+unfoldable pub link_place : (system : SystemTable) (number : ℕ) (link : StreamConnection) (connection : Connection) → IsPlanned system → IsStreamConnection system number link → slice_get system.connections link.connection ≡ Some connection
     → IsStreamPlace system number connection
 link_place system number link connection h is e =
     let of = connection_of system number link connection is e in
@@ -87,42 +87,42 @@ link_place system number link connection h is e =
       sink_is = finish_known system number link connection is of;
     }
 
-pub source_among : (system : SystemTable) (number : ℕ) (link : StreamLink) → IsPlanned system → IsStreamLink system number link → Among link.source_end (ends_of system)
+pub source_among : (system : SystemTable) (number : ℕ) (link : StreamConnection) → IsPlanned system → IsStreamConnection system number link → Among link.source_end (ends_of system)
 source_among system number link h is =
     subst (λ (end : EndId). Among end (ends_of system)) is.start (start_among system number is.connection (link_place system number link is.connection h is is.connection_is))
 
-pub sink_among : (system : SystemTable) (number : ℕ) (link : StreamLink) → IsPlanned system → IsStreamLink system number link → Among link.sink_end (ends_of system)
+pub sink_among : (system : SystemTable) (number : ℕ) (link : StreamConnection) → IsPlanned system → IsStreamConnection system number link → Among link.sink_end (ends_of system)
 sink_among system number link h is =
     subst (λ (end : EndId). Among end (ends_of system)) is.end (finish_among system number is.connection (link_place system number link is.connection h is is.connection_is))
 
 -- ---- links by their numbers
 
-pub link_inside : (system : SystemTable) (number : ℕ) (links : List StreamLink) → map (λ (link : StreamLink). link.connection) (stream_links system) ≡ streams_of system → links ≡ stream_links system
+pub link_inside : (system : SystemTable) (number : ℕ) (links : List StreamConnection) → map (λ (link : StreamConnection). link.connection) (stream_connections system) ≡ streams_of system → links ≡ stream_connections system
     → number < length (streams_of system) → number < length links
 link_inside system number links numbers same inside =
-    let many = length-map (stream_links system) (λ (link : StreamLink). link.connection) in
+    let many = length-map (stream_connections system) (λ (link : StreamConnection). link.connection) in
     let all = ap (λ (ns : List ℕ). length ns) numbers in
-    let long = ap (λ (ls : List StreamLink). length ls) same in
+    let long = ap (λ (ls : List StreamConnection). length ls) same in
     omega (arith, many, all, long, inside)
 
-link_there : (system : SystemTable) (number : ℕ) (links : List StreamLink) (d : StreamLink) → links ≡ stream_links system → number < length links
-    → slice_get (stream_links system) number ≡ Some (get_or links number d)
-link_there system number links d same inside = subst (λ (ls : List StreamLink). slice_get ls number ≡ Some (get_or links number d)) same (slice_get-get_or links number d inside)
+link_there : (system : SystemTable) (number : ℕ) (links : List StreamConnection) (d : StreamConnection) → links ≡ stream_connections system → number < length links
+    → slice_get (stream_connections system) number ≡ Some (get_or links number d)
+link_there system number links d same inside = subst (λ (ls : List StreamConnection). slice_get ls number ≡ Some (get_or links number d)) same (slice_get-get_or links number d inside)
 
-pub connection_inside : (system : SystemTable) (number : ℕ) (link : StreamLink) (connections : List Connection) → IsStreamLink system number link → connections ≡ system.connections → link.connection < length connections
+pub connection_inside : (system : SystemTable) (number : ℕ) (link : StreamConnection) (connections : List Connection) → IsStreamConnection system number link → connections ≡ system.connections → link.connection < length connections
 connection_inside system number link connections is same =
     let within = slice_get_within system.connections link.connection is.connection is.connection_is in
     let long = ap (λ (cs : List Connection). length cs) same in
     omega (arith, within, long)
 
-pub connection_there : (system : SystemTable) (number : ℕ) (link : StreamLink) (connections : List Connection) (d : Connection) → IsStreamLink system number link → connections ≡ system.connections
+pub connection_there : (system : SystemTable) (number : ℕ) (link : StreamConnection) (connections : List Connection) (d : Connection) → IsStreamConnection system number link → connections ≡ system.connections
     → slice_get system.connections link.connection ≡ Some (get_or connections link.connection d)
 connection_there system number link connections d is same =
     subst (λ (cs : List Connection). slice_get cs link.connection ≡ Some (get_or connections link.connection d)) same
     (slice_get-get_or connections link.connection d (connection_inside system number link connections is same))
 
 -- the link that stands at a number
-pub link_at : (system : SystemTable) (number : ℕ) (links : List StreamLink) (d : StreamLink)
-    → ((number : ℕ) (link : StreamLink) → slice_get (stream_links system) number ≡ Some link → IsStreamLink system number link)
-    → links ≡ stream_links system → number < length links → IsStreamLink system number (get_or links number d)
+pub link_at : (system : SystemTable) (number : ℕ) (links : List StreamConnection) (d : StreamConnection)
+    → ((number : ℕ) (link : StreamConnection) → slice_get (stream_connections system) number ≡ Some link → IsStreamConnection system number link)
+    → links ≡ stream_connections system → number < length links → IsStreamConnection system number (get_or links number d)
 link_at system number links d law same inside = law number (get_or links number d) (link_there system number links d same inside)

@@ -12,9 +12,9 @@ use Rattle.stream_runs.specs.Awake.{NeverIdles, IsServedAwake, stream_window}
 use Rattle.stream_runs.specs.Ends.{Declared, Signals, AreAlike, IsWire as IsWireRun, side_of, view_of, stream_of, run_of}
 use Rattle.net_parts.specs.Nets.{IsNetOfWidth, IsBit}
 use Rattle.net_parts.specs.Growth.{GrowsInMemory}
-use Rattle.stream_path.specs.Ends.{IsNetIf, IsNetWhere, AreSourceNets, ArePathNets, signal_on, signal_of, signal_where, source_signals, sink_signals}
-use Rattle.stream_path.specs.Serving.{ServesInLonger}
-use Rattle.stream_path.specs.declared.ends.SourceNets.{SourceNets}
+use Rattle.st_path.specs.Ends.{IsNetIf, IsNetWhere, AreSourceNets, ArePathNets, signal_on, signal_of, signal_where, source_signals, sink_signals}
+use Rattle.st_path.specs.Serving.{ServesInLonger}
+use Rattle.st_path.specs.declared.ends.SourceNets.{SourceNets}
 use Rattle.interconnect.specs.Streams.{low_line}
 use Rattle.interconnect.specs.Joins.{wire_nets}
 use Rattle.interconnect.proofs.Forms.{IsWire}

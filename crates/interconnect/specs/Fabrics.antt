@@ -2,7 +2,7 @@
 use Rattle.std.specs.Prelude.{◌≡◌, ℕ, length, Some, slice_get}
 use Rattle.system_tables.specs.Tables.{SystemTable}
 use Rattle.address_map.specs.Maps.{hosts_of, agents_of}
-use Rattle.link_rules.specs.PlanLinks.{memory_links}
+use Rattle.link_rules.specs.PlanConnections.{memory_connections}
 use Rattle.link_rules.specs.Plans.{PlanTable}
 use Rattle.netlist.specs.Netlists.{Netlist}
 use Rattle.net_parts.specs.Growth.{GrowsInMemory, StillWait, StillWaitForWrite}
@@ -16,11 +16,11 @@ use Rattle.interconnect.specs.Agents.{IsAgentIn, agent_outputs}
 
 -- the most nets that the hosts and agents of a system take
 abbrev pub memory_nets : SystemTable → ℕ
-memory_nets system = fabric_nets (length (hosts_of system)) (length (agents_of system)) (length (memory_links system))
+memory_nets system = fabric_nets (length (hosts_of system)) (length (agents_of system)) (length (memory_connections system))
 
 -- and the most memories
 abbrev pub system_memories : SystemTable → ℕ
-system_memories system = fabric_memories (length (hosts_of system)) (length (agents_of system)) (length (memory_links system))
+system_memories system = fabric_memories (length (hosts_of system)) (length (agents_of system)) (length (memory_connections system))
 
 -- a part for each host and each agent, by their numbers
 pub record ArePartsOf (system : SystemTable) (parts : FabricParts) : Type 0 where

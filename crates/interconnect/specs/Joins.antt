@@ -7,17 +7,17 @@ use Rattle.system_tables.specs.Tables.{SystemTable}
 use Rattle.address_map.specs.Maps.{hosts_of, agents_of}
 use Rattle.link_rules.specs.Links.{streams_of}
 use Rattle.link_rules.specs.Plans.{PlanTable}
-use Rattle.link_rules.specs.declared.plan_links.StreamLink.{StreamLink}
+use Rattle.link_rules.specs.declared.plan_connections.StreamConnection.{StreamConnection}
 use Rattle.netlist.specs.declared.line.Line.{Line}
 use Rattle.netlist.specs.Nets.{NetValue, net_of}
 use Rattle.netlist.specs.Netlists.{Netlist, IsClocked, IsWritten, driver_of, input_count, appended}
 use Rattle.stream_runs.specs.Ends.{Declared}
 use Rattle.net_parts.specs.Growth.{GrowsInMemory, StillWait, StillWaitForWrite}
 use Rattle.st_timing.specs.Ends.{declared}
-use Rattle.stream_path.specs.Ends.{ArePathNets}
-use Rattle.stream_path.specs.Serving.{most_nets, most_memories, ServesInLonger}
-use Rattle.stream_path.specs.declared.ends.SourceNets.{SourceNets}
-use Rattle.stream_path.specs.declared.ends.PathNets.{PathNets}
+use Rattle.st_path.specs.Ends.{ArePathNets}
+use Rattle.st_path.specs.Serving.{most_nets, most_memories, ServesInLonger}
+use Rattle.st_path.specs.declared.ends.SourceNets.{SourceNets}
+use Rattle.st_path.specs.declared.ends.PathNets.{PathNets}
 use Rattle.port_tables.specs.declared.roles.PortRole.{PortRole}
 use Rattle.port_tables.specs.declared.roles.PortRole.TheVariants as role
 use Rattle.port_tables.specs.Ports.{ports_of, module_name}
@@ -94,7 +94,7 @@ abbrev pub IsLowOf : SystemTable → ℕ → Option NetValue → Type 0
 IsLowOf system number low = (place : ℕ) → slice_get (streams_of system) number ≡ Some place → low ≡ low_at system number place
 
 -- what stands between the ends of a stream was added
-pub record AddsStream (system : SystemTable) (link : StreamLink) (low : Option NetValue) (old new : Netlist) (made : PathNets) : Type 0 where
+pub record AddsStream (system : SystemTable) (link : StreamConnection) (low : Option NetValue) (old new : Netlist) (made : PathNets) : Type 0 where
   pub from : SourceNets
   pub ready : Option NetValue
   pub from_are : AreInputs system link.source_end (declared link.source) from

@@ -8,17 +8,17 @@ use Rattle.netlist.specs.Netlists.{Netlist}
 use Rattle.netlist.specs.Runs.{Cycle, Run, IsValuation, SameState, IsRun}
 use Rattle.netlist.specs.Signals.{signal}
 use Rattle.stream_runs.specs.Ends.{signal_or}
-use Rattle.mm_runs.specs.Views.{Signals as CommandSignals, HostView, AgentView, Run as MemoryRun}
-use Rattle.mm_runs.specs.Views.Responses.{AreCodes}
-use Rattle.mm_runs.specs.Plan.{IsMemoryPlan}
-use Rattle.mm_runs.specs.Order.{ActsAsMemory, ReadsFromMemory}
-use Rattle.mm_runs.specs.Whole.{IsLegalRun, IsSafe}
-use Rattle.mm_runs.specs.Awake.{NeverIdles, IsFair}
-use Rattle.mm_runs.specs.Onward.{NoHostHangs, AcceptsSoon}
-use Rattle.mm_runs.specs.Moment.{Moment, IgnoresReaddata}
-use Rattle.mm_runs.specs.Packed.{ReadsEachTouchedWordOnce}
-use Rattle.mm_awake.specs.Onward.{prompt_window}
-use Rattle.mm_waits.specs.Windows.{host_window}
+use Rattle.memory_runs.specs.Views.{Signals as CommandSignals, HostView, AgentView, Run as MemoryRun}
+use Rattle.memory_runs.specs.Views.Responses.{AreCodes}
+use Rattle.memory_runs.specs.Plan.{IsMemoryPlan}
+use Rattle.memory_runs.specs.Order.{ActsAsMemory, ReadsFromMemory}
+use Rattle.memory_runs.specs.Whole.{IsLegalRun, IsSafe}
+use Rattle.memory_runs.specs.Awake.{NeverIdles, IsFair}
+use Rattle.memory_runs.specs.Onward.{NoHostHangs, AcceptsSoon}
+use Rattle.memory_runs.specs.Moment.{Moment, IgnoresReaddata}
+use Rattle.memory_runs.specs.Packed.{ReadsEachTouchedWordOnce}
+use Rattle.memory_awake.specs.Onward.{prompt_window}
+use Rattle.memory_waits.specs.Windows.{host_window}
 use Rattle.memory_plans.specs.Systems.{memory_system}
 use Rattle.memory_plans.specs.Shown.{silent_host, silent_agent, moment_in, standing_still}
 use Rattle.port_tables.specs.Ports.{EndName, port_name, name_at}

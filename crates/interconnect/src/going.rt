@@ -20,5 +20,5 @@ pub fn legal_runs_go_on(plan: &Plan)
     signals();
     inputs_fit();
     runs_can_be_fed();
-    mm_going::legal_runs_go_on();
+    memory_going::legal_runs_go_on();
 }

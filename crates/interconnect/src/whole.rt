@@ -9,11 +9,11 @@ use crate::streams::{join_streams, low_nets};
 use address_map::{ends_are_joined, ends_have_one_number};
 use av_base::NoMemory;
 use iface_roles::proper_records_are_bounded;
-use link_rules::{Plan, memory_links_are_numbered};
+use link_rules::{Plan, memory_connections_are_numbered};
 use memory_plans::{links_are_connections, plans_are_memory_plans};
 use mm_fabric::{fabrics_are_served, fabrics_ignore_words, links_are_few};
-use mm_packed::agree::packed_runs_agree;
-use mm_runs::{memory_is_read_back, same_beginnings};
+use memory_packed::agree::packed_runs_agree;
+use memory_runs::{memory_is_read_back, same_beginnings};
 use netlist::{Module, goes_on};
 use port_tables::{PortMap, ports_are_known, start};
 use pruned_netlists::prune;
@@ -37,7 +37,7 @@ pub fn build(alloc: Global, plan: &Plan) -> Result<Built, NoMemory>
 {
     // the laws of hosts and their agents, which the contract rests on
     plan.well_made();
-    memory_links_are_numbered();
+    memory_connections_are_numbered();
     ends_have_one_number();
     ends_are_joined();
     plans_are_memory_plans();

@@ -1,9 +1,9 @@
 -- Two links in a row, each of which keeps its law where joined commands above it are alike, keep it as one link there.
 use Rattle.std.proofs.Common.{◌≡◌, ℕ, zero, suc, ◌≤◌, ◌-◌, sym, subst, arith, le_refl}
-use Rattle.mm_machines.specs.Link.{Target, Port, AreLegalAt, AnswersAreOwed}
-use Rattle.mm_machines.specs.PartRanks.{JoinsAlike}
-use Rattle.mm_machines.specs.Shorter.{legal_at_before}
-use Rattle.mm_links.specs.Links.{LinkForm, IsLink, FormsFit, chain_form}
+use Rattle.memory_machines.specs.Link.{Target, Port, AreLegalAt, AnswersAreOwed}
+use Rattle.memory_machines.specs.PartRanks.{JoinsAlike}
+use Rattle.memory_machines.specs.Shorter.{legal_at_before}
+use Rattle.memory_links.specs.Links.{LinkForm, IsLink, FormsFit, chain_form}
 
 -- what a link keeps in each cycle in which its commands are legal and its answers owed, it keeps
 by_cycles : (form : LinkForm) (up down : Port) (end : ℕ) → JoinsAlike form.target up end → ((c : ℕ) → c ≤ end → AreLegalAt up c → AnswersAreOwed down (c - 1) → IsLink form up down c) → IsLink form up down end

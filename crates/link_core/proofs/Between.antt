@@ -4,10 +4,10 @@ use Rattle.std.specs.Prelude.{IsSomeAnd}
 use Rattle.netlist.specs.Nets.{NetValue}
 use Rattle.netlist.specs.Netlists.{Netlist}
 use Rattle.netlist.specs.Runs.{Run, Cycle}
-use Rattle.mm_runs.specs.Views.{Shape}
-use Rattle.mm_machines.specs.Link.{Target, Port}
-use Rattle.mm_links.specs.InStep.{GoesInStep}
-use Rattle.mm_links.specs.Links.{LinkForm, IsLink, IsStraightLink, pass_form, chain_form}
+use Rattle.memory_runs.specs.Views.{Shape}
+use Rattle.memory_machines.specs.Link.{Target, Port}
+use Rattle.memory_links.specs.InStep.{GoesInStep}
+use Rattle.memory_links.specs.Links.{LinkForm, IsLink, IsStraightLink, pass_form, chain_form}
 use Rattle.command_nets.specs.declared.nets.CommandNets.{CommandNets}
 use Rattle.command_nets.specs.declared.nets.AnswerNets.{AnswerNets}
 use Rattle.command_nets.specs.Nets.{port_in, ShowSame}
@@ -16,7 +16,7 @@ use Rattle.link_core.specs.Form.{Form, FormsFit, KeepsLaw, KeepsStraight, form_o
 use Rattle.link_core.specs.ChainNets.{HasMiddle}
 use Rattle.link_core.specs.MaybeNets.{command_of, answer_of}
 use Rattle.link_core.specs.PassNets.{IsPassForm}
-use Rattle.mm_links.specs.Links as links
+use Rattle.memory_links.specs.Links as links
 use Rattle.link_core.proofs.AlikeChain.{alike_chain}
 
 -- ---- a link of no nets

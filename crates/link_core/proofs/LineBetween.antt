@@ -3,10 +3,10 @@ use Rattle.std.proofs.Common.{◌≡◌, ℕ, suc, ◌+◌, ◌<◌, sym, subst,
 use Rattle.netlist.specs.Nets.{NetValue}
 use Rattle.netlist.specs.Netlists.{Netlist}
 use Rattle.netlist.specs.Runs.{Run, cycle_of, IsEndlessRun}
-use Rattle.mm_runs.specs.Views.{Shape, System}
-use Rattle.mm_machines.specs.Lines.{TaggedPort, IsPipeLine, Pipe, KeepsPipeLine, joined_pipe}
-use Rattle.mm_machines.specs.Machines.{Stage, RunsAsStage, above, below}
-use Rattle.mm_links.specs.Links.{LinkForm}
+use Rattle.memory_runs.specs.Views.{Shape, System}
+use Rattle.memory_machines.specs.Lines.{TaggedPort, IsPipeLine, Pipe, KeepsPipeLine, joined_pipe}
+use Rattle.memory_machines.specs.Machines.{Stage, RunsAsStage, above, below}
+use Rattle.memory_links.specs.Links.{LinkForm}
 use Rattle.command_nets.specs.declared.nets.CommandNets.{CommandNets}
 use Rattle.command_nets.specs.declared.nets.AnswerNets.{AnswerNets}
 use Rattle.command_nets.specs.Nets.{raw_in, port_in, command_view, answer_view}

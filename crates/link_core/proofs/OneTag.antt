@@ -1,9 +1,9 @@
 -- Where all commands above bear one tag, stages show that tag below.
 use Rattle.std.proofs.Common.{◌≡◌, ℕ, zero, suc, ◌&&◌, Bool, true, false, if◌then◌else◌, List, [], ◌∷◌, ◌++◌, drop, refl, sym, subst, ap, ◌∙◌}
 use Rattle.histories.specs.History.{only_if}
-use Rattle.mm_runs.specs.Commands.{shows}
-use Rattle.mm_machines.specs.Link.{Port, takes}
-use Rattle.mm_machines.specs.Machines.{Raw, raw_at, ShowsHead, IsStageRun}
+use Rattle.memory_runs.specs.Commands.{shows}
+use Rattle.memory_machines.specs.Link.{Port, takes}
+use Rattle.memory_machines.specs.Machines.{Raw, raw_at, ShowsHead, IsStageRun}
 use Rattle.link_core.specs.Lines.{RunsAsStages, with_tag}
 use Rattle.link_core.specs.Lines.RunsAsStages.{no_stage, one_more}
 use Rattle.link_core.specs.StageNets.{RunsAsPipeStage}

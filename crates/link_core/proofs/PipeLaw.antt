@@ -6,12 +6,12 @@ use Rattle.netlist.specs.Netlists.{Netlist}
 use Rattle.netlist.specs.Runs.{Run, IsEndlessRun}
 use Rattle.netlist.specs.Longer.{Extends}
 use Rattle.net_parts.specs.Laws.{extends_twice}
-use Rattle.mm_runs.specs.Views.{Shape}
-use Rattle.mm_runs.specs.Operations.{pieces}
-use Rattle.mm_runs.specs.Laws.{same_pieces}
-use Rattle.mm_machines.specs.Link.{Target}
-use Rattle.mm_links.specs.Links.{pass_form}
-use Rattle.mm_links.specs.Pipes.{stage_form}
+use Rattle.memory_runs.specs.Views.{Shape}
+use Rattle.memory_runs.specs.Operations.{pieces}
+use Rattle.memory_runs.specs.Laws.{same_pieces}
+use Rattle.memory_machines.specs.Link.{Target}
+use Rattle.memory_links.specs.Links.{pass_form}
+use Rattle.memory_links.specs.Pipes.{stage_form}
 use Rattle.command_nets.specs.declared.nets.CommandNets.{CommandNets}
 use Rattle.command_nets.specs.declared.nets.AnswerNets.{AnswerNets}
 use Rattle.command_nets.specs.Nets.{port_in}

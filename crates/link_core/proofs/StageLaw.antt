@@ -4,11 +4,11 @@ use Rattle.histories.specs.History.{only_if, is_raised}
 use Rattle.netlist.specs.Nets.{NetValue}
 use Rattle.netlist.specs.Netlists.{Netlist}
 use Rattle.netlist.specs.Runs.{Cycle, Run, cycle_of, IsEndlessRun, IsValuation}
-use Rattle.mm_runs.specs.Views.{Shape}
-use Rattle.mm_machines.specs.Link.{Target, Port}
-use Rattle.mm_machines.specs.Machines.{Raw, raw_at, ShowsHead, IsStageRun}
-use Rattle.mm_links.specs.Links.{LinkForm, IsLink}
-use Rattle.mm_links.specs.Pipes.{PipeSides, RunsAsPipe, side_of, stage_form}
+use Rattle.memory_runs.specs.Views.{Shape}
+use Rattle.memory_machines.specs.Link.{Target, Port}
+use Rattle.memory_machines.specs.Machines.{Raw, raw_at, ShowsHead, IsStageRun}
+use Rattle.memory_links.specs.Links.{LinkForm, IsLink}
+use Rattle.memory_links.specs.Pipes.{PipeSides, RunsAsPipe, side_of, stage_form}
 use Rattle.command_nets.specs.declared.nets.CommandNets.{CommandNets}
 use Rattle.command_nets.specs.declared.nets.AnswerNets.{AnswerNets}
 use Rattle.link_core.specs.declared.stage.StageKept.{StageKept}

@@ -1,10 +1,10 @@
 -- Stages in a row between sides of one shape are the machine of a pipe.
 use Rattle.std.proofs.Common.{◌≡◌, ℕ, zero, suc, ◌<◌, List, [], ◌∷◌, length, false, refl, sym, ap, ◌∙◌, subst, arith}
 use Rattle.histories.specs.History.{is_raised}
-use Rattle.mm_runs.specs.Views.{Shape}
-use Rattle.mm_machines.specs.Paths.{CommandView, AnswerView}
-use Rattle.mm_machines.specs.Link.{Port}
-use Rattle.mm_machines.specs.Machines.{Raw, ShowsHead, IsStageRun, port_of}
+use Rattle.memory_runs.specs.Views.{Shape}
+use Rattle.memory_machines.specs.Paths.{CommandView, AnswerView}
+use Rattle.memory_machines.specs.Link.{Port}
+use Rattle.memory_machines.specs.Machines.{Raw, ShowsHead, IsStageRun, port_of}
 use Rattle.link_core.specs.Boundaries.{TagsRise, HasPipe}
 use Rattle.link_core.specs.Lines.{RunsAsStages, tagged_port}
 use Rattle.link_core.specs.Lines.RunsAsStages.{no_stage, one_more}

@@ -2,12 +2,12 @@
 use Rattle.std.proofs.Common.{◌≡◌, ℕ, ◌<◌, ◌≤◌, le_refl, Bool, false, IsTrue, sym, subst}
 use Rattle.netlist.specs.Nets.{NetValue}
 use Rattle.netlist.specs.Runs.{Run}
-use Rattle.mm_runs.specs.Views.{Shape}
-use Rattle.mm_machines.specs.Link.{Target, Port, AreLegalAt, AnswersAreOwed, marked_at, operations_in, is_nonempty}
-use Rattle.mm_machines.specs.PartRanks.{JoinsAlike}
-use Rattle.mm_machines.specs.Straight.{GoesStraightThrough, shows_plain}
-use Rattle.mm_links.specs.InStep.{GoesInStep, AreInStep}
-use Rattle.mm_links.specs.Links.{LinkForm, IsLink, FormsFit, chain_form}
+use Rattle.memory_runs.specs.Views.{Shape}
+use Rattle.memory_machines.specs.Link.{Target, Port, AreLegalAt, AnswersAreOwed, marked_at, operations_in, is_nonempty}
+use Rattle.memory_machines.specs.PartRanks.{JoinsAlike}
+use Rattle.memory_machines.specs.Straight.{GoesStraightThrough, shows_plain}
+use Rattle.memory_links.specs.InStep.{GoesInStep, AreInStep}
+use Rattle.memory_links.specs.Links.{LinkForm, IsLink, FormsFit, chain_form}
 use Rattle.command_nets.specs.declared.nets.CommandNets.{CommandNets}
 use Rattle.command_nets.specs.declared.nets.AnswerNets.{AnswerNets}
 use Rattle.command_nets.specs.Nets.{port_in}

@@ -1,7 +1,7 @@
 -- The boundaries of stages in a row, with the tags that go up through them.
 use Rattle.std.specs.Prelude.{◌≡◌, ℕ, suc, ◌<◌}
-use Rattle.mm_machines.specs.Lines.{TaggedPort}
-use Rattle.mm_links.specs.Pipes.{PipeSides, RunsAsPipe, tagged_side}
+use Rattle.memory_machines.specs.Lines.{TaggedPort}
+use Rattle.memory_links.specs.Pipes.{PipeSides, RunsAsPipe, tagged_side}
 
 -- each cycle the tags of answers rise by one boundary, of which 0 is the highest
 abbrev pub TagsRise : ℕ → (ℕ → ℕ → ℕ) → Type 0

@@ -1,12 +1,12 @@
 -- What a link keeps, between its two sides.
 use Rattle.std.specs.Prelude.{◌≡◌, ℕ, ◌*◌, ◌≤◌, ◌||◌, false, IsTrue}
-use Rattle.mm_runs.specs.Views.{Shape}
-use Rattle.mm_runs.specs.Operations.{pieces}
-use Rattle.mm_machines.specs.Link.{Target, Port, AreLegalAt, AnswersAreOwed}
-use Rattle.mm_machines.specs.PartRanks.{JoinsAlike}
-use Rattle.mm_machines.specs.Straight.{GoesStraightThrough}
-use Rattle.mm_links.specs.InStep.{GoesInStep}
-use Rattle.mm_links.specs.Links.{LinkForm, IsLink, chain_form}
+use Rattle.memory_runs.specs.Views.{Shape}
+use Rattle.memory_runs.specs.Operations.{pieces}
+use Rattle.memory_machines.specs.Link.{Target, Port, AreLegalAt, AnswersAreOwed}
+use Rattle.memory_machines.specs.PartRanks.{JoinsAlike}
+use Rattle.memory_machines.specs.Straight.{GoesStraightThrough}
+use Rattle.memory_links.specs.InStep.{GoesInStep}
+use Rattle.memory_links.specs.Links.{LinkForm, IsLink, chain_form}
 
 -- the shapes of both sides, and what differs among links
 pub record Form : Type 0 where

@@ -1,8 +1,8 @@
 -- A pipe: stages in a row, and its line, that commands and words go on unchanged with their tags, so many cycles later.
 use Rattle.std.specs.Prelude.{◌≡◌, ℕ, suc, ◌+◌, ◌<◌}
-use Rattle.mm_runs.specs.Views.{System}
-use Rattle.mm_machines.specs.Link.{Port}
-use Rattle.mm_machines.specs.Lines.{TaggedPort, IsPipeLine}
+use Rattle.memory_runs.specs.Views.{System}
+use Rattle.memory_machines.specs.Link.{Port}
+use Rattle.memory_machines.specs.Lines.{TaggedPort, IsPipeLine}
 use Rattle.link_core.specs.Form.{Form}
 use Rattle.link_core.specs.StageNets.{RunsAsPipeStage}
 

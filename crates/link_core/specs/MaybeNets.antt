@@ -5,7 +5,7 @@ use Rattle.netlist.specs.Netlists.{Netlist, IsWaiting, WaitsForWrite}
 use Rattle.netlist.specs.Longer.{Extends}
 use Rattle.command_nets.specs.declared.nets.CommandNets.{CommandNets}
 use Rattle.command_nets.specs.declared.nets.AnswerNets.{AnswerNets}
-use Rattle.mm_machines.specs.Link.{Target, Port}
+use Rattle.memory_machines.specs.Link.{Target, Port}
 use Rattle.link_core.specs.Form.{Form}
 use Rattle.link_core.specs.PassNets.{IsPassForm}
 

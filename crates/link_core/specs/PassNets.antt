@@ -1,6 +1,6 @@
 -- The link that passes each command as it is.
 use Rattle.std.specs.Prelude.{◌≡◌, ◌<◌}
-use Rattle.mm_links.specs.Links.{pass_form}
+use Rattle.memory_links.specs.Links.{pass_form}
 use Rattle.link_core.specs.Form.{Form}
 
 -- any shape, the same on both sides, for any target

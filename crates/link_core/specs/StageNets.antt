@@ -7,9 +7,9 @@ use Rattle.netlist.specs.Netlists.{Netlist, IsWaiting}
 use Rattle.netlist.specs.Runs.{Cycle, Run, cycle_of, IsRun, Always}
 use Rattle.netlist.specs.Longer.{Extends}
 use Rattle.net_parts.specs.Groups.{AreWaiting}
-use Rattle.mm_machines.specs.Link.{Port}
-use Rattle.mm_machines.specs.Machines.{Raw, IsStageRun}
-use Rattle.mm_links.specs.Pipes.{stage_form}
+use Rattle.memory_machines.specs.Link.{Port}
+use Rattle.memory_machines.specs.Machines.{Raw, IsStageRun}
+use Rattle.memory_links.specs.Pipes.{stage_form}
 use Rattle.command_nets.specs.declared.nets.CommandNets.{CommandNets}
 use Rattle.command_nets.specs.declared.nets.AnswerNets.{AnswerNets}
 use Rattle.command_nets.specs.Nets.{group_of, AreCommandNets, raw_in}

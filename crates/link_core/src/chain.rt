@@ -3,13 +3,13 @@
 
 ghost use Rattle.std.specs.Prelude.{◌≡◌, ℕ, ◌+◌, ◌⊎◌};
 ghost use Rattle.std.proofs.Common.{inl, inr};
-ghost use Rattle.mm_machines.specs.Link.{Port};
+ghost use Rattle.memory_machines.specs.Link.{Port};
 ghost use Rattle.link_core.specs.ChainNets.{IsChainOf, IsStraightChainOf, AreBothKept, HasMiddle, HasMiddleAnswer};
 
 use crate::link::Link;
 use command_nets::{AnswerNets, CommandNets};
-use mm_links::drops::plain_commands_act;
-use mm_links::rows::{chain_is_a_link, chain_is_straight};
+use memory_links::drops::plain_commands_act;
+use memory_links::rows::{chain_is_a_link, chain_is_straight};
 use netlist::{Builder, Net, NetFault};
 
 /// A link of two parts that fit.

@@ -5,7 +5,7 @@ ghost use Rattle.std.specs.Prelude.{◌≡◌, ℕ, ◌+◌};
 ghost use Rattle.netlist.specs.Nets.{NetValue};
 ghost use Rattle.netlist.specs.Netlists.{Netlist};
 ghost use Rattle.netlist.specs.Runs.{Run, IsEndlessRun};
-ghost use Rattle.mm_machines.specs.Link.{Port};
+ghost use Rattle.memory_machines.specs.Link.{Port};
 ghost use Rattle.command_nets.specs.declared.nets.CommandNets.{CommandNets};
 ghost use Rattle.command_nets.specs.declared.nets.AnswerNets.{AnswerNets};
 ghost use Rattle.command_nets.specs.Nets.{port_in};
@@ -20,8 +20,8 @@ use crate::chain::Chain;
 use crate::link::Link;
 use crate::pass::Pass;
 use crate::stage::PipeStage;
-use mm_links::pipes::stage_keeps_its_line;
-use mm_machines::lines::registers_are_a_pipe;
+use memory_links::pipes::stage_keeps_its_line;
+use memory_machines::lines::registers_are_a_pipe;
 
 /// A link that is a pipe of some stages.
 pub trait Delay: Link {

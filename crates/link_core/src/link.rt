@@ -5,7 +5,7 @@ ghost use Rattle.netlist.specs.Nets.{NetValue};
 ghost use Rattle.netlist.specs.Netlists.{Netlist, IsWaiting, WaitsForWrite};
 ghost use Rattle.netlist.specs.Runs.{Run, Cycle, IsEndlessRun, IsValuation};
 ghost use Rattle.netlist.specs.Longer.{Extends};
-ghost use Rattle.mm_machines.specs.Link.{Target, Port};
+ghost use Rattle.memory_machines.specs.Link.{Target, Port};
 ghost use Rattle.net_parts.specs.Nets.{IsBit};
 ghost use Rattle.net_parts.specs.Growth.{StillWait, WaitsBeside, WaitsWithout, AreMadeBetween};
 ghost use Rattle.net_parts.specs.Memories.{ForwardGrows, ForwardMemories, BackwardGrows, BackwardMemories, SameWords};

@@ -6,8 +6,8 @@ ghost use Rattle.link_core.specs.MaybeNets.{form_of, runs_of, kept_of, command_o
 use crate::delay::Delay;
 use crate::link::Link;
 use command_nets::{AnswerNets, CommandNets};
-use mm_links::rows::{pass_goes_in_step, pass_is_a_link};
-use mm_machines::lines::registers_are_a_pipe;
+use memory_links::rows::{pass_goes_in_step, pass_is_a_link};
+use memory_machines::lines::registers_are_a_pipe;
 use netlist::{Builder, Net, NetFault};
 
 /// A link, or none: commands and answers go straight through.

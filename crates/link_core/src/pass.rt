@@ -5,7 +5,7 @@ ghost use Rattle.link_core.specs.PassNets.{IsPassForm};
 
 use crate::link::Link;
 use command_nets::{AnswerNets, CommandNets};
-use mm_links::rows::{pass_goes_in_step, pass_is_a_link};
+use memory_links::rows::{pass_goes_in_step, pass_is_a_link};
 use netlist::{Builder, Net, NetFault};
 
 /// A link of no nets, between sides of one shape.

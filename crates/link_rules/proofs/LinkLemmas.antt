@@ -19,11 +19,11 @@ use Rattle.system_tables.specs.declared.tables.EndId.{EndId}
 use Rattle.system_tables.specs.Tables.{SystemTable, IsEnd, IsLogic, IsSystem, Joins}
 use Rattle.address_map.specs.Footprints.{known_at}
 use Rattle.address_map.specs.Maps.{is_mm, end_at, mm_ends, hosts_of, agents_of, IsJoined}
-use Rattle.link_rules.specs.declared.plan_links.MemoryLink.{MemoryLink}
-use Rattle.link_rules.specs.declared.plan_links.StreamLink.{StreamLink}
+use Rattle.link_rules.specs.declared.plan_connections.MemoryConnection.{MemoryConnection}
+use Rattle.link_rules.specs.declared.plan_connections.StreamConnection.{StreamConnection}
 use Rattle.link_rules.specs.Links.{is_stream, streams_of, tests_as, tests_of, KeepsLinkRules}
 use Rattle.link_rules.specs.Pairs.{KeepsAll}
-use Rattle.link_rules.specs.PlanLinks.{stream_link_as, stream_link, stream_links, number_in, memory_link_as, memory_link, memory_links, IsStreamLink, IsMemoryLink, HasMemoryLink, KeepsStreamRules, KeepsMmRules, IsHostEnd, IsAgentEnd}
+use Rattle.link_rules.specs.PlanConnections.{stream_connection_as, stream_connection, stream_connections, number_in, memory_connection_as, memory_connection, memory_connections, IsStreamConnection, IsMemoryConnection, HasMemoryConnection, KeepsStreamRules, KeepsMmRules, IsHostEnd, IsAgentEnd}
 use Rattle.link_rules.specs.Plans.{PlanTable, IsPlan}
 use Rattle.link_rules.proofs.CountLemmas.{indexed, place_of}
 
@@ -107,16 +107,16 @@ mm_kind Conduit e = cc
 mm_kind Interrupt e = cc
 
 -- the ends of connections by their kind
-stream_joins : (a b : Finished) → Joins Stream a b → (n : ℕ) (c : Connection) → option_map (λ (l : StreamLink). l.connection) (stream_link_as n c a b) ≡ Some n
+stream_joins : (a b : Finished) → Joins Stream a b → (n : ℕ) (c : Connection) → option_map (λ (l : StreamConnection). l.connection) (stream_connection_as n c a b) ≡ Some n
 stream_joins (Source s) (Sink t) j n c = refl
 stream_joins a b j n c = absurd j
 
-mm_joins : (a b : Finished) → Joins Mm a b → (n : ℕ) (c : Connection) → option_map (λ (l : StreamLink). l.connection) (stream_link_as n c a b) ≡ None
+mm_joins : (a b : Finished) → Joins Mm a b → (n : ℕ) (c : Connection) → option_map (λ (l : StreamConnection). l.connection) (stream_connection_as n c a b) ≡ None
 mm_joins (Host h) (Agent a) j n c = refl
 mm_joins a b j n c = absurd j
 
 number_by : (kind : Kind) (a b : Finished) → Joins kind a b → (n : ℕ) (c : Connection)
-    → option_map (λ (l : StreamLink). l.connection) (stream_link_as n c a b) ≡ (if is_stream kind then Some n else None)
+    → option_map (λ (l : StreamConnection). l.connection) (stream_connection_as n c a b) ≡ (if is_stream kind then Some n else None)
 number_by Mm a b j n c = mm_joins a b j n c
 number_by Stream a b j n c = stream_joins a b j n c
 number_by Clock a b j n c = absurd j
@@ -125,22 +125,22 @@ number_by Conduit a b j n c = absurd j
 number_by Interrupt a b j n c = absurd j
 
 -- the link of a connection by what is known of its ends
-stream_known : (system : SystemTable) (n : ℕ) (c : Connection) (l : IsLogic system c) → stream_link system (n, c) ≡ stream_link_as n c l.start_known l.end_known
-stream_known system n c l = ap (λ a. stream_link_as n c a (known_at system c.end)) (known_is system c.start l.start_known l.start) ∙ ap (stream_link_as n c l.start_known) (known_is system c.end l.end_known l.end)
+stream_known : (system : SystemTable) (n : ℕ) (c : Connection) (l : IsLogic system c) → stream_connection system (n, c) ≡ stream_connection_as n c l.start_known l.end_known
+stream_known system n c l = ap (λ a. stream_connection_as n c a (known_at system c.end)) (known_is system c.start l.start_known l.start) ∙ ap (stream_connection_as n c l.start_known) (known_is system c.end l.end_known l.end)
 
 memory_known : (system : SystemTable) (n : ℕ) (c : Connection) (l : IsLogic system c)
-    → memory_link system (n, c) ≡ memory_link_as (hosts_of system) (agents_of system) n c l.start_known l.end_known
+    → memory_connection system (n, c) ≡ memory_connection_as (hosts_of system) (agents_of system) n c l.start_known l.end_known
 memory_known system n c l =
-    ap (λ a. memory_link_as (hosts_of system) (agents_of system) n c a (known_at system c.end)) (known_is system c.start l.start_known l.start)
-    ∙ ap (memory_link_as (hosts_of system) (agents_of system) n c l.start_known) (known_is system c.end l.end_known l.end)
+    ap (λ a. memory_connection_as (hosts_of system) (agents_of system) n c a (known_at system c.end)) (known_is system c.start l.start_known l.start)
+    ∙ ap (memory_connection_as (hosts_of system) (agents_of system) n c l.start_known) (known_is system c.end l.end_known l.end)
 
 -- ---- streams
 
-pub stream_numbers : (system : SystemTable) → IsSystem system → map (λ (link : StreamLink). link.connection) (stream_links system) ≡ streams_of system
+pub stream_numbers : (system : SystemTable) → IsSystem system → map (λ (link : StreamConnection). link.connection) (stream_connections system) ≡ streams_of system
 stream_numbers system is =
-    map-made (stream_link system) (λ numbered. if is_stream numbered.1.kind then Some numbered.0 else None) (λ (link : StreamLink). link.connection) 0 system.connections
+    map-made (stream_connection system) (λ numbered. if is_stream numbered.1.kind then Some numbered.0 else None) (λ (link : StreamConnection). link.connection) 0 system.connections
     (λ k c at. (let l = is.connections k c at in
-    ap (option_map (λ (link : StreamLink). link.connection)) (stream_known system (0 + k) c l) ∙ number_by c.kind l.start_known l.end_known l.joins (0 + k) c))
+    ap (option_map (λ (link : StreamConnection). link.connection)) (stream_known system (0 + k) c l) ∙ number_by c.kind l.start_known l.end_known l.joins (0 + k) c))
 
 stream_of_kind : (kind : Kind) (source sink : StreamPort) → Joins kind (Source source) (Sink sink) → kind ≡ Stream
 stream_of_kind Stream source sink j = refl
@@ -151,15 +151,15 @@ stream_of_kind Conduit source sink j = absurd j
 stream_of_kind Interrupt source sink j = absurd j
 
 -- what a link of a stream says of its connection
-stream_by : (system : SystemTable) (number place : ℕ) (c : Connection) (a b : Finished) (link : StreamLink) → slice_get system.connections place ≡ Some c
-    → Joins c.kind a b → IsEnd system c.start a → IsEnd system c.end b → IsProper a → IsProper b → c.fifo ≤ 64 → stream_link_as place c a b ≡ Some link
-    → slice_get (streams_of system) number ≡ Some link.connection → IsStreamLink system number link
+stream_by : (system : SystemTable) (number place : ℕ) (c : Connection) (a b : Finished) (link : StreamConnection) → slice_get system.connections place ≡ Some c
+    → Joins c.kind a b → IsEnd system c.start a → IsEnd system c.end b → IsProper a → IsProper b → c.fifo ≤ 64 → stream_connection_as place c a b ≡ Some link
+    → slice_get (streams_of system) number ≡ Some link.connection → IsStreamConnection system number link
 stream_by system number place c (Source s) (Sink t) link at j start end pa pb shallow makes place_is =
-    let made : StreamLink = record { connection = place; source_end = c.start; sink_end = c.end; source = s; sink = t; fifo = c.fifo } in
+    let made : StreamConnection = record { connection = place; source_end = c.start; sink_end = c.end; source = s; sink = t; fifo = c.fifo } in
     let same : made ≡ link = same_Some made link makes in
-    subst (IsStreamLink system number) same (record {
+    subst (IsStreamConnection system number) same (record {
       connection = c;
-      place_is = place_is ∙ ap (λ (l : StreamLink). Some l.connection) (sym same);
+      place_is = place_is ∙ ap (λ (l : StreamConnection). Some l.connection) (sym same);
       connection_is = at;
       kind = stream_of_kind c.kind s t j;
       start = refl;
@@ -173,15 +173,15 @@ stream_by system number place c (Source s) (Sink t) link at j start end pa pb sh
     })
 stream_by system number place c a b link at j start end pa pb shallow makes place_is = absurd (none-some link makes)
 
-pub stream_is : (system : SystemTable) → IsSystem system → (number : ℕ) (link : StreamLink) → slice_get (stream_links system) number ≡ Some link → IsStreamLink system number link
+pub stream_is : (system : SystemTable) → IsSystem system → (number : ℕ) (link : StreamConnection) → slice_get (stream_connections system) number ≡ Some link → IsStreamConnection system number link
 stream_is system is number link at =
-    let from = made_from (stream_link system) 0 system.connections number link at in
+    let from = made_from (stream_connection system) 0 system.connections number link at in
     let l = is.connections from.place from.item from.is in
     let here : 0 + from.place ≡ from.place = omega arith in
-    let makes : stream_link_as from.place from.item l.start_known l.end_known ≡ Some link =
-    sym (stream_known system from.place from.item l) ∙ ap (λ n. stream_link system (n, from.item)) (sym here) ∙ from.makes in
+    let makes : stream_connection_as from.place from.item l.start_known l.end_known ≡ Some link =
+    sym (stream_known system from.place from.item l) ∙ ap (λ n. stream_connection system (n, from.item)) (sym here) ∙ from.makes in
     let number_is : slice_get (streams_of system) number ≡ Some link.connection =
-    ap (λ xs. slice_get xs number) (sym (stream_numbers system is)) ∙ slice_get-map (λ (x : StreamLink). x.connection) (stream_links system) number ∙ ap (option_map (λ (x : StreamLink). x.connection)) at in
+    ap (λ xs. slice_get xs number) (sym (stream_numbers system is)) ∙ slice_get-map (λ (x : StreamConnection). x.connection) (stream_connections system) number ∙ ap (option_map (λ (x : StreamConnection). x.connection)) at in
     stream_by system number from.place from.item l.start_known l.end_known link from.is l.joins l.start l.end l.start_proper l.end_proper l.fifo makes number_is
 
 -- the number that a connection gives
@@ -269,11 +269,11 @@ number_is ends end k at =
 abbrev pub HaveNumbers : SystemTable → Type 0
 HaveNumbers system = (side : Side) (k : ℕ) (c : Connection) → slice_get system.connections k ≡ Some c → is_mm c.kind ≡ true → (n : ℕ) × (slice_get (mm_ends side system) n ≡ Some (end_at side c))
 
-memory_by : (system : SystemTable) (place : ℕ) (c : Connection) (a b : Finished) (link : MemoryLink) → slice_get system.connections place ≡ Some c → HaveNumbers system
+memory_by : (system : SystemTable) (place : ℕ) (c : Connection) (a b : Finished) (link : MemoryConnection) → slice_get system.connections place ≡ Some c → HaveNumbers system
     → Joins c.kind a b → IsEnd system c.start a → IsEnd system c.end b → IsProper a → IsProper b → 1 ≤ c.shares → c.shares ≤ 63
-    → memory_link_as (hosts_of system) (agents_of system) place c a b ≡ Some link → IsMemoryLink system link
+    → memory_connection_as (hosts_of system) (agents_of system) place c a b ≡ Some link → IsMemoryConnection system link
 memory_by system place c (Host h) (Agent g) link at there j start end pa pb some few makes =
-    let made : MemoryLink = record {
+    let made : MemoryConnection = record {
       connection = place;
       host_number = number_in (hosts_of system) c.start;
       agent_number = number_in (agents_of system) c.end;
@@ -285,7 +285,7 @@ memory_by system place c (Host h) (Agent g) link at there j start end pa pb some
     let kind = mm_of_kind c.kind h g j in
     let host = there Start place c at (ap is_mm kind) in
     let agent = there End place c at (ap is_mm kind) in
-    subst (IsMemoryLink system) (same_Some made link makes) (record {
+    subst (IsMemoryConnection system) (same_Some made link makes) (record {
       connection = c;
       connection_is = at;
       kind = kind;
@@ -302,18 +302,18 @@ memory_by system place c (Host h) (Agent g) link at there j start end pa pb some
     })
 memory_by system place c a b link at there j start end pa pb some few makes = absurd (none-some link makes)
 
-pub memory_is : (system : SystemTable) → IsSystem system → HaveNumbers system → (k : ℕ) (link : MemoryLink) → slice_get (memory_links system) k ≡ Some link → IsMemoryLink system link
+pub memory_is : (system : SystemTable) → IsSystem system → HaveNumbers system → (k : ℕ) (link : MemoryConnection) → slice_get (memory_connections system) k ≡ Some link → IsMemoryConnection system link
 memory_is system is there k link at =
-    let from = made_from (memory_link system) 0 system.connections k link at in
+    let from = made_from (memory_connection system) 0 system.connections k link at in
     let l = is.connections from.place from.item from.is in
     let here : 0 + from.place ≡ from.place = omega arith in
     memory_by system from.place from.item l.start_known l.end_known link from.is there l.joins l.start l.end l.start_proper l.end_proper l.some_share l.shares
-    (sym (memory_known system from.place from.item l) ∙ ap (λ n. memory_link system (n, from.item)) (sym here) ∙ from.makes)
+    (sym (memory_known system from.place from.item l) ∙ ap (λ n. memory_connection system (n, from.item)) (sym here) ∙ from.makes)
 
 -- a connection of a host to an agent gives a link of its number
 record GivesLink (system : SystemTable) (place : ℕ) (c : Connection) (a b : Finished) : Type 0 where
-  link : MemoryLink
-  is : memory_link_as (hosts_of system) (agents_of system) place c a b ≡ Some link
+  link : MemoryConnection
+  is : memory_connection_as (hosts_of system) (agents_of system) place c a b ≡ Some link
   number : link.connection ≡ place
 
 gives_link : (system : SystemTable) (place : ℕ) (c : Connection) (a b : Finished) → Joins Mm a b → GivesLink system place c a b
@@ -324,18 +324,18 @@ gives_link system place c (Host h) (Agent g) j = record {
 }
 gives_link system place c a b j = absurd j
 
-pub memory_each : (system : SystemTable) → IsSystem system → (number : ℕ) (c : Connection) → slice_get system.connections number ≡ Some c → c.kind ≡ Mm → HasMemoryLink system number
+pub memory_each : (system : SystemTable) → IsSystem system → (number : ℕ) (c : Connection) → slice_get system.connections number ≡ Some c → c.kind ≡ Mm → HasMemoryConnection system number
 memory_each system is number c at kind =
     let l = is.connections number c at in
     let made = gives_link system number c l.start_known l.end_known (subst (λ kind. Joins kind l.start_known l.end_known) kind l.joins) in
     let here : 0 + number ≡ number = omega arith in
-    let makes : memory_link system (0 + number, c) ≡ Some made.link = ap (λ n. memory_link system (n, c)) here ∙ memory_known system number c l ∙ made.is in
-    let there = made_there (memory_link system) 0 system.connections number c made.link at makes in
+    let makes : memory_connection system (0 + number, c) ≡ Some made.link = ap (λ n. memory_connection system (n, c)) here ∙ memory_known system number c l ∙ made.is in
+    let there = made_there (memory_connection system) 0 system.connections number c made.link at makes in
     record { place = there.place; link = made.link; is = there.is; connection = made.number }
 
 -- ---- the rules on their ends
 
-pub stream_keeps : (plan : PlanTable) → IsPlan plan → (number : ℕ) (link : StreamLink) → IsStreamLink plan.system number link → KeepsStreamRules plan.system link
+pub stream_keeps : (plan : PlanTable) → IsPlan plan → (number : ℕ) (link : StreamConnection) → IsStreamConnection plan.system number link → KeepsStreamRules plan.system link
 stream_keeps plan is number link l connection at =
     let system = plan.system in
     let same : l.connection ≡ connection = same_Some l.connection connection (sym l.connection_is ∙ at) in
@@ -346,7 +346,7 @@ stream_keeps plan is number link l connection at =
     subst (λ (b : Finished). KeepsAll (tests_as connection.clock_fits (Source link.source) b)) end
     (subst (λ (a : Finished). KeepsAll (tests_as connection.clock_fits a (known_at system connection.end))) start (is.links link.connection connection at))
 
-pub memory_keeps : (plan : PlanTable) → IsPlan plan → (link : MemoryLink) → IsMemoryLink plan.system link → KeepsMmRules plan.system link
+pub memory_keeps : (plan : PlanTable) → IsPlan plan → (link : MemoryConnection) → IsMemoryConnection plan.system link → KeepsMmRules plan.system link
 memory_keeps plan is link l connection at =
     let system = plan.system in
     let same : l.connection ≡ connection = same_Some l.connection connection (sym l.connection_is ∙ at) in

@@ -1,4 +1,4 @@
 pub mod Links
 pub mod Pairs
-pub mod PlanLinks
+pub mod PlanConnections
 pub mod Plans

@@ -7,9 +7,9 @@ use Rattle.address_map.specs.declared.host_map.MapEntry.{MapEntry}
 use Rattle.address_map.specs.Maps.{AreMapsOf, hosts_of, agents_of}
 use Rattle.link_rules.specs.Links.{KeepsLinkRules, limit_tests, streams_of}
 use Rattle.link_rules.specs.Pairs.{KeepsAll}
-use Rattle.link_rules.specs.PlanLinks.{stream_links, memory_links}
-use Rattle.link_rules.specs.declared.plan_links.MemoryLink.{MemoryLink}
-use Rattle.link_rules.specs.declared.plan_links.StreamLink.{StreamLink}
+use Rattle.link_rules.specs.PlanConnections.{stream_connections, memory_connections}
+use Rattle.link_rules.specs.declared.plan_connections.MemoryConnection.{MemoryConnection}
+use Rattle.link_rules.specs.declared.plan_connections.StreamConnection.{StreamConnection}
 
 -- the name of the instance at an end; empty where there is none
 abbrev pub instance_name_at : SystemTable → EndId → List ℕ
@@ -36,10 +36,10 @@ pub record IsPlan (plan : PlanTable) : Type 0 where
   pub limits : KeepsAll (limit_tests plan.system)
 
 -- what is kept beside a plan
-pub record AreNumbered (plan : PlanTable) (hosts agents : List EndId) (streams : List ℕ) (stream_list : List StreamLink) (memory_list : List MemoryLink) : Type 0 where
+pub record AreNumbered (plan : PlanTable) (hosts agents : List EndId) (streams : List ℕ) (stream_list : List StreamConnection) (memory_list : List MemoryConnection) : Type 0 where
   pub is_plan : IsPlan plan
   pub hosts_are : hosts ≡ hosts_of plan.system
   pub agents_are : agents ≡ agents_of plan.system
   pub streams_are : streams ≡ streams_of plan.system
-  pub stream_links_are : stream_list ≡ stream_links plan.system
-  pub memory_links_are : memory_list ≡ memory_links plan.system
+  pub stream_connections_are : stream_list ≡ stream_connections plan.system
+  pub memory_connections_are : memory_list ≡ memory_connections plan.system

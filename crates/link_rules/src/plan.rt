@@ -4,12 +4,12 @@ ghost use Rattle.system_tables.specs.Tables.{IsEnd};
 ghost use Rattle.address_map.specs.Maps.{AreMapsOf, hosts_of, agents_of, mm_connections};
 ghost use Rattle.link_rules.specs.Links.{streams_of, weight_of, too_many, limit_tests, KeepsLinkRules, IsPassedBy, IsCause};
 ghost use Rattle.link_rules.specs.Pairs.{KeepsAll};
-ghost use Rattle.link_rules.specs.PlanLinks.{stream_links, memory_links};
+ghost use Rattle.link_rules.specs.PlanConnections.{stream_connections, memory_connections};
 ghost use Rattle.link_rules.specs.Plans.{IsPlan, instance_name_at, interface_name_at};
 
 use crate::faults::PlanFault;
 use crate::links::{check_limits, check_links, mm_count, streams};
-use crate::plan_links::{MemoryLink, StreamLink, memory_links, stream_links};
+use crate::plan_connections::{MemoryConnection, StreamConnection, memory_connections, stream_connections};
 use address_map::{Ends, Maps, ends_have_one_number, mm_ends};
 use av_base::{List, NoMemory};
 use iface_roles::{Finished, Side};
@@ -86,8 +86,8 @@ pub struct Plan {
     system: System,
     maps: Maps,
     numbers: Numbers,
-    stream_links: List<StreamLink>,
-    memory_links: List<MemoryLink>,
+    stream_connections: List<StreamConnection>,
+    memory_connections: List<MemoryConnection>,
 }
 
 /// By hand, so that what drops one calls this, and isn't followed through its fields.
@@ -97,8 +97,8 @@ impl Drop for Plan {
             system: _,
             maps: _,
             numbers: _,
-            stream_links: _,
-            memory_links: _,
+            stream_connections: _,
+            memory_connections: _,
         } = self;
     }
 }
@@ -110,7 +110,7 @@ impl Model for Plan {
 
     ghost view = { λ p. record { system = p.system; maps = p.maps } };
 
-    ghost invariant = { λ p. AreNumbered (record { system = p.system; maps = p.maps }) p.numbers.hosts p.numbers.agents p.numbers.streams p.stream_links p.memory_links };
+    ghost invariant = { λ p. AreNumbered (record { system = p.system; maps = p.maps }) p.numbers.hosts p.numbers.agents p.numbers.streams p.stream_connections p.memory_connections };
 }
 
 impl Plan {
@@ -125,16 +125,16 @@ impl Plan {
         ensures refused { IfErr result (IsCause system.now) }
     {
         let numbers = Numbers::judged(alloc, system)?;
-        let stream_links = stream_links(alloc, system)?;
-        let memory_links = memory_links(alloc, system, &numbers.hosts, &numbers.agents)?;
+        let stream_connections = stream_connections(alloc, system)?;
+        let memory_connections = memory_connections(alloc, system, &numbers.hosts, &numbers.agents)?;
         system.well_made();
         let system = system.copy(alloc)?;
         Ok(Plan {
             system,
             maps,
             numbers,
-            stream_links,
-            memory_links,
+            stream_connections,
+            memory_connections,
         })
     }
 
@@ -167,17 +167,17 @@ impl Plan {
     }
 
     /// The links of sources to sinks, by the streams' numbers.
-    pub fn stream_links(&self) -> &[StreamLink]
-        ensures { result.now ≡ stream_links self.now.system }
+    pub fn stream_connections(&self) -> &[StreamConnection]
+        ensures { result.now ≡ stream_connections self.now.system }
     {
-        self.stream_links.as_slice()
+        self.stream_connections.as_slice()
     }
 
     /// The links of hosts to agents, in the order of their connections.
-    pub fn memory_links(&self) -> &[MemoryLink]
-        ensures { result.now ≡ memory_links self.now.system }
+    pub fn memory_connections(&self) -> &[MemoryConnection]
+        ensures { result.now ≡ memory_connections self.now.system }
     {
-        self.memory_links.as_slice()
+        self.memory_connections.as_slice()
     }
 
     /// The maps of the hosts.

@@ -9,7 +9,7 @@ ghost use Rattle.system_tables.specs.declared.tables.EndId.{EndId as Id};
 ghost use Rattle.system_tables.specs.Tables.{IsEnd};
 ghost use Rattle.address_map.specs.declared.host_map.MapEntry.{MapEntry as Entry};
 ghost use Rattle.address_map.specs.Maps.{IsJoined, IsEntryOf, hosts_of};
-ghost use Rattle.link_rules.specs.PlanLinks.{IsStreamLink};
+ghost use Rattle.link_rules.specs.PlanConnections.{IsStreamConnection};
 ghost use Rattle.map_text.specs.Text.{
   end_name,
   address_text,
@@ -27,7 +27,7 @@ ghost use Rattle.map_text.specs.Text.{
 
 use address_map::{MapEntry, ends_are_joined, entries_are_of_connections};
 use av_base::{Bytes, NoMemory};
-use link_rules::{Plan, StreamLink, streams_are_numbered};
+use link_rules::{Plan, StreamConnection, streams_are_numbered};
 use std::alloc::Global;
 use std::fmt::Write;
 use system_tables::{Connection, EndId};
@@ -153,8 +153,8 @@ fn put_hosts(text: &mut String, plan: &Plan) -> Result<(), NoMemory>
 }
 
 /// Appends the line of a stream.
-fn put_stream(text: &mut String, plan: &Plan, stream: &StreamLink) -> Result<(), NoMemory>
-    requires { (number : ℕ) × IsStreamLink plan.now.system number stream.now }
+fn put_stream(text: &mut String, plan: &Plan, stream: &StreamConnection) -> Result<(), NoMemory>
+    requires { (number : ℕ) × IsStreamConnection plan.now.system number stream.now }
     ensures { OnOk result (string_bytes text.new ≡ string_bytes text.old ++ stream_line plan.now.system stream.now.connection) }
 {
     text.push_str("stream ")?;
@@ -172,7 +172,7 @@ fn put_streams(text: &mut String, plan: &Plan) -> Result<(), NoMemory>
 {
     plan.well_made();
     streams_are_numbered();
-    for stream in plan.stream_links() {
+    for stream in plan.stream_connections() {
         put_stream(text, plan, stream)?;
     }
     Ok(())
@@ -202,7 +202,7 @@ fn put_accepted(text: &mut String, plan: &Plan) -> Result<(), NoMemory>
     streams_are_numbered();
     let hosts = plan.hosts().len();
     let agents = plan.agents().len();
-    let streams = plan.stream_links().len();
+    let streams = plan.stream_connections().len();
     put_counts(text, hosts, agents, streams, plan.weight())
 }
 

@@ -3,7 +3,7 @@ use Rattle.std.specs.Prelude.{ℕ, Bool, not, nat_eq, if◌then◌else◌}
 use Rattle.iface_roles.specs.declared.records.HostPort.{HostPort}
 use Rattle.iface_roles.specs.declared.records.AgentPort.{AgentPort}
 use Rattle.iface_roles.specs.Proper.{span_of}
-use Rattle.mm_runs.specs.Views.{Shape, HostSide, AgentSide}
+use Rattle.memory_runs.specs.Views.{Shape, HostSide, AgentSide}
 
 -- the bytes that one step of an address counts
 abbrev pub unit_of : Bool → ℕ → ℕ

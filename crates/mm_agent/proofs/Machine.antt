@@ -11,11 +11,11 @@ use Rattle.netlist.specs.Runs.{Cycle, Run, cycle_of, IsEndlessRun, IsValuation, 
 use Rattle.net_parts.specs.Laws.{extends_none, bit_fits, net_fits}
 use Rattle.net_parts.specs.Histories.{earlier}
 use Rattle.net_parts.specs.HistoryLaw.{history_bits}
-use Rattle.mm_runs.specs.Views.Responses.{AreCodes}
-use Rattle.mm_runs.specs.Commands.{shows, stood_before}
-use Rattle.mm_machines.specs.Link.{Port}
-use Rattle.mm_parts.specs.Queue.{Entry, QueuesReads, takes_read, head_tag}
-use Rattle.mm_parts.specs.Agent.{AgentState, ShowsToAgent, GivesQueued, GivesFixed, IsAgentMachine, row_places}
+use Rattle.memory_runs.specs.Views.Responses.{AreCodes}
+use Rattle.memory_runs.specs.Commands.{shows, stood_before}
+use Rattle.memory_machines.specs.Link.{Port}
+use Rattle.memory_parts.specs.Queue.{Entry, QueuesReads, takes_read, head_tag}
+use Rattle.memory_parts.specs.Agent.{AgentState, ShowsToAgent, GivesQueued, GivesFixed, IsAgentMachine, row_places}
 use Rattle.memory_sides.specs.Sides.{agent_side, bound_of, burst_width}
 use Rattle.command_nets.specs.declared.nets.CommandNets.{CommandNets}
 use Rattle.read_queues.specs.declared.queue.HeldReadQueue.{HeldReadQueue}

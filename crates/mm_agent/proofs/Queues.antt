@@ -2,8 +2,8 @@
 use Rattle.std.proofs.Common.{◌≡◌, ℕ, zero, suc, ◌+◌, ◌-◌, ◌<◌, ◌≤◌, Bool, true, false, nat_eq, if◌then◌else◌, List, [], ◌∷◌, ◌++◌, length, refl, sym, ap, ◌∙◌, append-nil, arith}
 use Rattle.histories.specs.History.{is_raised, one_if, only_if}
 use Rattle.netlist.specs.Runs.{Run, cycle_of}
-use Rattle.mm_machines.specs.Link.{Port}
-use Rattle.mm_parts.specs.Queue.{Entry, answered, head_tag, takes_read, entry_at, queue_after}
+use Rattle.memory_machines.specs.Link.{Port}
+use Rattle.memory_parts.specs.Queue.{Entry, answered, head_tag, takes_read, entry_at, queue_after}
 use Rattle.read_queues.specs.declared.queue.ReadTraffic.{ReadTraffic}
 use Rattle.read_queues.specs.Held.{entry_in}
 use Rattle.read_queues.specs.Queues.{queue_in}

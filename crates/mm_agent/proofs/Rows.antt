@@ -5,8 +5,8 @@ use Rattle.std.specs.Prelude.{is_some, MatchOption}
 use Rattle.histories.specs.History.{is_raised}
 use Rattle.net_parts.specs.Histories.{earlier}
 use Rattle.net_parts.specs.HistoryLaw.{earlier_none, earlier_one, earlier_more}
-use Rattle.mm_machines.specs.Link.{Port}
-use Rattle.mm_parts.specs.Queue.{takes_read}
+use Rattle.memory_machines.specs.Link.{Port}
+use Rattle.memory_parts.specs.Queue.{takes_read}
 
 -- the tag of the read that was taken so many cycles ago, and one more
 abbrev pub row_at : Port → ℕ → ℕ → Option ℕ

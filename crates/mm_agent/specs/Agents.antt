@@ -7,8 +7,8 @@ use Rattle.netlist.specs.Netlists.{Netlist}
 use Rattle.netlist.specs.Runs.{Cycle, Run, cycle_of, Always}
 use Rattle.netlist.specs.Longer.{Extends}
 use Rattle.net_parts.specs.Nets.{IsBit, IsNetOfWidth}
-use Rattle.mm_runs.specs.Views.{Shape, Signals, AgentView}
-use Rattle.mm_runs.specs.Commands.{byte_address}
+use Rattle.memory_runs.specs.Views.{Shape, Signals, AgentView}
+use Rattle.memory_runs.specs.Commands.{byte_address}
 use Rattle.memory_sides.specs.Sides.{unit_of, burst_width}
 use Rattle.command_nets.specs.declared.nets.CommandNets.{CommandNets}
 use Rattle.command_nets.specs.declared.nets.AnswerNets.{AnswerNets}

@@ -8,11 +8,11 @@ use Rattle.netlist.specs.Runs.{Cycle, Run, IsEndlessRun, IsValuation, Always}
 use Rattle.netlist.specs.Longer.{Extends}
 use Rattle.net_parts.specs.Nets.{IsBit}
 use Rattle.net_parts.specs.Laws.{net_lasts}
-use Rattle.mm_runs.specs.Views.Responses.{AreCodes}
-use Rattle.mm_machines.specs.Link.{Port}
-use Rattle.mm_machines.specs.Lines.{TaggedPort, ServesKinds}
-use Rattle.mm_parts.specs.Queue.{takes_read}
-use Rattle.mm_parts.specs.Agent.{AgentState, IsAgentMachine}
+use Rattle.memory_runs.specs.Views.Responses.{AreCodes}
+use Rattle.memory_machines.specs.Link.{Port}
+use Rattle.memory_machines.specs.Lines.{TaggedPort, ServesKinds}
+use Rattle.memory_parts.specs.Queue.{takes_read}
+use Rattle.memory_parts.specs.Agent.{AgentState, IsAgentMachine}
 use Rattle.memory_sides.specs.Sides.{agent_side}
 use Rattle.command_nets.specs.declared.nets.CommandNets.{CommandNets}
 use Rattle.command_nets.specs.Nets.{port_in, ShowSame}

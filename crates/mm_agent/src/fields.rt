@@ -6,7 +6,7 @@ ghost use Rattle.netlist.specs.Netlists.{IsNet};
 ghost use Rattle.netlist.specs.Runs.{Always};
 ghost use Rattle.net_parts.specs.Nets.{IsNetOfWidth};
 ghost use Rattle.net_parts.specs.Growth.{AddsNets};
-ghost use Rattle.mm_runs.specs.Commands.{byte_address};
+ghost use Rattle.memory_runs.specs.Commands.{byte_address};
 ghost use Rattle.command_nets.specs.Ports.{HasNet, value_or};
 ghost use Rattle.mm_agent.specs.Agents.{has_address, shape_above, PlacesAddress};
 

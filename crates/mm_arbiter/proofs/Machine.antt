@@ -8,15 +8,15 @@ use Rattle.netlist.specs.Nets.{NetValue}
 use Rattle.netlist.specs.Netlists.{Netlist}
 use Rattle.netlist.specs.Longer.{Extends}
 use Rattle.netlist.specs.Runs.{Run, cycle_of, IsEndlessRun, IsValuation}
-use Rattle.mm_runs.specs.Views.{Shape}
-use Rattle.mm_runs.specs.Commands.{shows}
-use Rattle.mm_runs.specs.Order.{is_agent}
-use Rattle.mm_machines.specs.Link.{Port, marked_at, closes}
-use Rattle.mm_machines.specs.Lines.{TaggedPort}
-use Rattle.mm_machines.specs.Machines.{Raw, raw_at}
-use Rattle.mm_machines.specs.Turns.{Grant, Choice, chosen, grant_after, grant_before, asks_at, ends_at, open_after}
-use Rattle.mm_parts.specs.Lone.{IsLoneWire}
-use Rattle.mm_parts.specs.Arbiter.{IsArbiterMachine, chooses}
+use Rattle.memory_runs.specs.Views.{Shape}
+use Rattle.memory_runs.specs.Commands.{shows}
+use Rattle.memory_runs.specs.Order.{is_agent}
+use Rattle.memory_machines.specs.Link.{Port, marked_at, closes}
+use Rattle.memory_machines.specs.Lines.{TaggedPort}
+use Rattle.memory_machines.specs.Machines.{Raw, raw_at}
+use Rattle.memory_machines.specs.Turns.{Grant, Choice, chosen, grant_after, grant_before, asks_at, ends_at, open_after}
+use Rattle.memory_parts.specs.Lone.{IsLoneWire}
+use Rattle.memory_parts.specs.Arbiter.{IsArbiterMachine, chooses}
 use Rattle.ranks.specs.Turns.{Seat, is_seated}
 use Rattle.command_nets.specs.declared.nets.CommandNets.{CommandNets}
 use Rattle.command_nets.specs.Nets.{port_in, raw_in}

@@ -9,7 +9,7 @@ use Rattle.histories.specs.History.{is_raised}
 use Rattle.netlist.specs.Netlists.{Netlist}
 use Rattle.netlist.specs.Longer.{Extends}
 use Rattle.netlist.specs.Runs.{Cycle, Run, cycle_of, IsEndlessRun, IsValuation}
-use Rattle.mm_machines.specs.Machines.{Raw}
+use Rattle.memory_machines.specs.Machines.{Raw}
 use Rattle.command_nets.specs.declared.nets.CommandNets.{CommandNets}
 use Rattle.command_nets.specs.Nets.{raw_in}
 use Rattle.command_nets.specs.Groups.{nothing_shown, is_shown}

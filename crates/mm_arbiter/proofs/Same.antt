@@ -1,7 +1,7 @@
 -- Values that are the same in two cycles, where what they are made of is.
 use Rattle.std.proofs.Common.{◌≡◌, ℕ, ◌==◌, if◌then◌else◌, sym, ap, ◌∙◌}
 use Rattle.histories.specs.History.{is_raised}
-use Rattle.mm_machines.specs.Machines.{Raw}
+use Rattle.memory_machines.specs.Machines.{Raw}
 
 pub same_by_one : {A B : Type 0} (f : A → B) {x x' : A} {z z' : B} → z ≡ f x → z' ≡ f x' → x ≡ x' → z ≡ z'
 same_by_one f e e' h = e ∙ ap f h ∙ sym e'

@@ -4,7 +4,7 @@ use Rattle.netlist.specs.Netlists.{Netlist}
 use Rattle.netlist.specs.Runs.{Cycle}
 use Rattle.netlist.specs.Longer.{Extends}
 use Rattle.net_parts.specs.Groups.{group_widths}
-use Rattle.mm_machines.specs.Machines.{Raw}
+use Rattle.memory_machines.specs.Machines.{Raw}
 use Rattle.command_nets.specs.declared.nets.CommandNets.{CommandNets}
 use Rattle.command_nets.specs.Nets.{AreCommandNets, raw_in, group_of, ShowSame}
 use Rattle.command_nets.specs.Groups.{nothing_shown, is_shown, command_lasts}

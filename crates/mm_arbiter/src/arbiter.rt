@@ -18,7 +18,7 @@ use crate::back::{BackNets, BelowNets, all_backs};
 use crate::next::step_turns;
 use crate::rounds::{RoundNets, make_round};
 use command_nets::CommandNets;
-use mm_parts::lines::lone_arbiter_is_a_wire;
+use memory_parts::lines::lone_arbiter_is_a_wire;
 use netlist::{Builder, NetFault};
 use std::alloc::Global;
 

@@ -5,9 +5,9 @@ use Rattle.std.proofs.Math.Pow.{pow_mono}
 use Rattle.std.proofs.lemmas.Nat.{pow-add, pow_pos}
 use Rattle.std.proofs.lemmas.Bool.{ltb-true, ltb-false, le-ltb, ne_eqb, eqb-true}
 use Rattle.histories.specs.History.{is_raised, one_if}
-use Rattle.mm_machines.specs.Machines.{Raw}
+use Rattle.memory_machines.specs.Machines.{Raw}
 use Rattle.command_nets.specs.Levels.{level_is}
-use Rattle.mm_links.specs.Cutters.{Reach, beats_of}
+use Rattle.memory_links.specs.Cutters.{Reach, beats_of}
 use Rattle.mm_burst.specs.CutterNets.{lane_exponent}
 use Rattle.mm_burst.specs.Pieces.{Held, HasRoom, piece_from}
 

@@ -4,10 +4,10 @@ use Rattle.std.specs.Prelude.{IsTrue}
 use Rattle.std.proofs.Math.Nat.{mod-eq_of_lt}
 use Rattle.std.proofs.lemmas.Bool.{lt-ltb, ltb-true, ltb-false, ne_eqb}
 use Rattle.histories.specs.History.{is_raised, one_if}
-use Rattle.mm_runs.specs.Views.{Shape}
-use Rattle.mm_runs.specs.Commands.{Burst, byte_address}
-use Rattle.mm_machines.specs.Machines.{Raw, IsFitBeat}
-use Rattle.mm_links.specs.Cutters.{Rest, Place, Reach, IsPlaceIn, beats_of, read_burst_of, behind_burst, whole_read, write_of_burst}
+use Rattle.memory_runs.specs.Views.{Shape}
+use Rattle.memory_runs.specs.Commands.{Burst, byte_address}
+use Rattle.memory_machines.specs.Machines.{Raw, IsFitBeat}
+use Rattle.memory_links.specs.Cutters.{Rest, Place, Reach, IsPlaceIn, beats_of, read_burst_of, behind_burst, whole_read, write_of_burst}
 use Rattle.command_nets.specs.Groups.{is_shown}
 use Rattle.mm_burst.specs.Pieces.{Held, Piece, piece_by, shown_piece, behind_piece}
 

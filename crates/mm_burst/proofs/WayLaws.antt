@@ -1,8 +1,8 @@
 -- How many beats the bursts of a cutter have, by its way.
 use Rattle.std.proofs.Common.{◌≡◌, ℕ, ◌+◌, ◌-◌, ◌*◌, ◌/◌, ◌%◌, ◌^◌, ◌<◌, ◌≤◌, Bool, true, false, if◌then◌else◌, nat_eq, suc, refl, sym, ap, ◌∙◌, arith}
 use Rattle.std.proofs.Math.Nat.{pow-suc, one-le-pow}
-use Rattle.mm_runs.specs.Commands.{longest_burst}
-use Rattle.mm_links.specs.Cutters.{Reach, beats_of, reach_longest, reach_words}
+use Rattle.memory_runs.specs.Commands.{longest_burst}
+use Rattle.memory_links.specs.Cutters.{Reach, beats_of, reach_longest, reach_words}
 use Rattle.mm_burst.specs.Pieces.{reach_by, longest_by}
 
 reach_plain : (places bytes below : ℕ) → places ≡ 0 → reach_by places bytes below ≡ reach_longest (longest_burst below)

@@ -5,9 +5,9 @@ use Rattle.netlist.specs.Nets.{NetValue}
 use Rattle.netlist.specs.Netlists.{Netlist, IsNet}
 use Rattle.netlist.specs.Runs.{Cycle}
 use Rattle.netlist.specs.Longer.{Extends}
-use Rattle.mm_runs.specs.Commands.{longest_burst}
-use Rattle.mm_machines.specs.Machines.{Raw}
-use Rattle.mm_links.specs.Cutters.{Reach, beats_of, reach_longest, reach_words}
+use Rattle.memory_runs.specs.Commands.{longest_burst}
+use Rattle.memory_machines.specs.Machines.{Raw}
+use Rattle.memory_links.specs.Cutters.{Reach, beats_of, reach_longest, reach_words}
 use Rattle.net_parts.specs.Nets.{IsBit, IsNetOfWidth}
 use Rattle.net_parts.specs.Laws.{net_lasts}
 use Rattle.command_nets.specs.Groups.{first_value, is_shown}

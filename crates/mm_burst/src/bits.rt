@@ -6,7 +6,7 @@ ghost use Rattle.netlist.specs.Netlists.{IsNet};
 ghost use Rattle.netlist.specs.Runs.{Always};
 ghost use Rattle.net_parts.specs.Nets.{IsBit, IsNetOfWidth};
 ghost use Rattle.net_parts.specs.Growth.{AddsNets};
-ghost use Rattle.mm_runs.specs.Commands.{longest_burst};
+ghost use Rattle.memory_runs.specs.Commands.{longest_burst};
 
 use av_base::Val;
 use net_parts::choose;

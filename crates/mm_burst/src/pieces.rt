@@ -6,9 +6,9 @@ ghost use Rattle.netlist.specs.Netlists.{IsNet};
 ghost use Rattle.netlist.specs.Runs.{Always};
 ghost use Rattle.net_parts.specs.Nets.{IsBit, IsNetOfWidth};
 ghost use Rattle.net_parts.specs.Growth.{AddsNets};
-ghost use Rattle.mm_runs.specs.Commands.{longest_burst};
+ghost use Rattle.memory_runs.specs.Commands.{longest_burst};
 ghost use Rattle.command_nets.specs.Nets.{AreCommandNets, raw_in};
-ghost use Rattle.mm_links.specs.Cutters.{reach_words};
+ghost use Rattle.memory_links.specs.Cutters.{reach_words};
 ghost use Rattle.mm_burst.specs.Ways.{IsWay, more_nets};
 ghost use Rattle.mm_burst.specs.Pieces.{reach_by, AreRegisters, held_in, ArePieceNets, FitsRegisters, piece_in, piece_from};
 

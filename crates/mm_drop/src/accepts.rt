@@ -5,7 +5,7 @@ ghost use Rattle.histories.specs.History.{is_raised};
 ghost use Rattle.netlist.specs.Runs.{Always};
 ghost use Rattle.net_parts.specs.Nets.{IsBit};
 ghost use Rattle.net_parts.specs.Growth.{AddsNets};
-ghost use Rattle.mm_links.specs.Drops.{accepted};
+ghost use Rattle.memory_links.specs.Drops.{accepted};
 ghost use Rattle.mm_drop.specs.Nets.{AreStandingNets, now_in};
 
 use crate::shows::StandingNets;

@@ -8,7 +8,7 @@ ghost use Rattle.net_parts.specs.Nets.{IsBit};
 ghost use Rattle.net_parts.specs.Growth.{AddsNets};
 ghost use Rattle.command_nets.specs.Nets.{AreCommandNets, raw_in};
 ghost use Rattle.command_nets.specs.Groups.{HaveSameWidths, hidden};
-ghost use Rattle.mm_links.specs.Drops.{sends};
+ghost use Rattle.memory_links.specs.Drops.{sends};
 ghost use Rattle.mm_drop.specs.Nets.{AreStandingNets, AreRegisters, now_in, now_of, held_in, shown_in};
 
 use crate::registers::DropRegisters;

@@ -7,7 +7,7 @@ use Rattle.netlist.specs.Runs.{Run, IsEndlessRun, cycle_of}
 use Rattle.netlist.specs.Longer.{Extends}
 use Rattle.net_parts.specs.Growth.{StillWait}
 use Rattle.net_parts.specs.Laws.{extends_twice}
-use Rattle.mm_machines.specs.Link.{Port}
+use Rattle.memory_machines.specs.Link.{Port}
 use Rattle.command_nets.specs.declared.nets.CommandNets.{CommandNets}
 use Rattle.command_nets.specs.declared.nets.AnswerNets.{AnswerNets}
 use Rattle.command_nets.specs.Nets.{AreAnswerNets, port_in}

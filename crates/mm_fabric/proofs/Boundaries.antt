@@ -8,13 +8,13 @@ use Rattle.netlist.specs.Netlists.{Netlist}
 use Rattle.netlist.specs.Runs.{Run, IsEndlessRun}
 use Rattle.netlist.specs.Longer.{Extends}
 use Rattle.link_rules.specs.Plans.{PlanTable}
-use Rattle.mm_runs.specs.Commands.{shows}
-use Rattle.mm_runs.specs.Order.{is_joined}
-use Rattle.mm_runs.specs.Plan.{IsMemoryPlan}
-use Rattle.mm_machines.specs.Paths.{AnswerView}
-use Rattle.mm_machines.specs.Link.{Port}
-use Rattle.mm_machines.specs.Lines.{TaggedPort}
-use Rattle.mm_parts.specs.Steps.{AreSilentPast}
+use Rattle.memory_runs.specs.Commands.{shows}
+use Rattle.memory_runs.specs.Order.{is_joined}
+use Rattle.memory_runs.specs.Plan.{IsMemoryPlan}
+use Rattle.memory_machines.specs.Paths.{AnswerView}
+use Rattle.memory_machines.specs.Link.{Port}
+use Rattle.memory_machines.specs.Lines.{TaggedPort}
+use Rattle.memory_parts.specs.Steps.{AreSilentPast}
 use Rattle.ranks.specs.Turns.{is_seated}
 use Rattle.memory_plans.specs.Routes.{routes_of, AreRoutes}
 use Rattle.memory_plans.specs.Systems.{memory_system}
@@ -23,12 +23,12 @@ use Rattle.mm_route.specs.Machine.{has_entry, down_at, silent_port}
 use Rattle.mm_host.specs.Forms.{shape_below}
 use Rattle.mm_agent.specs.Agents.{shape_above}
 use Rattle.mm_agent.specs.Forms.{tagged_above}
-use Rattle.mm_links.specs.Pipes.{PipeSides}
+use Rattle.memory_links.specs.Pipes.{PipeSides}
 use Rattle.mm_arbiter.specs.Machine.{AreSides, IsOutside, below_port, seats_from}
-use Rattle.mm_awake.specs.PipeStages.{lower_of}
-use Rattle.mm_awake.specs.Fair.{are_apart}
-use Rattle.mm_awake.specs.RowSystem.{RowPorts}
-use Rattle.mm_awake.specs.Wires.{HandsAllOn}
+use Rattle.memory_awake.specs.PipeStages.{lower_of}
+use Rattle.memory_awake.specs.Fair.{are_apart}
+use Rattle.memory_awake.specs.RowSystem.{RowPorts}
+use Rattle.memory_awake.specs.Wires.{HandsAllOn}
 use Rattle.mm_fabric.specs.declared.parts.HostPart.{HostPart}
 use Rattle.mm_fabric.specs.declared.parts.Seat.{Seat}
 use Rattle.mm_fabric.specs.declared.parts.AgentPart.{AgentPart}

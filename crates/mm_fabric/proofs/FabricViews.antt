@@ -4,8 +4,8 @@ use Rattle.netlist.specs.Netlists.{Netlist}
 use Rattle.netlist.specs.Runs.{Run, IsEndlessRun, IsValuation, cycle_of}
 use Rattle.netlist.specs.Longer.{Extends}
 use Rattle.link_rules.specs.Plans.{PlanTable}
-use Rattle.mm_runs.specs.Views.{HostSide, HostView, AgentSide, AgentView}
-use Rattle.mm_runs.specs.Plan.{AreViews}
+use Rattle.memory_runs.specs.Views.{HostSide, HostView, AgentSide, AgentView}
+use Rattle.memory_runs.specs.Plan.{AreViews}
 use Rattle.memory_plans.specs.Routes.{routes_of}
 use Rattle.memory_plans.specs.Systems.{memory_system}
 use Rattle.mm_fabric.specs.Fabrics.{Fabric, IsFabric, seen_at_host, seen_at_agent, seen_in}

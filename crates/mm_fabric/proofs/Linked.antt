@@ -10,22 +10,22 @@ use Rattle.netlist.specs.Netlists.{Netlist}
 use Rattle.netlist.specs.Runs.{Run, IsEndlessRun}
 use Rattle.netlist.specs.Longer.{Extends}
 use Rattle.link_rules.specs.Plans.{PlanTable}
-use Rattle.mm_runs.specs.Views.{System, HostSide, HostView, AgentSide, AgentView, Responses, Run as MemoryRun}
-use Rattle.mm_runs.specs.Views.Responses.{AreCodes}
-use Rattle.mm_runs.specs.Commands.{longest_burst}
-use Rattle.mm_runs.specs.Order.{is_joined}
-use Rattle.mm_runs.specs.Plan.{IsMemoryPlan, AreViews}
-use Rattle.mm_runs.specs.Legal.{IsLegalHost}
-use Rattle.mm_runs.specs.Whole.{IsLegalRun}
-use Rattle.mm_machines.specs.Link.{Port}
-use Rattle.mm_machines.specs.Lines.{IsFit, TaggedPort, target_of}
-use Rattle.mm_machines.specs.Machines.{ShowsFitBeats}
-use Rattle.mm_machines.specs.Turns.{Grant, seats_of}
+use Rattle.memory_runs.specs.Views.{System, HostSide, HostView, AgentSide, AgentView, Responses, Run as MemoryRun}
+use Rattle.memory_runs.specs.Views.Responses.{AreCodes}
+use Rattle.memory_runs.specs.Commands.{longest_burst}
+use Rattle.memory_runs.specs.Order.{is_joined}
+use Rattle.memory_runs.specs.Plan.{IsMemoryPlan, AreViews}
+use Rattle.memory_runs.specs.Legal.{IsLegalHost}
+use Rattle.memory_runs.specs.Whole.{IsLegalRun}
+use Rattle.memory_machines.specs.Link.{Port}
+use Rattle.memory_machines.specs.Lines.{IsFit, TaggedPort, target_of}
+use Rattle.memory_machines.specs.Machines.{ShowsFitBeats}
+use Rattle.memory_machines.specs.Turns.{Grant, seats_of}
 use Rattle.ranks.specs.Turns.{Seat, is_seated}
-use Rattle.mm_parts.specs.Agent.{AgentState, IsAgentMachine}
-use Rattle.mm_parts.specs.Arbiter.{IsArbiterMachine}
-use Rattle.mm_parts.specs.Host.{HostState, IsHostMachine}
-use Rattle.mm_parts.specs.Route.{RouteState, IsRouteMachine}
+use Rattle.memory_parts.specs.Agent.{AgentState, IsAgentMachine}
+use Rattle.memory_parts.specs.Arbiter.{IsArbiterMachine}
+use Rattle.memory_parts.specs.Host.{HostState, IsHostMachine}
+use Rattle.memory_parts.specs.Route.{RouteState, IsRouteMachine}
 use Rattle.memory_sides.specs.Sides.{burst_width}
 use Rattle.memory_plans.specs.Routes.{routes_of, AreRoutes}
 use Rattle.memory_plans.specs.Systems.{memory_system}
@@ -34,14 +34,14 @@ use Rattle.mm_host.specs.Forms.{shape_below}
 use Rattle.mm_agent.specs.Agents.{shape_above}
 use Rattle.mm_agent.specs.Forms.{AreFitFor}
 use Rattle.mm_arbiter.specs.Machine.{Surrounds, seats_from, JoinsBeats}
-use Rattle.mm_awake.specs.Fair.{are_apart}
-use Rattle.mm_awake.specs.Rows.{drops_some}
-use Rattle.mm_awake.specs.RowSystem.{RowPorts, AreRows, AreIdleWires, IsFairRow, boundaries_of}
-use Rattle.mm_awake.specs.RowFront.{IsRowFront, ServeWhatFits, with_agents}
-use Rattle.mm_awake.specs.Theorem.{States, ArePlanned, AreMachines}
-use Rattle.mm_awake.specs.PipeStages.{stage_of}
-use Rattle.mm_packed.specs.Packed.{RowsPack}
-use Rattle.mm_links.specs.Pipes.{PipeSides}
+use Rattle.memory_awake.specs.Fair.{are_apart}
+use Rattle.memory_awake.specs.Rows.{drops_some}
+use Rattle.memory_awake.specs.RowSystem.{RowPorts, AreRows, AreIdleWires, IsFairRow, boundaries_of}
+use Rattle.memory_awake.specs.RowFront.{IsRowFront, ServeWhatFits, with_agents}
+use Rattle.memory_awake.specs.Theorem.{States, ArePlanned, AreMachines}
+use Rattle.memory_awake.specs.PipeStages.{stage_of}
+use Rattle.memory_packed.specs.Packed.{RowsPack}
+use Rattle.memory_links.specs.Pipes.{PipeSides}
 use Rattle.mm_width.specs.Pairs.{needs_drop}
 use Rattle.memory_plans.specs.Maps.{IsHostOf, IsAgentOf, RoutesAreMapped}
 use Rattle.mm_fabric.specs.Trunks.{room_bits}

@@ -18,22 +18,22 @@ use Rattle.iface_roles.specs.Proper.{IsWordSize, range_of, span_of}
 use Rattle.system_tables.specs.declared.tables.Connection.{Connection}
 use Rattle.system_tables.specs.declared.tables.EndId.{EndId}
 use Rattle.address_map.specs.Maps.{is_mm, mm_ends, end_at, IsJoined, hosts_of, agents_of}
-use Rattle.link_rules.specs.declared.plan_links.MemoryLink.{MemoryLink}
-use Rattle.link_rules.specs.PlanLinks.{memory_links, IsMemoryLink, HasMemoryLink}
+use Rattle.link_rules.specs.declared.plan_connections.MemoryConnection.{MemoryConnection}
+use Rattle.link_rules.specs.PlanConnections.{memory_connections, IsMemoryConnection, HasMemoryConnection}
 use Rattle.link_rules.specs.Plans.{PlanTable}
 use Rattle.memory_sides.specs.declared.route.Route.{Route}
 use Rattle.memory_plans.specs.Routes.{routes_of, AreRoutes}
 use Rattle.memory_plans.specs.Systems.{memory_system, HasLink}
-use Rattle.mm_runs.specs.Views.{System}
-use Rattle.mm_runs.specs.Order.{is_joined}
-use Rattle.mm_runs.specs.Plan.{IsMemoryPlan}
-use Rattle.mm_machines.specs.Turns.{seats_of}
+use Rattle.memory_runs.specs.Views.{System}
+use Rattle.memory_runs.specs.Order.{is_joined}
+use Rattle.memory_runs.specs.Plan.{IsMemoryPlan}
+use Rattle.memory_machines.specs.Turns.{seats_of}
 use Rattle.ranks.specs.Turns.{Seat as Turn}
 use Rattle.mm_arbiter.specs.declared.asker.Asker.{Asker}
 use Rattle.mm_arbiter.specs.Shown.{AreAskers}
 use Rattle.mm_arbiter.specs.Backs.{HostsFit}
 use Rattle.mm_arbiter.specs.Machine.{seats_from, AreApart}
-use Rattle.mm_awake.specs.Fair.{are_apart}
+use Rattle.memory_awake.specs.Fair.{are_apart}
 use Rattle.memory_plans.specs.Maps.{IsHostOf, IsAgentOf, HasHost, HasAgent, JoinsEnds}
 use Rattle.mm_width.specs.Pairs.{MayMeet}
 use Rattle.mm_fabric.specs.Asks.{asking}
@@ -43,18 +43,18 @@ use Rattle.mm_fabric.proofs.Seats.{turn_of, seats_apart}
 
 -- what the laws of links, ends and routes say of a plan
 pub record PlanLaws (plan : PlanTable) : Type 0 where
-  pub numbered : (k : ℕ) (link : MemoryLink) → slice_get (memory_links plan.system) k ≡ Some link → IsMemoryLink plan.system link
-  pub each : (number : ℕ) (connection : Connection) → slice_get plan.system.connections number ≡ Some connection → connection.kind ≡ Mm → HasMemoryLink plan.system number
+  pub numbered : (k : ℕ) (link : MemoryConnection) → slice_get (memory_connections plan.system) k ≡ Some link → IsMemoryConnection plan.system link
+  pub each : (number : ℕ) (connection : Connection) → slice_get plan.system.connections number ≡ Some connection → connection.kind ≡ Mm → HasMemoryConnection plan.system number
   pub one : (side : Side) (j k : ℕ) (end : EndId) → slice_get (mm_ends side plan.system) j ≡ Some end → slice_get (mm_ends side plan.system) k ≡ Some end → j ≡ k
   pub joined : (side : Side) (number : ℕ) (end : EndId) → slice_get (mm_ends side plan.system) number ≡ Some end → IsJoined plan.system side end
   pub hosts : (host : ℕ) → host < length (hosts_of plan.system) → HasHost plan host
   pub agents : (agent : ℕ) → agent < length (agents_of plan.system) → HasAgent plan agent
   pub few_agents : length (agents_of plan.system) ≤ 32
-  pub ends : (k : ℕ) (link : MemoryLink) → slice_get (memory_links plan.system) k ≡ Some link → JoinsEnds plan link
-  pub spans : (k : ℕ) (link : MemoryLink) → slice_get (memory_links plan.system) k ≡ Some link → span_of link.agent ≤ range_of link.host
-  pub words : (k : ℕ) (link : MemoryLink) → slice_get (memory_links plan.system) k ≡ Some link → link.host.word_bytes ≤ range_of link.host
-  pub lanes : (k : ℕ) (link : MemoryLink) → slice_get (memory_links plan.system) k ≡ Some link → link.host.word_bytes < link.agent.word_bytes → link.agent.enables ≡ true
-  pub has : (k : ℕ) (link : MemoryLink) → slice_get (memory_links plan.system) k ≡ Some link → HasLink (memory_system plan) link
+  pub ends : (k : ℕ) (link : MemoryConnection) → slice_get (memory_connections plan.system) k ≡ Some link → JoinsEnds plan link
+  pub spans : (k : ℕ) (link : MemoryConnection) → slice_get (memory_connections plan.system) k ≡ Some link → span_of link.agent ≤ range_of link.host
+  pub words : (k : ℕ) (link : MemoryConnection) → slice_get (memory_connections plan.system) k ≡ Some link → link.host.word_bytes ≤ range_of link.host
+  pub lanes : (k : ℕ) (link : MemoryConnection) → slice_get (memory_connections plan.system) k ≡ Some link → link.host.word_bytes < link.agent.word_bytes → link.agent.enables ≡ true
+  pub has : (k : ℕ) (link : MemoryConnection) → slice_get (memory_connections plan.system) k ≡ Some link → HasLink (memory_system plan) link
   pub keeps : IsMemoryPlan (memory_system plan)
   pub once : (agent : ℕ) → IsDistinct nat_eq ((memory_system plan).joined agent)
   pub apart : (agent : ℕ) → IsTrue (are_apart ((memory_system plan).joined agent))
@@ -91,7 +91,7 @@ module _ (system : System) (host : ℕ) (routes : List Route) (are : AreRoutes s
 
 -- ---- askers
 
-abbrev asker_of : MemoryLink → Asker
+abbrev asker_of : MemoryConnection → Asker
 asker_of link = record { host = link.host_number; shares = link.shares }
 
 all_share : (askers : List Asker) → ((k : ℕ) (asker : Asker) → slice_get askers k ≡ Some asker → (1 ≤ asker.shares) × (asker.shares ≤ 63)) → AreAskers askers
@@ -106,8 +106,8 @@ abbrev turn_with : ℕ → ℕ → Turn
 turn_with host shares = record { host = host; shares = shares }
 
 -- seats have the shares of their links
-seats_alike : (system : System) (agent : ℕ) (links : List MemoryLink) → ((k : ℕ) (link : MemoryLink) → slice_get links k ≡ Some link → system.shares link.host_number agent ≡ link.shares)
-    → seats_from (map asker_of links) ≡ map (turn_of system agent) (map (λ (link : MemoryLink). link.host_number) links)
+seats_alike : (system : System) (agent : ℕ) (links : List MemoryConnection) → ((k : ℕ) (link : MemoryConnection) → slice_get links k ≡ Some link → system.shares link.host_number agent ≡ link.shares)
+    → seats_from (map asker_of links) ≡ map (turn_of system agent) (map (λ (link : MemoryConnection). link.host_number) links)
 seats_alike system agent [] each = refl
 seats_alike system agent (link ∷ later) each =
     let first : record { host = link.host_number; shares = link.shares } ≡ turn_of system agent link.host_number = ap (λ n. turn_with link.host_number n) (sym (each 0 link refl)) in
@@ -124,13 +124,13 @@ pub same_agent : (plan : PlanTable) (a : ℕ) (one other : AgentPort) → IsAgen
 same_agent plan a one other is also = let both : Agent one ≡ Agent other = sym is ∙ also in cc
 
 module _ (plan : PlanTable) (laws : PlanLaws plan) where
-  abbrev of_agent : ℕ → List MemoryLink
-  of_agent agent = filter (λ (link : MemoryLink). nat_eq link.agent_number agent) (memory_links plan.system)
+  abbrev of_agent : ℕ → List MemoryConnection
+  of_agent agent = filter (λ (link : MemoryConnection). nat_eq link.agent_number agent) (memory_connections plan.system)
 
   -- ---- the link between a host and an agent
 
   -- words are of the sizes of the standard, and where the agent's is wider it has byte enables
-  may_meet : (k : ℕ) (link : MemoryLink) → slice_get (memory_links plan.system) k ≡ Some link → MayMeet link.host link.agent
+  may_meet : (k : ℕ) (link : MemoryConnection) → slice_get (memory_connections plan.system) k ≡ Some link → MayMeet link.host link.agent
   may_meet k link at =
       let has = laws.has k link at in
       let ends = laws.ends k link at in
@@ -144,7 +144,7 @@ module _ (plan : PlanTable) (laws : PlanLaws plan) where
         agent_bursts = subst (λ (p : AgentPort). p.burst_bits ≤ 11) (same_agent plan link.agent_number agent.port link.agent agent.is ends.agent) agent.bounded.ports.burst;
       }
 
-  between : (k : ℕ) (link : MemoryLink) → slice_get (memory_links plan.system) k ≡ Some link → HasLinkBetween plan link.host_number link.agent_number
+  between : (k : ℕ) (link : MemoryConnection) → slice_get (memory_connections plan.system) k ≡ Some link → HasLinkBetween plan link.host_number link.agent_number
   between k link at =
       let has = laws.has k link at in
       let ends = laws.ends k link at in
@@ -163,19 +163,19 @@ module _ (plan : PlanTable) (laws : PlanLaws plan) where
         joined = has.joined;
       }
 
-  between_these : (k : ℕ) (link : MemoryLink) (host agent : ℕ) → slice_get (memory_links plan.system) k ≡ Some link → link.host_number ≡ host → link.agent_number ≡ agent → HasLinkBetween plan host agent
+  between_these : (k : ℕ) (link : MemoryConnection) (host agent : ℕ) → slice_get (memory_connections plan.system) k ≡ Some link → link.host_number ≡ host → link.agent_number ≡ agent → HasLinkBetween plan host agent
   between_these k link host agent at of to = subst (λ n. HasLinkBetween plan n agent) of (subst (HasLinkBetween plan link.host_number) to (between k link at))
 
   pub joint : (host agent : ℕ) → IsTrue (is_joined (memory_system plan) agent host) → HasLinkBetween plan host agent
   joint host agent joined =
-      let l = listed (λ (link : MemoryLink). link.host_number) (of_agent agent) host joined in
-      let p = passed (λ (link : MemoryLink). nat_eq link.agent_number agent) (memory_links plan.system) l.place l.item l.at in
+      let l = listed (λ (link : MemoryConnection). link.host_number) (of_agent agent) host joined in
+      let p = passed (λ (link : MemoryConnection). nat_eq link.agent_number agent) (memory_connections plan.system) l.place l.item l.at in
       between_these p.there.place l.item host agent p.there.is (sym l.is) (eqb-true l.item.agent_number agent p.passes)
 
   -- ---- each host and each agent has one
 
   link_there : (side : Side) (number : ℕ) (end : EndId) → slice_get (mm_ends side plan.system) number ≡ Some end
-      → (place : ℕ) × (link : MemoryLink) × (at : slice_get (memory_links plan.system) place ≡ Some link) × (end_at side (laws.numbered place link at).connection ≡ end)
+      → (place : ℕ) × (link : MemoryConnection) × (at : slice_get (memory_connections plan.system) place ≡ Some link) × (end_at side (laws.numbered place link at).connection ≡ end)
   link_there side number end is =
       let j = laws.joined side number end is in
       let has = laws.each j.number j.connection j.is (mm_kind j.connection.kind j.kind) in
@@ -197,7 +197,7 @@ module _ (plan : PlanTable) (laws : PlanLaws plan) where
       let end = there_at (agents_of plan.system) agent below in
       let l = link_there End agent end.0 end.1 in
       let is : l.1.agent_number ≡ agent = laws.one End l.1.agent_number agent end.0 ((laws.numbered l.0 l.1 l.2).agent_is ∙ ap Some l.3) end.1 in
-      let here = kept (λ (link : MemoryLink). nat_eq link.agent_number agent) (memory_links plan.system) l.0 l.1 l.2 ((Decides-eqb l.1.agent_number agent).1 is) in
+      let here = kept (λ (link : MemoryConnection). nat_eq link.agent_number agent) (memory_connections plan.system) l.0 l.1 l.2 ((Decides-eqb l.1.agent_number agent).1 is) in
       let within = slice_get_within (asking plan.system agent) here.place (asker_of l.1) (mapped asker_of (of_agent agent) here.place l.1 here.is) in
       omega (arith, within)
 
@@ -227,16 +227,16 @@ module _ (plan : PlanTable) (laws : PlanLaws plan) where
 
   -- an asker and its link
   record IsOfLink (agent : ℕ) (asker : Asker) : Type 0 where
-    link : MemoryLink
+    link : MemoryConnection
     place : ℕ
-    at : slice_get (memory_links plan.system) place ≡ Some link
+    at : slice_get (memory_connections plan.system) place ≡ Some link
     is : asker_of link ≡ asker
     leads : link.agent_number ≡ agent
 
   asker_at : (agent k : ℕ) (asker : Asker) → slice_get (asking plan.system agent) k ≡ Some asker → IsOfLink agent asker
   asker_at agent k asker at =
       let from = image asker_of (of_agent agent) k asker at in
-      let p = passed (λ (link : MemoryLink). nat_eq link.agent_number agent) (memory_links plan.system) k from.item from.is in
+      let p = passed (λ (link : MemoryConnection). nat_eq link.agent_number agent) (memory_connections plan.system) k from.item from.is in
       record { link = from.item; place = p.there.place; at = p.there.is; is = from.makes; leads = eqb-true from.item.agent_number agent p.passes }
 
   asker_link : (agent k : ℕ) (asker : Asker) → slice_get (asking plan.system agent) k ≡ Some asker → HasLinkBetween plan asker.host agent
@@ -244,9 +244,9 @@ module _ (plan : PlanTable) (laws : PlanLaws plan) where
       let of = asker_at agent k asker at in
       between_these of.place of.link asker.host agent of.at (ap (λ (a : Asker). a.host) of.is) of.leads
 
-  shares_are : (agent k : ℕ) (link : MemoryLink) → slice_get (of_agent agent) k ≡ Some link → (memory_system plan).shares link.host_number agent ≡ link.shares
+  shares_are : (agent k : ℕ) (link : MemoryConnection) → slice_get (of_agent agent) k ≡ Some link → (memory_system plan).shares link.host_number agent ≡ link.shares
   shares_are agent k link at =
-      let p = passed (λ (link : MemoryLink). nat_eq link.agent_number agent) (memory_links plan.system) k link at in
+      let p = passed (λ (link : MemoryConnection). nat_eq link.agent_number agent) (memory_connections plan.system) k link at in
       subst (λ a. (memory_system plan).shares link.host_number a ≡ link.shares) (eqb-true link.agent_number agent p.passes) (laws.has p.there.place link p.there.is).shares
 
   seats_are : (agent : ℕ) → seats_from (asking plan.system agent) ≡ seats_of (memory_system plan) agent
@@ -257,7 +257,7 @@ module _ (plan : PlanTable) (laws : PlanLaws plan) where
       let most = length-le_from_distinct_below ((memory_system plan).joined agent) (memory_system plan).hosts (laws.once agent) (λ q there. laws.keeps.joined agent q there) in
       let few = laws.keeps.few_hosts in
       let one = length-map (of_agent agent) asker_of in
-      let other = length-map (of_agent agent) (λ (link : MemoryLink). link.host_number) in
+      let other = length-map (of_agent agent) (λ (link : MemoryConnection). link.host_number) in
       omega (arith, most, few, one, other)
 
   pub linked_agent : (agent : ℕ) → agent < length (agents_of plan.system) → IsLinkedAgent plan agent

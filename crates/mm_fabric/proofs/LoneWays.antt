@@ -5,8 +5,8 @@ use Rattle.std.proofs.lemmas.Bool.{and_parts, eqb-true, eq-eqb, false≢true}
 use Rattle.std.proofs.lemmas.Option.{same_Some, none-some}
 use Rattle.iface_roles.specs.declared.records.AgentPort.{AgentPort}
 use Rattle.iface_roles.specs.declared.records.HostPort.{HostPort}
-use Rattle.link_rules.specs.declared.plan_links.MemoryLink.{MemoryLink}
-use Rattle.link_rules.specs.PlanLinks.{memory_links}
+use Rattle.link_rules.specs.declared.plan_connections.MemoryConnection.{MemoryConnection}
+use Rattle.link_rules.specs.PlanConnections.{memory_connections}
 use Rattle.link_rules.specs.Plans.{PlanTable}
 use Rattle.netlist.specs.Netlists.{Netlist}
 use Rattle.memory_sides.specs.declared.route.Route.{Route}
@@ -60,14 +60,14 @@ first_made {X} {Y} p f (first ∷ later) x y e made = by (p first) e made (first
 -- ---- the link of the host
 
 -- the host's first link is there, and its agent bears few reads
-record IsFirstLink (plan : PlanTable) (host : ℕ) (link : MemoryLink) : Type 0 where
-  first : first_link host (memory_links plan.system) ≡ Some link
+record IsFirstLink (plan : PlanTable) (host : ℕ) (link : MemoryConnection) : Type 0 where
+  first : first_link host (memory_connections plan.system) ≡ Some link
   bears : bears_link plan link ≡ true
 
-first_link_of : (plan : PlanTable) (host : ℕ) → first_bears_few plan host ≡ true → (link : MemoryLink) × IsFirstLink plan host link
-first_link_of plan host h = by (first_link host (memory_links plan.system)) refl h
+first_link_of : (plan : PlanTable) (host : ℕ) → first_bears_few plan host ≡ true → (link : MemoryConnection) × IsFirstLink plan host link
+first_link_of plan host h = by (first_link host (memory_connections plan.system)) refl h
   where
-    by : (o : Option MemoryLink) → first_link host (memory_links plan.system) ≡ o → option_map_or (bears_link plan) o false ≡ true → (link : MemoryLink) × IsFirstLink plan host link
+    by : (o : Option MemoryConnection) → first_link host (memory_connections plan.system) ≡ o → option_map_or (bears_link plan) o false ≡ true → (link : MemoryConnection) × IsFirstLink plan host link
     by None e none = absurd (false≢true none)
     by (Some link) e bears = (link, record { first = e; bears = bears })
 
@@ -89,19 +89,19 @@ pub record IsSeatOn (plan : PlanTable) (netlist : Netlist) (parts : List AgentPa
   pub bounds : BoundsReads netlist plan.system.stages has.part
 
 -- the link of the only route of a host, a wire to an agent that bears few
-record IsOwnLink (plan : PlanTable) (number : ℕ) (route : Route) (link : MemoryLink) : Type 0 where
+record IsOwnLink (plan : PlanTable) (number : ℕ) (route : Route) (link : MemoryConnection) : Type 0 where
   leads : link.agent_number ≡ route.agent
   host : IsHostOf plan number link.host
   agent : IsAgentOf plan route.agent link.agent
   bears : bears_few plan.system.stages link.agent ≡ true
   wire : is_wire_pair link.host link.agent ≡ true
 
-own_link : (plan : PlanTable) (number : ℕ) (routes : List Route) (route : Route) → ((k : ℕ) (link : MemoryLink) → slice_get (memory_links plan.system) k ≡ Some link → JoinsEnds plan link) → routes ≡ routes_of plan.system number → routes ≡ route ∷ [] → (link : MemoryLink) → IsFirstLink plan number link →
+own_link : (plan : PlanTable) (number : ℕ) (routes : List Route) (route : Route) → ((k : ℕ) (link : MemoryConnection) → slice_get (memory_connections plan.system) k ≡ Some link → JoinsEnds plan link) → routes ≡ routes_of plan.system number → routes ≡ route ∷ [] → (link : MemoryConnection) → IsFirstLink plan number link →
     IsOwnLink plan number route link
 own_link plan number routes route joins mapped only link chosen =
-    let test : MemoryLink → Bool = λ (l : MemoryLink). nat_eq l.host_number number in
-    let own = found test (memory_links plan.system) link chosen.first in
-    let leads : route_of link ≡ route = first_made test route_of (memory_links plan.system) link route chosen.first (sym mapped ∙ only) in
+    let test : MemoryConnection → Bool = λ (l : MemoryConnection). nat_eq l.host_number number in
+    let own = found test (memory_connections plan.system) link chosen.first in
+    let leads : route_of link ≡ route = first_made test route_of (memory_connections plan.system) link route chosen.first (sym mapped ∙ only) in
     let agent_is : link.agent_number ≡ route.agent = ap (λ (r : Route). r.agent) leads in
     let wired = and_parts (bears_few plan.system.stages link.agent) (is_wire_pair link.host link.agent) chosen.bears in
     let ends = joins own.number link own.there in
@@ -120,7 +120,7 @@ only_command routes commands route command other only one leads =
     let found : command_to route.agent (route ∷ []) (command ∷ []) ≡ Some other = subst (λ (cs : List CommandNets). command_to route.agent (route ∷ []) cs ≡ Some other) one (subst (λ (rs : List Route). command_to route.agent rs commands ≡ Some other) only leads) in
     sym (same_Some command other (sym (ap (λ b. if b then Some command else None) own) ∙ found))
 
-own_way : (plan : PlanTable) (netlist : Netlist) (parts : List AgentPart) (number : ℕ) (begun : BegunHost) (route : Route) (link : MemoryLink) → is_lone begun.routes begun.trunk.host.command.address.width ≡ true → begun.routes ≡ route ∷ [] → IsHostOf plan number begun.port →
+own_way : (plan : PlanTable) (netlist : Netlist) (parts : List AgentPart) (number : ℕ) (begun : BegunHost) (route : Route) (link : MemoryConnection) → is_lone begun.routes begun.trunk.host.command.address.width ≡ true → begun.routes ≡ route ∷ [] → IsHostOf plan number begun.port →
     IsOwnLink plan number route link → IsSeatOn plan netlist parts number begun route → IsLoneWay netlist parts number begun
 own_way plan netlist parts number begun route link lone only port own is =
     let hosts : link.host ≡ begun.port = same_host plan number link.host begun.port own.host port in
@@ -140,7 +140,7 @@ own_way plan netlist parts number begun route link lone only port own is =
       bounds = is.bounds;
     }
 
-pub lone_way : (plan : PlanTable) (netlist : Netlist) (parts : List AgentPart) (number : ℕ) (begun : BegunHost) → ((k : ℕ) (link : MemoryLink) → slice_get (memory_links plan.system) k ≡ Some link → JoinsEnds plan link) →
+pub lone_way : (plan : PlanTable) (netlist : Netlist) (parts : List AgentPart) (number : ℕ) (begun : BegunHost) → ((k : ℕ) (link : MemoryConnection) → slice_get (memory_connections plan.system) k ≡ Some link → JoinsEnds plan link) →
     ((k : ℕ) (route : Route) → slice_get (routes_of plan.system number) k ≡ Some route → IsSeatOn plan netlist parts number begun route) → IsBegun plan netlist number begun → is_unbounded begun.trunk.host.reads ≡ true → IsLoneWay netlist parts number begun
 lone_way plan netlist parts number begun joins seats is free =
     let width = begun.trunk.host.command.address.width in

@@ -8,12 +8,12 @@ use Rattle.net_parts.specs.Nets.{IsRegister}
 use Rattle.net_parts.specs.Laws.{register_lasts}
 use Rattle.iface_roles.specs.declared.records.AgentPort.{AgentPort}
 use Rattle.link_rules.specs.Plans.{PlanTable}
-use Rattle.mm_runs.specs.Views.{Levels, HostView, AgentView, levels_at}
-use Rattle.mm_runs.specs.Views.Responses.{AreCodes}
-use Rattle.mm_runs.specs.Moment.{Moment, AgentSees, IgnoresReaddata}
-use Rattle.mm_runs.specs.Order.{is_joined}
-use Rattle.mm_runs.specs.Plan.{IsMemoryPlan}
-use Rattle.mm_machines.specs.Machines.{Raw}
+use Rattle.memory_runs.specs.Views.{Levels, HostView, AgentView, levels_at}
+use Rattle.memory_runs.specs.Views.Responses.{AreCodes}
+use Rattle.memory_runs.specs.Moment.{Moment, AgentSees, IgnoresReaddata}
+use Rattle.memory_runs.specs.Order.{is_joined}
+use Rattle.memory_runs.specs.Plan.{IsMemoryPlan}
+use Rattle.memory_machines.specs.Machines.{Raw}
 use Rattle.memory_sides.specs.declared.route.Route.{Route}
 use Rattle.memory_plans.specs.Routes.{routes_of}
 use Rattle.memory_plans.specs.Systems.{memory_system}
@@ -31,7 +31,7 @@ use Rattle.mm_arbiter.specs.declared.arbiter.HeldArbiter.{HeldArbiter}
 use Rattle.mm_arbiter.specs.Forward.{ArbiterForward}
 use Rattle.mm_arbiter.specs.Forward.{owns as owned_by_arbiter}
 use Rattle.mm_arbiter.specs.Shown.{ShowAllSame as AllShowSame}
-use Rattle.mm_awake.specs.Fair.{are_apart}
+use Rattle.memory_awake.specs.Fair.{are_apart}
 use Rattle.memory_plans.specs.Shown.{standing_still, moment_in}
 use Rattle.mm_fabric.specs.declared.parts.Seat.{Seat}
 use Rattle.mm_fabric.specs.declared.parts.AgentPart.{AgentPart}

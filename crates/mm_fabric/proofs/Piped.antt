@@ -6,11 +6,11 @@ use Rattle.netlist.specs.Runs.{Run, IsEndlessRun}
 use Rattle.netlist.specs.Longer.{Extends}
 use Rattle.link_rules.specs.Plans.{PlanTable}
 use Rattle.memory_plans.specs.Systems.{memory_system}
-use Rattle.mm_machines.specs.Link.{Port}
-use Rattle.mm_links.specs.Pipes.{PipeSides, RunsAsPipe, tagged_side}
+use Rattle.memory_machines.specs.Link.{Port}
+use Rattle.memory_links.specs.Pipes.{PipeSides, RunsAsPipe, tagged_side}
 use Rattle.mm_agent.specs.Agents.{shape_above}
-use Rattle.mm_awake.specs.PipeStages.{lower_of, stage_of}
-use Rattle.mm_awake.specs.Theorem.{IsStageBetween}
+use Rattle.memory_awake.specs.PipeStages.{lower_of, stage_of}
+use Rattle.memory_awake.specs.Theorem.{IsStageBetween}
 use Rattle.mm_fabric.specs.declared.parts.AgentPart.{AgentPart}
 use Rattle.mm_fabric.specs.Parts.{IsAgentPart}
 use Rattle.mm_fabric.specs.Fabrics.{Fabric, IsFabric}

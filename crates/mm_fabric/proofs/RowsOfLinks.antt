@@ -9,10 +9,10 @@ use Rattle.netlist.specs.Runs.{Run, cycle_of, IsEndlessRun, IsValuation}
 use Rattle.netlist.specs.Longer.{Extends}
 use Rattle.net_parts.specs.Nets.{IsBit}
 use Rattle.net_parts.specs.Laws.{extends_twice, net_lasts}
-use Rattle.mm_runs.specs.Views.{Shape}
-use Rattle.mm_machines.specs.Paths.{CommandView}
-use Rattle.mm_machines.specs.Machines.{Raw, port_of}
-use Rattle.mm_machines.specs.Link.{Port}
+use Rattle.memory_runs.specs.Views.{Shape}
+use Rattle.memory_machines.specs.Paths.{CommandView}
+use Rattle.memory_machines.specs.Machines.{Raw, port_of}
+use Rattle.memory_machines.specs.Link.{Port}
 use Rattle.command_nets.specs.declared.nets.CommandNets.{CommandNets}
 use Rattle.command_nets.specs.declared.nets.AnswerNets.{AnswerNets}
 use Rattle.command_nets.specs.Nets.{AreAnswerNets, raw_in, port_in, answer_view}

@@ -13,10 +13,10 @@ use Rattle.netlist.specs.Longer.{Extends}
 use Rattle.net_parts.specs.Histories.{earlier}
 use Rattle.net_parts.specs.HistoryLaw.{history_bits}
 use Rattle.net_parts.specs.Laws.{extends_twice, extends_none}
-use Rattle.mm_runs.specs.Views.{Shape}
-use Rattle.mm_machines.specs.Lines.{TaggedPort}
-use Rattle.mm_machines.specs.Machines.{Raw}
-use Rattle.mm_parts.specs.Agent.{row_places}
+use Rattle.memory_runs.specs.Views.{Shape}
+use Rattle.memory_machines.specs.Lines.{TaggedPort}
+use Rattle.memory_machines.specs.Machines.{Raw}
+use Rattle.memory_parts.specs.Agent.{row_places}
 use Rattle.memory_sides.specs.Sides.{agent_side, bound_of}
 use Rattle.command_nets.specs.declared.nets.CommandNets.{CommandNets}
 use Rattle.command_nets.specs.declared.nets.AnswerNets.{AnswerNets}

@@ -6,14 +6,14 @@ use Rattle.std.proofs.lemmas.Option.{none-some}
 use Rattle.ranks.specs.Turns.{is_seated}
 use Rattle.ranks.specs.Turns.{Seat as Turn}
 use Rattle.netlist.specs.Runs.{Cycle, Run}
-use Rattle.mm_runs.specs.Views.{System, Shape}
-use Rattle.mm_runs.specs.Order.{is_joined}
-use Rattle.mm_machines.specs.Link.{Port}
-use Rattle.mm_machines.specs.Turns.{seats_of}
+use Rattle.memory_runs.specs.Views.{System, Shape}
+use Rattle.memory_runs.specs.Order.{is_joined}
+use Rattle.memory_machines.specs.Link.{Port}
+use Rattle.memory_machines.specs.Turns.{seats_of}
 use Rattle.command_nets.specs.Nets.{port_in, ShowSame}
 use Rattle.mm_arbiter.specs.Machine.{seats_from, AreApart, AreSides}
 use Rattle.mm_arbiter.specs.Shown.{ShowAllSame}
-use Rattle.mm_awake.specs.Fair.{are_apart}
+use Rattle.memory_awake.specs.Fair.{are_apart}
 use Rattle.mm_fabric.specs.declared.parts.Seat.{Seat}
 use Rattle.mm_fabric.specs.Parts.{askers_of, commands_above, backs_above}
 use Rattle.mm_fabric.specs.Fabrics.{seat_of}

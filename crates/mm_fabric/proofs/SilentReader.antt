@@ -4,12 +4,12 @@ use Rattle.std.proofs.lemmas.Bool.{false≢true}
 use Rattle.histories.specs.History.{is_raised, one_if}
 use Rattle.netlist.specs.Netlists.{Netlist}
 use Rattle.netlist.specs.Runs.{Run, cycle_of}
-use Rattle.mm_runs.specs.Views.{System}
-use Rattle.mm_runs.specs.Views.Responses.{AreCodes}
-use Rattle.mm_machines.specs.Link.{Port, takes}
-use Rattle.mm_parts.specs.Host.{HostState, IsHostMachine, is_shut}
-use Rattle.mm_parts.specs.Queue.{takes_read, by_option}
-use Rattle.mm_parts.specs.Route.{RouteState, IsRouteMachine, place_now, read_count}
+use Rattle.memory_runs.specs.Views.{System}
+use Rattle.memory_runs.specs.Views.Responses.{AreCodes}
+use Rattle.memory_machines.specs.Link.{Port, takes}
+use Rattle.memory_parts.specs.Host.{HostState, IsHostMachine, is_shut}
+use Rattle.memory_parts.specs.Queue.{takes_read, by_option}
+use Rattle.memory_parts.specs.Route.{RouteState, IsRouteMachine, place_now, read_count}
 use Rattle.memory_sides.specs.Sides.{host_side}
 use Rattle.memory_sides.specs.declared.route.Route.{Route}
 use Rattle.command_nets.specs.Ports.{value_or}

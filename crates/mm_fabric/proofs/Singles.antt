@@ -3,16 +3,16 @@ use Rattle.std.proofs.Common.{◌≡◌, ℕ, zero, suc, ◌-◌, ◌+◌, ◌^�
 use Rattle.std.proofs.lemmas.Bool.{and_parts}
 use Rattle.std.proofs.Math.Pow.{pow_mono}
 use Rattle.histories.specs.History.{is_raised}
-use Rattle.mm_runs.specs.Views.{Shape, Signals, Levels, levels_at}
-use Rattle.mm_runs.specs.Operations.{Beat}
-use Rattle.mm_runs.specs.Commands.{Burst, shows, burst_before, burst_after, next_burst, transfer_of, write_transfer, read_transfer, byte_address}
-use Rattle.mm_machines.specs.Link.{Port, Target, takes}
-use Rattle.mm_machines.specs.Machines.{Raw, raw_at, joined, single, IsFitBeat, ShowsFitBeats}
+use Rattle.memory_runs.specs.Views.{Shape, Signals, Levels, levels_at}
+use Rattle.memory_runs.specs.Operations.{Beat}
+use Rattle.memory_runs.specs.Commands.{Burst, shows, burst_before, burst_after, next_burst, transfer_of, write_transfer, read_transfer, byte_address}
+use Rattle.memory_machines.specs.Link.{Port, Target, takes}
+use Rattle.memory_machines.specs.Machines.{Raw, raw_at, joined, single, IsFitBeat, ShowsFitBeats}
 use Rattle.mm_arbiter.specs.Machine.{JoinsBeats}
-use Rattle.mm_links.specs.Cutters.{Reach, CutterState, RunsAsCutter, IsCutPlan}
-use Rattle.mm_links.specs.Drops.{DropState, RunsAsDrop, standing_at, keeps, sends, sent_beat}
-use Rattle.mm_awake.specs.Rows.{CutsBursts, CutsBursts.cutter, CutsBursts.no_cutter, FitsWords, FitsWords.selector, FitsWords.gatherer, FitsWords.splitter, FitsWords.no_width, DropsBeats, DropsBeats.dropper, DropsBeats.no_dropper}
-use Rattle.mm_awake.specs.Wires.{IsWire, shape_with, with_bursts}
+use Rattle.memory_links.specs.Cutters.{Reach, CutterState, RunsAsCutter, IsCutPlan}
+use Rattle.memory_links.specs.Drops.{DropState, RunsAsDrop, standing_at, keeps, sends, sent_beat}
+use Rattle.memory_awake.specs.Rows.{CutsBursts, CutsBursts.cutter, CutsBursts.no_cutter, FitsWords, FitsWords.selector, FitsWords.gatherer, FitsWords.splitter, FitsWords.no_width, DropsBeats, DropsBeats.dropper, DropsBeats.no_dropper}
+use Rattle.memory_awake.specs.Wires.{IsWire, shape_with, with_bursts}
 
 -- each beat that is shown is a command by itself
 abbrev pub HaveOneBeat : Port → ℕ → Type 0

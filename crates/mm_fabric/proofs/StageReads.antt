@@ -1,11 +1,11 @@
 -- Reads in a pipe: three at most in each stage, two on their way down and one whose word is on its way up.
 use Rattle.std.proofs.Common.{◌≡◌, ℕ, zero, suc, ◌+◌, ◌-◌, ◌*◌, ◌<◌, ◌≤◌, Bool, true, false, ◌&&◌, if◌then◌else◌, nat_eq, List, [], ◌∷◌, ◌++◌, drop, length, refl, sym, subst, ap, ◌∙◌, arith}
 use Rattle.histories.specs.History.{is_raised, one_if, only_if}
-use Rattle.mm_machines.specs.Lines.{TaggedPort}
-use Rattle.mm_machines.specs.Link.{Port, takes}
-use Rattle.mm_machines.specs.Machines.{Raw, raw_at, ShowsHead, IsStageRun}
-use Rattle.mm_parts.specs.Queue.{takes_read}
-use Rattle.mm_links.specs.Pipes.{PipeSides, RunsAsPipe, tagged_side}
+use Rattle.memory_machines.specs.Lines.{TaggedPort}
+use Rattle.memory_machines.specs.Link.{Port, takes}
+use Rattle.memory_machines.specs.Machines.{Raw, raw_at, ShowsHead, IsStageRun}
+use Rattle.memory_parts.specs.Queue.{takes_read}
+use Rattle.memory_links.specs.Pipes.{PipeSides, RunsAsPipe, tagged_side}
 use Rattle.link_core.specs.Boundaries.{HasPipe}
 use Rattle.mm_fabric.proofs.Unanswered.{StandFor}
 

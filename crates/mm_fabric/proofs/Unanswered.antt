@@ -4,7 +4,7 @@ use Rattle.std.proofs.lemmas.Bool.{eqb-true, eq-eqb}
 use Rattle.histories.specs.History.{is_raised, one_if, only_if}
 use Rattle.netlist.specs.Nets.{NetValue}
 use Rattle.netlist.specs.Runs.{Run, cycle_of}
-use Rattle.mm_parts.specs.Queue.{Entry, answered, head_tag}
+use Rattle.memory_parts.specs.Queue.{Entry, answered, head_tag}
 use Rattle.mm_host.specs.Reads.{unanswered_in, takes_in}
 
 -- so many at most stand for the reads that are taken and aren't answered: from a cycle to the next they fall by one at most, where a word comes, and rise where a read is taken

@@ -9,8 +9,8 @@ use Rattle.netlist.specs.Netlists.{Netlist}
 use Rattle.netlist.specs.Runs.{Cycle, Run, IsValuation, cycle_of}
 use Rattle.net_parts.specs.Nets.{IsNetOfWidth}
 use Rattle.net_parts.specs.Laws.{width_fits}
-use Rattle.mm_runs.specs.Views.{HostSide, HostView, AgentSide, AgentView}
-use Rattle.mm_runs.specs.Plan.{FitsPorts}
+use Rattle.memory_runs.specs.Views.{HostSide, HostView, AgentSide, AgentView}
+use Rattle.memory_runs.specs.Plan.{FitsPorts}
 use Rattle.memory_sides.specs.Sides.{host_side, agent_side, burst_width}
 use Rattle.memory_sides.specs.declared.route.Route.{Route}
 use Rattle.command_nets.specs.Ports.{HasNet, value_or, all_ones}

@@ -3,9 +3,9 @@ use Rattle.std.proofs.Common.{◌≡◌, ℕ, suc, Bool, true, false, ◌||◌, 
 use Rattle.std.proofs.lemmas.Bool.{eqb-true, false≢true}
 use Rattle.std.proofs.lemmas.Option.{same_Some, none-some}
 use Rattle.netlist.specs.Runs.{Cycle, Run}
-use Rattle.mm_runs.specs.Views.{Shape}
-use Rattle.mm_machines.specs.Paths.{AnswerView}
-use Rattle.mm_machines.specs.Link.{Port}
+use Rattle.memory_runs.specs.Views.{Shape}
+use Rattle.memory_machines.specs.Paths.{AnswerView}
+use Rattle.memory_machines.specs.Link.{Port}
 use Rattle.memory_sides.specs.declared.route.Route.{Route}
 use Rattle.memory_plans.specs.Routes.{HasRoute}
 use Rattle.command_nets.specs.declared.nets.CommandNets.{CommandNets}

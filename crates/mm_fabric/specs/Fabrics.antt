@@ -3,10 +3,10 @@ use Rattle.std.specs.Prelude.{◌≡◌, ℕ, ◌<◌, List, find, nat_eq, nat_l
 use Rattle.link_rules.specs.Plans.{PlanTable}
 use Rattle.netlist.specs.Netlists.{Netlist}
 use Rattle.netlist.specs.Runs.{Cycle, Run, IsValuation, SameState}
-use Rattle.mm_runs.specs.Views.{HostView, AgentView, Run as MemoryRun}
-use Rattle.mm_runs.specs.Order.{is_joined}
-use Rattle.mm_runs.specs.Moment.{Moment}
-use Rattle.mm_machines.specs.Turns.{seats_of}
+use Rattle.memory_runs.specs.Views.{HostView, AgentView, Run as MemoryRun}
+use Rattle.memory_runs.specs.Order.{is_joined}
+use Rattle.memory_runs.specs.Moment.{Moment}
+use Rattle.memory_machines.specs.Turns.{seats_of}
 use Rattle.memory_plans.specs.Routes.{routes_of}
 use Rattle.memory_plans.specs.Systems.{memory_system}
 use Rattle.mm_host.specs.Hosts.{host_view}

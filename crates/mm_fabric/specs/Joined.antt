@@ -3,7 +3,7 @@ use Rattle.std.specs.Prelude.{◌≡◌, ℕ, ◌+◌, ◌*◌, ◌≤◌, nat_l
 use Rattle.std.specs.List.{AllZip}
 use Rattle.iface_roles.specs.Proper.{IsBoundedAgent}
 use Rattle.system_tables.specs.Tables.{SystemTable}
-use Rattle.link_rules.specs.PlanLinks.{memory_links}
+use Rattle.link_rules.specs.PlanConnections.{memory_connections}
 use Rattle.link_rules.specs.Plans.{PlanTable}
 use Rattle.netlist.specs.Netlists.{Netlist}
 use Rattle.net_parts.specs.Growth.{GrowsInMemory, StillWait, StillWaitForWrite}
@@ -62,7 +62,7 @@ most_memories agents links = agents + width_memories * links
 
 -- how many links lead to the agents of numbers below so many
 abbrev pub links_below : SystemTable → ℕ → ℕ
-links_below system count = count_by (λ link. nat_lt link.agent_number count) (memory_links system)
+links_below system count = count_by (λ link. nat_lt link.agent_number count) (memory_connections system)
 
 -- so many agents are joined
 pub record AreJoinedSoFar (plan : PlanTable) (old now : Netlist) (begun : List BegunHost) (ends : List AgentEnd) (parts : List AgentPart) (count : ℕ) : Type 0 where

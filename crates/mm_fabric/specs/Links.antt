@@ -2,14 +2,14 @@
 use Rattle.std.specs.Prelude.{◌≡◌, ℕ, ◌<◌, ◌≤◌, Some, IsTrue, length, slice_get}
 use Rattle.iface_roles.specs.Proper.{range_of, span_of}
 use Rattle.address_map.specs.Maps.{hosts_of, agents_of}
-use Rattle.link_rules.specs.declared.plan_links.MemoryLink.{MemoryLink}
-use Rattle.link_rules.specs.PlanLinks.{memory_links}
+use Rattle.link_rules.specs.declared.plan_connections.MemoryConnection.{MemoryConnection}
+use Rattle.link_rules.specs.PlanConnections.{memory_connections}
 use Rattle.link_rules.specs.Plans.{PlanTable}
 use Rattle.memory_sides.specs.declared.route.Route.{Route}
 use Rattle.memory_plans.specs.Routes.{routes_of, HasRoute}
 use Rattle.memory_plans.specs.Systems.{memory_system}
-use Rattle.mm_runs.specs.Order.{is_joined}
-use Rattle.mm_machines.specs.Turns.{seats_of}
+use Rattle.memory_runs.specs.Order.{is_joined}
+use Rattle.memory_machines.specs.Turns.{seats_of}
 use Rattle.mm_arbiter.specs.declared.asker.Asker.{Asker}
 use Rattle.mm_arbiter.specs.Machine.{seats_from}
 use Rattle.mm_width.specs.Pairs.{MayMeet}
@@ -19,9 +19,9 @@ use Rattle.mm_fabric.specs.Asks.{asking}
 
 -- a link joins this host to this agent, which may meet: the host has a route there, and its range holds the agent's span and a word of its own
 pub record HasLinkBetween (plan : PlanTable) (host agent : ℕ) : Type 0 where
-  pub link : MemoryLink
+  pub link : MemoryConnection
   pub place : ℕ
-  pub is : slice_get (memory_links plan.system) place ≡ Some link
+  pub is : slice_get (memory_connections plan.system) place ≡ Some link
   pub host_port : IsHostOf plan host link.host
   pub agent_port : IsAgentOf plan agent link.agent
   pub host_below : host < length (hosts_of plan.system)
@@ -51,5 +51,5 @@ pub record IsLinkedAgent (plan : PlanTable) (agent : ℕ) : Type 0 where
 pub record IsLinkedPlan (plan : PlanTable) : Type 0 where
   pub hosts : (h : ℕ) → h < length (hosts_of plan.system) → IsLinkedHost plan h
   pub agents : (a : ℕ) → a < length (agents_of plan.system) → IsLinkedAgent plan a
-  pub ends : (k : ℕ) (link : MemoryLink) → slice_get (memory_links plan.system) k ≡ Some link → JoinsEnds plan link
+  pub ends : (k : ℕ) (link : MemoryConnection) → slice_get (memory_connections plan.system) k ≡ Some link → JoinsEnds plan link
   pub joints : (h a : ℕ) → IsTrue (is_joined (memory_system plan) a h) → HasLinkBetween plan h a

@@ -3,7 +3,7 @@ use Rattle.std.specs.Prelude.{◌≡◌, ℕ, ◌<◌, Bool, if◌then◌else◌
 use Rattle.netlist.specs.Netlists.{Netlist}
 use Rattle.netlist.specs.Runs.{Run, IsEndlessRun}
 use Rattle.netlist.specs.Longer.{Extends}
-use Rattle.mm_runs.specs.Views.{Shape}
+use Rattle.memory_runs.specs.Views.{Shape}
 use Rattle.command_nets.specs.declared.nets.CommandNets.{CommandNets}
 use Rattle.link_core.specs.Boundaries.{HasPipe}
 use Rattle.link_core.specs.PipeNets.{PipeKept, IsBegunPipe}

@@ -16,7 +16,7 @@ use crate::begun::BegunHost;
 use crate::parts::{AgentPart, Asking};
 use command_nets::CommandNets;
 use iface_roles::AgentPort;
-use link_rules::{MemoryLink, Plan};
+use link_rules::{MemoryConnection, Plan};
 use memory_sides::Route;
 use mm_agent::AgentNets;
 use mm_arbiter::Asker;
@@ -31,7 +31,7 @@ pub struct AgentEnd {
 }
 
 /// The hosts of those links that are the agent's.
-fn asking_among(alloc: Global, links: &[MemoryLink], agent: u8) -> Result<Vec<Asker>, NetFault>
+fn asking_among(alloc: Global, links: &[MemoryConnection], agent: u8) -> Result<Vec<Asker>, NetFault>
     ensures askers { IfOk result (λ askers. askers.items ≡ asking_among agent links.now) }
     ensures full { ¬ (result ≡ Err NetFault.TooManyNets) }
 {
@@ -117,7 +117,7 @@ pub(crate) fn join_hosts(
     ensures full { result ≡ Err NetFault.TooManyNets → HasNoRoomFor (joined_agent_nets (length (asking plan.now.system number))) (joined_agent_memories (length (asking plan.now.system number))) builder.old }
 {
     plan.well_made();
-    let askers = asking_among(alloc, plan.memory_links(), number)?;
+    let askers = asking_among(alloc, plan.memory_connections(), number)?;
     let asking = commands_for(alloc, begun, &askers, number)?;
     join_agent(
         alloc,

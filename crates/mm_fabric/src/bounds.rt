@@ -6,7 +6,7 @@ ghost use Rattle.mm_fabric.specs.Bounds.{reads_at, bears_few, bears_link, first_
 
 use command_nets::lane_bits;
 use iface_roles::{AgentPort, HostPort};
-use link_rules::{MemoryLink, Plan};
+use link_rules::{MemoryConnection, Plan};
 use memory_sides::Route;
 use mm_route::is_lone;
 use mm_width::is_wire_pair;
@@ -44,14 +44,14 @@ fn bears_few(port: &AgentPort, stages: u8) -> bool
 }
 
 /// Whether no link stands between the ends of a link, and its agent never has 16 reads unanswered.
-fn bears_link(plan: &Plan, link: &MemoryLink) -> bool
+fn bears_link(plan: &Plan, link: &MemoryConnection) -> bool
     ensures { result ≡ bears_link plan.now link.now }
 {
     bears_few(&link.agent, plan.stages()) && is_wire_pair(&link.host, &link.agent)
 }
 
 /// The first link of the host of this number.
-fn first_link(links: &[MemoryLink], host: u8) -> Option<MemoryLink>
+fn first_link(links: &[MemoryConnection], host: u8) -> Option<MemoryConnection>
     ensures { result ≡ first_link host links.now }
 {
     for link in links {
@@ -66,7 +66,7 @@ fn first_link(links: &[MemoryLink], host: u8) -> Option<MemoryLink>
 fn first_bears_few(plan: &Plan, host: u8) -> bool
     ensures { result ≡ first_bears_few plan.now host }
 {
-    match first_link(plan.memory_links(), host) {
+    match first_link(plan.memory_connections(), host) {
         Some(link) => bears_link(plan, &link),
         None => false,
     }

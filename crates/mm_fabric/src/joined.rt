@@ -2,7 +2,7 @@
 
 ghost use Rattle.std.specs.Prelude.{◌≡◌, ℕ, ◌+◌, ◌*◌, ◌^◌, ◌<◌, ◌≤◌, map, length, IfOk, OnOk};
 ghost use Rattle.address_map.specs.Maps.{agents_of};
-ghost use Rattle.link_rules.specs.PlanLinks.{memory_links};
+ghost use Rattle.link_rules.specs.PlanConnections.{memory_connections};
 ghost use Rattle.net_parts.specs.Growth.{GrowsInMemory, StillWait, StillWaitForWrite};
 ghost use Rattle.mm_fabric.specs.Askers.{HasNoRoomFor};
 ghost use Rattle.mm_fabric.specs.Joined.{AreAgentEnds, AreJoinedFrom, end_of, most_agent_nets, link_nets, most_memories};
@@ -30,14 +30,14 @@ pub fn join_agents(
     requires ends { AreAgentEnds plan.now builder.old begun.now 0 ends.now }
     ensures ends { IfOk result (λ parts. map end_of parts ≡ ends.now) }
     ensures parts { IfOk result (AreJoinedFrom plan.now builder.new begun.now 0) }
-    ensures grows { GrowsInMemory (most_agent_nets * length ends.now + link_nets * length (memory_links plan.now.system)) (most_memories (length ends.now) (length (memory_links plan.now.system))) builder.old builder.new }
+    ensures grows { GrowsInMemory (most_agent_nets * length ends.now + link_nets * length (memory_connections plan.now.system)) (most_memories (length ends.now) (length (memory_connections plan.now.system))) builder.old builder.new }
     ensures waits { StillWait builder.old builder.new }
     ensures no_more_wait { OnOk result (StillWait builder.new builder.old) }
     ensures still_wait_for_write { OnOk result (StillWaitForWrite builder.old builder.new) }
     ensures no_more_wait_for_write { OnOk result (StillWaitForWrite builder.new builder.old) }
 
     // Memory may run out at any net.
-    ensures full { result ≡ Err NetFault.TooManyNets → HasNoRoomFor (most_agent_nets * length ends.now + link_nets * length (memory_links plan.now.system)) (most_memories (length ends.now) (length (memory_links plan.now.system))) builder.old }
+    ensures full { result ≡ Err NetFault.TooManyNets → HasNoRoomFor (most_agent_nets * length ends.now + link_nets * length (memory_connections plan.now.system)) (most_memories (length ends.now) (length (memory_connections plan.now.system))) builder.old }
 {
     plan.is_within_limits();
     let mut parts = List::new(alloc);

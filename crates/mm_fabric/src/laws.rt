@@ -2,12 +2,12 @@
 
 ghost use Rattle.std.specs.Prelude.{◌*◌, ◌≤◌, length};
 ghost use Rattle.address_map.specs.Maps.{agents_of};
-ghost use Rattle.link_rules.specs.PlanLinks.{memory_links};
+ghost use Rattle.link_rules.specs.PlanConnections.{memory_connections};
 ghost use Rattle.link_rules.specs.Plans.{PlanTable, IsPlan};
 ghost use Rattle.mm_fabric.specs.Links.{IsLinkedPlan};
 
 use address_map::{ends_are_joined, ends_have_one_number};
-use link_rules::memory_links_are_numbered;
+use link_rules::memory_connections_are_numbered;
 use memory_plans::{
     plans_are_apart, plans_are_memory_plans, plans_have_their_ends, routes_are_the_map,
     spans_fit_ranges, words_fit_pairs,
@@ -19,7 +19,7 @@ pub(crate) fn plans_are_linked()
 {
     ends_have_one_number();
     ends_are_joined();
-    memory_links_are_numbered();
+    memory_connections_are_numbered();
     plans_are_memory_plans();
     routes_are_the_map();
     plans_have_their_ends();
@@ -30,8 +30,8 @@ pub(crate) fn plans_are_linked()
 
 /// At most 16 hosts are joined to an agent.
 pub fn links_are_few()
-    ensures { (plan : PlanTable) → IsPlan plan → length (memory_links plan.system) ≤ 16 * length (agents_of plan.system) }
+    ensures { (plan : PlanTable) → IsPlan plan → length (memory_connections plan.system) ≤ 16 * length (agents_of plan.system) }
 {
-    memory_links_are_numbered();
+    memory_connections_are_numbered();
     plans_are_linked();
 }

@@ -5,20 +5,20 @@ ghost use Rattle.link_rules.specs.Plans.{PlanTable, IsPlan};
 ghost use Rattle.netlist.specs.Netlists.{Netlist};
 ghost use Rattle.netlist.specs.Runs.{Run, IsEndlessRun};
 ghost use Rattle.netlist.specs.Longer.{Extends};
-ghost use Rattle.mm_runs.specs.Views.Responses.{AreCodes};
-ghost use Rattle.mm_runs.specs.Order.{is_joined};
-ghost use Rattle.mm_runs.specs.Plan.{AreViews};
-ghost use Rattle.mm_runs.specs.Whole.{IsLegalRun, IsSafe};
-ghost use Rattle.mm_runs.specs.Awake.{NeverIdles, IsFair};
-ghost use Rattle.mm_runs.specs.Onward.{NoHostHangs, AcceptsSoon};
-ghost use Rattle.mm_runs.specs.Moment.{IgnoresReaddata};
-ghost use Rattle.mm_runs.specs.Packed.{ReadsEachTouchedWordOnce};
+ghost use Rattle.memory_runs.specs.Views.Responses.{AreCodes};
+ghost use Rattle.memory_runs.specs.Order.{is_joined};
+ghost use Rattle.memory_runs.specs.Plan.{AreViews};
+ghost use Rattle.memory_runs.specs.Whole.{IsLegalRun, IsSafe};
+ghost use Rattle.memory_runs.specs.Awake.{NeverIdles, IsFair};
+ghost use Rattle.memory_runs.specs.Onward.{NoHostHangs, AcceptsSoon};
+ghost use Rattle.memory_runs.specs.Moment.{IgnoresReaddata};
+ghost use Rattle.memory_runs.specs.Packed.{ReadsEachTouchedWordOnce};
 ghost use Rattle.memory_plans.specs.Systems.{memory_system};
-ghost use Rattle.mm_awake.specs.Onward.{prompt_window};
-ghost use Rattle.mm_awake.specs.RowSystem.{RowPorts, AreRows, IsFairRow, boundaries_of};
-ghost use Rattle.mm_awake.specs.Theorem.{States, ArePlanned, AreMachines};
-ghost use Rattle.mm_waits.specs.Windows.{host_window};
-ghost use Rattle.mm_packed.specs.Packed.{RowsPack};
+ghost use Rattle.memory_awake.specs.Onward.{prompt_window};
+ghost use Rattle.memory_awake.specs.RowSystem.{RowPorts, AreRows, IsFairRow, boundaries_of};
+ghost use Rattle.memory_awake.specs.Theorem.{States, ArePlanned, AreMachines};
+ghost use Rattle.memory_waits.specs.Windows.{host_window};
+ghost use Rattle.memory_packed.specs.Packed.{RowsPack};
 ghost use Rattle.mm_fabric.specs.Fabrics.{Fabric, IsFabric, seen_in, FabricShows};
 
 use memory_plans::{
@@ -26,16 +26,16 @@ use memory_plans::{
     routes_are_the_map,
 };
 use mm_arbiter::arbiter_ignores_answers;
-use mm_awake::rows::{
+use memory_awake::rows::{
     machines_with_links_are_awake, machines_with_links_are_fair, what_rows_carry_fits,
 };
-use mm_awake::wired::pipes_have_stages;
-use mm_links::bursts::cut_shows_fit_beats;
-use mm_packed::packed_systems_read_words_once;
-use mm_parts::joins::routes_show_fit_beats;
+use memory_awake::wired::pipes_have_stages;
+use memory_links::bursts::cut_shows_fit_beats;
+use memory_packed::packed_systems_read_words_once;
+use memory_parts::joins::routes_show_fit_beats;
 use mm_route::route_ignores_answers;
-use mm_waits::hosts::no_host_hangs;
-use mm_waits::prompt::alike_hosts_are_accepted;
+use memory_waits::hosts::no_host_hangs;
+use memory_waits::prompt::alike_hosts_are_accepted;
 
 /// What a run shows at the hosts and agents of a fabric fits their ports.
 pub fn fabrics_show_views()

@@ -3,7 +3,7 @@ use Rattle.std.proofs.Common.{◌≡◌, ℕ, zero, suc, ◌+◌, ◌-◌, ◌*�
 use Rattle.std.proofs.Math.Nat.{mul-lt-mul_of_pos_left, pow-suc}
 use Rattle.std.proofs.Math.Pow.{pow-lt}
 use Rattle.std.proofs.lemmas.Bool.{ltb-true, ltb-false}
-use Rattle.mm_runs.specs.Views.{Levels}
+use Rattle.memory_runs.specs.Views.{Levels}
 
 abbrev levels_from : ℕ → ℕ → ℕ → ℕ → ℕ → ℕ → Levels
 levels_from r w a d e c = record { read = r; write = w; address = a; word = d; enables = e; count = c }

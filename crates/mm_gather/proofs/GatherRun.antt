@@ -11,13 +11,13 @@ use Rattle.netlist.specs.Runs.{Cycle, Run, cycle_of, IsEndlessRun, IsValuation}
 use Rattle.net_parts.specs.Laws.{net_fits, bit_fits}
 use Rattle.item_queues.specs.Queues.{IsInOrder, MayMove, held_in}
 use Rattle.item_queues.specs.Laws.{held_count}
-use Rattle.mm_runs.specs.Legal.{Word}
-use Rattle.mm_runs.specs.Views.{Levels, levels_at}
-use Rattle.mm_machines.specs.Link.{Target, Port, is_nonempty}
-use Rattle.mm_machines.specs.Machines.{Raw}
-use Rattle.mm_links.specs.Links.{LinkForm, IsLink}
-use Rattle.mm_links.specs.Selects.{silenced, offset_in, takes_read}
-use Rattle.mm_links.specs.Gathers.{GatherState, Entry, RunsAsGather, IsGatherPlan, LieInWords, gathered, gather_form, first_entry, first_word, word_at, is_shut, comes, held, is_last, entry_at}
+use Rattle.memory_runs.specs.Legal.{Word}
+use Rattle.memory_runs.specs.Views.{Levels, levels_at}
+use Rattle.memory_machines.specs.Link.{Target, Port, is_nonempty}
+use Rattle.memory_machines.specs.Machines.{Raw}
+use Rattle.memory_links.specs.Links.{LinkForm, IsLink}
+use Rattle.memory_links.specs.Selects.{silenced, offset_in, takes_read}
+use Rattle.memory_links.specs.Gathers.{GatherState, Entry, RunsAsGather, IsGatherPlan, LieInWords, gathered, gather_form, first_entry, first_word, word_at, is_shut, comes, held, is_last, entry_at}
 use Rattle.command_nets.specs.declared.nets.CommandNets.{CommandNets}
 use Rattle.command_nets.specs.declared.nets.AnswerNets.{AnswerNets}
 use Rattle.command_nets.specs.Nets.{raw_in, port_in, ShowSame}

@@ -5,9 +5,9 @@ use Rattle.std.proofs.lemmas.Nat.{pow_pos, mod-mul-add}
 use Rattle.std.proofs.Math.Nat.{mul_comm, mod-add-mod, mod-lt, mod-eq-sub-div-mul, div-mul-le_self}
 use Rattle.histories.specs.History.{is_raised, one_if, only_if}
 use Rattle.item_queues.specs.Storages.{shown_oldest}
-use Rattle.mm_runs.specs.Legal.{Word}
-use Rattle.mm_machines.specs.Link.{is_nonempty}
-use Rattle.mm_links.specs.Gathers.{Entry, first_entry, first_word}
+use Rattle.memory_runs.specs.Legal.{Word}
+use Rattle.memory_machines.specs.Link.{is_nonempty}
+use Rattle.memory_links.specs.Gathers.{Entry, first_entry, first_word}
 use Rattle.mm_select.specs.Laws.{byte_powers}
 use Rattle.mm_gather.specs.Reads.{entry_of, word_of}
 

@@ -5,7 +5,7 @@ use Rattle.std.proofs.Math.Pow.{pow_mono, ones_lt}
 use Rattle.std.proofs.lemmas.Bool.{cases_lt}
 use Rattle.std.proofs.lemmas.Nat.{pow-add, pow_pos, mod-pow-add, mod-mul-add, div-mul-add, mul-mod_first, mul-mod_second, and_mask}
 use Rattle.std.proofs.Math.Nat.{pow-suc, add_comm, mul_comm, mul-le-mul_left, mul-mod_left, mul-add, mod-add-div, mod-mod, mod-eq_of_lt, add-mul-mod_self_right, div-lt_iff_lt-mul, one-le-pow}
-use Rattle.mm_links.specs.Gathers.{spread}
+use Rattle.memory_links.specs.Gathers.{spread}
 
 pub low_word_is : (lanes bit padding full made : ℕ) → bit < 2 → padding ≡ 0 → full ≡ 2 ^ lanes - 1 → made ≡ (if bit == 0 then padding else full) → made ≡ 2 ^ (lanes * bit) - 1
 low_word_is lanes zero padding full made h z f e = let none : lanes * 0 ≡ 0 = omega arith in e ∙ z ∙ sym (ap (λ n. 2 ^ n - 1) none)

@@ -8,8 +8,8 @@ use Rattle.netlist.specs.Longer.{Extends}
 use Rattle.net_parts.specs.Nets.{IsNetOfWidth, StartsLow, TakesNext}
 use Rattle.net_parts.specs.Laws.{net_lasts}
 use Rattle.net_parts.specs.Groups.{group_widths}
-use Rattle.mm_runs.specs.Legal.{Word}
-use Rattle.mm_links.specs.Gathers.{Entry}
+use Rattle.memory_runs.specs.Legal.{Word}
+use Rattle.memory_links.specs.Gathers.{Entry}
 use Rattle.item_queues.specs.declared.queue.ItemQueue.{ItemQueue}
 use Rattle.item_queues.specs.Storages.{shown_oldest}
 use Rattle.item_queues.specs.Queues.{owns, owns_memories, IsQueueMade, StartsEmpty, StepsQueue, held_in}

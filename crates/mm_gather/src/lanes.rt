@@ -5,7 +5,7 @@ ghost use Rattle.netlist.specs.Netlists.{IsNet};
 ghost use Rattle.netlist.specs.Runs.{Always};
 ghost use Rattle.net_parts.specs.Nets.{IsBit, IsNetOfWidth};
 ghost use Rattle.net_parts.specs.Growth.{AddsNets};
-ghost use Rattle.mm_links.specs.Gathers.{spread};
+ghost use Rattle.memory_links.specs.Gathers.{spread};
 
 use mm_select::repeat;
 use net_parts::{choose, constant};

@@ -11,7 +11,7 @@ use Rattle.item_queues.specs.declared.queue.ItemQueue.{ItemQueue}
 use Rattle.item_queues.specs.Storages.{shown_oldest}
 use Rattle.item_queues.specs.Queues.{IsInOrder, MayMove, held_in}
 use Rattle.item_queues.specs.Laws.{held_count}
-use Rattle.mm_parts.specs.Queue.{Entry}
+use Rattle.memory_parts.specs.Queue.{Entry}
 use Rattle.mm_host.specs.Queued.{QueuesOn, IsOldestAnswered}
 use Rattle.mm_host.specs.Reads.{AreCounted}
 use Rattle.mm_host.proofs.Bursts.{GotFits, IsNext, IsOldest, Step, entries_of, entries_count, some_held, stepped}

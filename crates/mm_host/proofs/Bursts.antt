@@ -4,7 +4,7 @@ use Rattle.std.specs.Prelude.{◌≤◌, ◌<◌}
 use Rattle.std.proofs.lemmas.List.{map-append}
 use Rattle.std.proofs.lemmas.Bool.{eqb-true}
 use Rattle.histories.specs.History.{one_if, only_if}
-use Rattle.mm_parts.specs.Queue.{Entry, answered}
+use Rattle.memory_parts.specs.Queue.{Entry, answered}
 use Rattle.mm_host.specs.Queued.{IsOldestAnswered}
 use Rattle.mm_host.proofs.Levels.{and_false}
 

@@ -9,9 +9,9 @@ use Rattle.netlist.specs.Netlists.{Netlist}
 use Rattle.netlist.specs.Runs.{Cycle, Run, cycle_of, IsEndlessRun, IsValuation}
 use Rattle.net_parts.specs.Laws.{bit_fits, width_fits}
 use Rattle.net_parts.specs.Bits.{of_chosen}
-use Rattle.mm_runs.specs.Views.Responses.{AreCodes}
-use Rattle.mm_parts.specs.Queue.{Entry, QueuesReads, answered, entry_at}
-use Rattle.mm_parts.specs.Host.{HostState, IsHostMachine}
+use Rattle.memory_runs.specs.Views.Responses.{AreCodes}
+use Rattle.memory_parts.specs.Queue.{Entry, QueuesReads, answered, entry_at}
+use Rattle.memory_parts.specs.Host.{HostState, IsHostMachine}
 use Rattle.memory_sides.specs.Sides.{host_side}
 use Rattle.command_nets.specs.declared.nets.AnswerNets.{AnswerNets}
 use Rattle.command_nets.specs.Nets.{port_in}

@@ -1,7 +1,7 @@
 -- A count of unanswered reads as a queue of reads of one word.
 use Rattle.std.proofs.Common.{◌≡◌, ℕ, zero, suc, ◌+◌, ◌-◌, Bool, true, false, List, [], ◌∷◌, ◌++◌, length, refl, sym, ap, ◌∙◌, append-nil, arith}
 use Rattle.histories.specs.History.{one_if, only_if}
-use Rattle.mm_parts.specs.Queue.{Entry, answered}
+use Rattle.memory_parts.specs.Queue.{Entry, answered}
 
 abbrev pub one_word : Entry
 one_word = record { tag = 0; left = 1 }

@@ -8,9 +8,9 @@ use Rattle.netlist.specs.Runs.{Cycle, Run, IsEndlessRun, IsValuation, Always}
 use Rattle.netlist.specs.Longer.{Extends}
 use Rattle.net_parts.specs.Nets.{IsBit, IsNetOfWidth}
 use Rattle.net_parts.specs.Laws.{net_lasts}
-use Rattle.mm_runs.specs.Views.{Shape}
-use Rattle.mm_runs.specs.Views.Responses.{AreCodes}
-use Rattle.mm_parts.specs.Host.{HostState, IsHostMachine}
+use Rattle.memory_runs.specs.Views.{Shape}
+use Rattle.memory_runs.specs.Views.Responses.{AreCodes}
+use Rattle.memory_parts.specs.Host.{HostState, IsHostMachine}
 use Rattle.memory_sides.specs.Sides.{host_side, burst_width}
 use Rattle.command_nets.specs.declared.nets.CommandNets.{CommandNets}
 use Rattle.command_nets.specs.declared.nets.AnswerNets.{AnswerNets}

@@ -5,8 +5,8 @@ use Rattle.iface_roles.specs.Proper.{range_of}
 use Rattle.netlist.specs.Netlists.{Netlist, IsNet}
 use Rattle.netlist.specs.Runs.{Cycle, Run, cycle_of}
 use Rattle.net_parts.specs.Nets.{IsBit, IsNetOfWidth}
-use Rattle.mm_runs.specs.Views.{Signals, HostView}
-use Rattle.mm_runs.specs.Commands.{byte_address}
+use Rattle.memory_runs.specs.Views.{Signals, HostView}
+use Rattle.memory_runs.specs.Commands.{byte_address}
 use Rattle.memory_sides.specs.Sides.{host_side, burst_width}
 use Rattle.command_nets.specs.Ports.{HasNet, value_or, all_ones}
 use Rattle.mm_host.specs.declared.nets.HostNets.{HostNets}

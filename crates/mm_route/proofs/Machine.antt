@@ -9,13 +9,13 @@ use Rattle.netlist.specs.Runs.{Run, cycle_of, IsEndlessRun, IsValuation}
 use Rattle.net_parts.specs.Bits.{of_chosen}
 use Rattle.net_parts.specs.Laws.{net_fits}
 use Rattle.net_parts.specs.Groups.{values_of}
-use Rattle.mm_runs.specs.Views.{System, Shape}
-use Rattle.mm_runs.specs.Commands.{byte_address}
-use Rattle.mm_runs.specs.Order.{is_agent}
-use Rattle.mm_machines.specs.Paths.{AnswerView}
-use Rattle.mm_machines.specs.Link.{Port, takes}
-use Rattle.mm_parts.specs.Queue.{takes_read, by_option}
-use Rattle.mm_parts.specs.Route.{RouteState, kind_at, place_now, is_open}
+use Rattle.memory_runs.specs.Views.{System, Shape}
+use Rattle.memory_runs.specs.Commands.{byte_address}
+use Rattle.memory_runs.specs.Order.{is_agent}
+use Rattle.memory_machines.specs.Paths.{AnswerView}
+use Rattle.memory_machines.specs.Link.{Port, takes}
+use Rattle.memory_parts.specs.Queue.{takes_read, by_option}
+use Rattle.memory_parts.specs.Route.{RouteState, kind_at, place_now, is_open}
 use Rattle.command_nets.specs.declared.nets.CommandNets.{CommandNets}
 use Rattle.command_nets.specs.declared.nets.AnswerNets.{AnswerNets}
 use Rattle.command_nets.specs.Nets.{port_in}

@@ -5,9 +5,9 @@ use Rattle.std.proofs.lemmas.Nat.{pow-add}
 use Rattle.std.proofs.Math.Nat.{div-div-eq-div-mul, mul-div_cancel, mod-eq-sub-div-mul, div-mul-le_self}
 use Rattle.std.specs.Int.{bit_at}
 use Rattle.histories.specs.History.{one_if}
-use Rattle.mm_runs.specs.Views.{Kind}
-use Rattle.mm_runs.specs.Order.{is_agent}
-use Rattle.mm_parts.specs.Route.{is_same_place}
+use Rattle.memory_runs.specs.Views.{Kind}
+use Rattle.memory_runs.specs.Order.{is_agent}
+use Rattle.memory_parts.specs.Route.{is_same_place}
 use Rattle.memory_sides.specs.declared.route.Route.{Route}
 use Rattle.mm_route.specs.Entries.{IsEntry, AreEntries, is_inside, holds, serves, hits, place_bits}
 use Rattle.mm_route.specs.Machine.{has_entry, AreHeld, HoldWords}

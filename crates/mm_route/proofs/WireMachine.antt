@@ -7,14 +7,14 @@ use Rattle.netlist.specs.Netlists.{Netlist, IsNet}
 use Rattle.netlist.specs.Runs.{Run, cycle_of, IsEndlessRun, IsValuation, Always}
 use Rattle.net_parts.specs.Nets.{StartsLow}
 use Rattle.net_parts.specs.Laws.{net_fits}
-use Rattle.mm_runs.specs.Views.{System, Shape, Kind}
-use Rattle.mm_runs.specs.Views.Kind.{Reads, Writes}
-use Rattle.mm_runs.specs.Commands.{byte_address}
-use Rattle.mm_runs.specs.Order.{is_agent}
-use Rattle.mm_machines.specs.Paths.{AnswerView}
-use Rattle.mm_machines.specs.Link.{Port, takes}
-use Rattle.mm_parts.specs.Queue.{takes_read, by_option}
-use Rattle.mm_parts.specs.Route.{RouteState, kind_at, place_now, is_open, is_same_place, read_count}
+use Rattle.memory_runs.specs.Views.{System, Shape, Kind}
+use Rattle.memory_runs.specs.Views.Kind.{Reads, Writes}
+use Rattle.memory_runs.specs.Commands.{byte_address}
+use Rattle.memory_runs.specs.Order.{is_agent}
+use Rattle.memory_machines.specs.Paths.{AnswerView}
+use Rattle.memory_machines.specs.Link.{Port, takes}
+use Rattle.memory_parts.specs.Queue.{takes_read, by_option}
+use Rattle.memory_parts.specs.Route.{RouteState, kind_at, place_now, is_open, is_same_place, read_count}
 use Rattle.command_nets.specs.declared.nets.AnswerNets.{AnswerNets}
 use Rattle.command_nets.specs.Nets.{port_in}
 use Rattle.memory_sides.specs.declared.route.Route.{Route}

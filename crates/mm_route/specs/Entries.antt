@@ -2,9 +2,9 @@
 use Rattle.std.specs.Prelude.{◌≡◌, ℕ, ◌+◌, ◌*◌, ◌^◌, ◌<◌, Bool, true, false, ◌&&◌, if◌then◌else◌, nat_le, nat_lt, List, [], ◌∷◌, length, Option}
 use Rattle.std.proofs.Common.{refl}
 use Rattle.histories.specs.History.{is_raised, one_if}
-use Rattle.mm_runs.specs.Views.{Kind}
-use Rattle.mm_runs.specs.Views.Kind.{Reads, Writes}
-use Rattle.mm_runs.specs.Order.{is_agent}
+use Rattle.memory_runs.specs.Views.{Kind}
+use Rattle.memory_runs.specs.Views.Kind.{Reads, Writes}
+use Rattle.memory_runs.specs.Order.{is_agent}
 use Rattle.memory_sides.specs.declared.route.Route.{Route}
 
 -- the footprint begins at a multiple of its size, within the range of an address of so many bits

@@ -5,14 +5,14 @@ use Rattle.netlist.specs.Nets.{NetValue}
 use Rattle.netlist.specs.Netlists.{Netlist}
 use Rattle.netlist.specs.Runs.{Run, Cycle, IsEndlessRun}
 use Rattle.netlist.specs.Longer.{Extends}
-use Rattle.mm_runs.specs.Views.{System, Shape, Kind}
-use Rattle.mm_runs.specs.Views.Responses.{AreCodes}
-use Rattle.mm_runs.specs.Commands.{byte_address}
-use Rattle.mm_runs.specs.Order.{is_agent}
-use Rattle.mm_machines.specs.Paths.{AnswerView}
-use Rattle.mm_machines.specs.Link.{Port}
-use Rattle.mm_parts.specs.Queue.{takes_read}
-use Rattle.mm_parts.specs.Route.{RouteState, kind_at, IsRouteMachine}
+use Rattle.memory_runs.specs.Views.{System, Shape, Kind}
+use Rattle.memory_runs.specs.Views.Responses.{AreCodes}
+use Rattle.memory_runs.specs.Commands.{byte_address}
+use Rattle.memory_runs.specs.Order.{is_agent}
+use Rattle.memory_machines.specs.Paths.{AnswerView}
+use Rattle.memory_machines.specs.Link.{Port}
+use Rattle.memory_parts.specs.Queue.{takes_read}
+use Rattle.memory_parts.specs.Route.{RouteState, kind_at, IsRouteMachine}
 use Rattle.command_nets.specs.declared.nets.CommandNets.{CommandNets}
 use Rattle.command_nets.specs.declared.nets.AnswerNets.{AnswerNets}
 use Rattle.command_nets.specs.Nets.{port_in, ShowSame}

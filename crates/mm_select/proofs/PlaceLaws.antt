@@ -4,8 +4,8 @@ use Rattle.std.proofs.lemmas.Nat.{pow-add, pow_pos, mod-pow-add, div-mul-add}
 use Rattle.std.proofs.Math.Nat.{pow-suc, mul-le-mul_left, mul-add, mul_comm, mod-add-div, mod-eq_of_lt, mod-lt, div-lt_iff_lt-mul, div-div-eq-div-mul, one-le-pow}
 use Rattle.std.proofs.Math.Pow.{mod-mod-pow}
 use Rattle.mm_select.specs.Laws.{byte_powers}
-use Rattle.mm_links.specs.Gathers.{spread}
-use Rattle.mm_links.specs.Selects.{repeated}
+use Rattle.memory_links.specs.Gathers.{spread}
+use Rattle.memory_links.specs.Selects.{repeated}
 
 -- ---- moved to a place
 

@@ -10,11 +10,11 @@ use Rattle.net_parts.specs.Laws.{net_fits, bit_fits}
 use Rattle.item_queues.specs.Storages.{shown_oldest}
 use Rattle.item_queues.specs.Queues.{owns, IsInOrder, MayMove, held_in}
 use Rattle.item_queues.specs.Laws.{held_count}
-use Rattle.mm_runs.specs.Views.{Levels, levels_at}
-use Rattle.mm_machines.specs.Link.{Target, Port}
-use Rattle.mm_machines.specs.Machines.{Raw}
-use Rattle.mm_links.specs.Links.{LinkForm, IsLink}
-use Rattle.mm_links.specs.Selects.{RunsAsSelect, IsSelectPlan, EnablesFit, select_form, selected, silenced, offset_in, takes_read, is_shut, first_of}
+use Rattle.memory_runs.specs.Views.{Levels, levels_at}
+use Rattle.memory_machines.specs.Link.{Target, Port}
+use Rattle.memory_machines.specs.Machines.{Raw}
+use Rattle.memory_links.specs.Links.{LinkForm, IsLink}
+use Rattle.memory_links.specs.Selects.{RunsAsSelect, IsSelectPlan, EnablesFit, select_form, selected, silenced, offset_in, takes_read, is_shut, first_of}
 use Rattle.command_nets.specs.declared.nets.CommandNets.{CommandNets}
 use Rattle.command_nets.specs.declared.nets.AnswerNets.{AnswerNets}
 use Rattle.command_nets.specs.Nets.{raw_in, port_in, ShowSame}

@@ -8,9 +8,9 @@ use Rattle.histories.specs.History.{is_raised}
 use Rattle.command_nets.specs.Levels.{bit_same}
 use Rattle.command_nets.specs.Nets.{Widths}
 use Rattle.iface_roles.specs.Proper.{IsWordSize}
-use Rattle.mm_runs.specs.Views.{Levels}
-use Rattle.mm_runs.specs.Commands.{byte_address}
-use Rattle.mm_links.specs.Selects.{selected, silenced, offset_in, repeated}
+use Rattle.memory_runs.specs.Views.{Levels}
+use Rattle.memory_runs.specs.Commands.{byte_address}
+use Rattle.memory_links.specs.Selects.{selected, silenced, offset_in, repeated}
 use Rattle.mm_select.specs.SelectNets.{bytes_shape}
 
 pub byte_powers : (bytes : ℕ) → 2 ^ (bytes * 8) ≡ 256 ^ bytes

@@ -5,8 +5,8 @@ ghost use Rattle.netlist.specs.Netlists.{IsNet};
 ghost use Rattle.netlist.specs.Runs.{Always};
 ghost use Rattle.net_parts.specs.Nets.{IsBit, IsNetOfWidth};
 ghost use Rattle.net_parts.specs.Growth.{AddsNets};
-ghost use Rattle.mm_links.specs.Gathers.{spread};
-ghost use Rattle.mm_links.specs.Selects.{repeated};
+ghost use Rattle.memory_links.specs.Gathers.{spread};
+ghost use Rattle.memory_links.specs.Selects.{repeated};
 
 use net_parts::{choose, constant};
 use netlist::{Builder, Net, NetFault};

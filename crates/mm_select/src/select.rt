@@ -9,7 +9,7 @@ ghost use Rattle.netlist.specs.Runs.{Always};
 ghost use Rattle.net_parts.specs.Nets.{IsBit, IsNetOfWidth};
 ghost use Rattle.net_parts.specs.Growth.{AddsNets};
 ghost use Rattle.command_nets.specs.Nets.{AreCommandNets, widths_of, raw_in};
-ghost use Rattle.mm_links.specs.Selects.{repeated};
+ghost use Rattle.memory_links.specs.Selects.{repeated};
 ghost use Rattle.item_queues.specs.Queues.{owns, owns_memories};
 ghost use Rattle.mm_select.specs.SelectNets.{IsSelectForm, SelectRuns, TakesWidths, given_widths, SelectKeeps, SelectCommand, SelectAnswer, IsSentCommand, is_asked, select_keeps_lasts, select_command_lasts, select_answer_lasts};
 
@@ -18,7 +18,7 @@ use crate::queue::{goes_now, take_oldest};
 use command_nets::{AnswerNets, CommandNets, either, lane_bits, unless};
 use item_queues::{ItemQueue, finish_queue, make_queue};
 use link_core::Link;
-use mm_links::widths::select_is_a_link;
+use memory_links::widths::select_is_a_link;
 use net_parts::{constant, is_above};
 use netlist::{Builder, Net, NetFault};
 

@@ -2,13 +2,13 @@
 use Rattle.std.proofs.Common.{ℕ, suc, ◌<◌, ◌≡◌, ◌+◌, ◌-◌, ◌*◌, ◌/◌, ◌%◌, ◌^◌, Bool, true, false, not, ◌&&◌, ◌||◌, List, [], ◌∷◌, length, map, filter, slice_get, Some, if◌then◌else◌, ◌==◌, nat_eq, arith, refl, sym, ap, ap₂, ◌∙◌}
 use Rattle.std.proofs.lemmas.List.{length-map}
 use Rattle.histories.specs.History.{is_raised, one_if, numbers}
-use Rattle.mm_runs.specs.Views.{Shape}
-use Rattle.mm_runs.specs.Views.Kind.{Reads, Writes}
-use Rattle.mm_runs.specs.Operations.{Beat, pieces}
-use Rattle.mm_runs.specs.Commands.{Burst, is_of_reads, byte_address}
-use Rattle.mm_machines.specs.Machines.{Raw, single, joined, piece_of, is_touched, or_first, beat_of, split_parts}
+use Rattle.memory_runs.specs.Views.{Shape}
+use Rattle.memory_runs.specs.Views.Kind.{Reads, Writes}
+use Rattle.memory_runs.specs.Operations.{Beat, pieces}
+use Rattle.memory_runs.specs.Commands.{Burst, is_of_reads, byte_address}
+use Rattle.memory_machines.specs.Machines.{Raw, single, joined, piece_of, is_touched, or_first, beat_of, split_parts}
 use Rattle.mm_split.specs.Pieces.{lane, has_lane, stands_at, pick, those}
-use Rattle.mm_links.specs.Splits.{pieces_asked, or_first_piece}
+use Rattle.memory_links.specs.Splits.{pieces_asked, or_first_piece}
 use Rattle.mm_split.specs.declared.sizes.Sizes.{Sizes}
 use Rattle.mm_split.specs.Parts.{IsBeatBelow, count_in, touched_of, here_of, number_of}
 use Rattle.mm_split.proofs.Masks.{those_are, those_count}

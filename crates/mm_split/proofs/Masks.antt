@@ -7,7 +7,7 @@ use Rattle.std.proofs.lemmas.Bool.{eqb-true, eqb-false, eq-eqb}
 use Rattle.std.proofs.Math.Nat.{pow-suc, mod-eq_of_lt, mul-add-mod_self_right, div-eq_of_lt}
 use Rattle.histories.specs.History.{is_raised, one_if, only_if, numbers}
 use Rattle.mm_split.specs.Pieces.{lane, is_marked, mask_of, count_of, those, or_first_mask}
-use Rattle.mm_links.specs.Splits.{or_first_piece, are_same}
+use Rattle.memory_links.specs.Splits.{or_first_piece, are_same}
 use Rattle.mm_split.proofs.Marks.{mark_is}
 
 -- ---- the mask as a number

@@ -4,7 +4,7 @@ use Rattle.std.proofs.lemmas.List.{length-append}
 use Rattle.std.proofs.lemmas.Bool.{eqb-true, eqb-false, eq-eqb, ne_eqb, ltb-true, ltb-false}
 use Rattle.histories.specs.History.{one_if, only_if}
 use Rattle.mm_split.specs.Pieces.{count_of, stands_at, pick, those}
-use Rattle.mm_links.specs.Splits.{piece_at, IsPut}
+use Rattle.memory_links.specs.Splits.{piece_at, IsPut}
 use Rattle.mm_split.proofs.Masks.{those_count}
 
 -- ---- the piece at a place

@@ -5,10 +5,10 @@ use Rattle.std.proofs.lemmas.Nat.{pow-add}
 use Rattle.std.proofs.Math.Nat.{pow-suc, mod-eq_of_lt}
 use Rattle.std.proofs.Math.Pow.{pow_mono}
 use Rattle.histories.specs.History.{one_if, only_if}
-use Rattle.mm_runs.specs.Operations.{Beat}
-use Rattle.mm_machines.specs.Machines.{single, joined}
+use Rattle.memory_runs.specs.Operations.{Beat}
+use Rattle.memory_machines.specs.Machines.{single, joined}
 use Rattle.mm_split.specs.Pieces.{lane, is_marked, mask_of, count_of, stands_at, pick, fill, those, or_first_mask}
-use Rattle.mm_links.specs.Splits.{piece_at, IsPut}
+use Rattle.memory_links.specs.Splits.{piece_at, IsPut}
 use Rattle.mm_split.proofs.Places.{put_front}
 use Rattle.mm_split.proofs.Marks.{last_of}
 use Rattle.std.proofs.lemmas.List.{length-append}

@@ -8,10 +8,10 @@ use Rattle.netlist.specs.Netlists.{Netlist}
 use Rattle.netlist.specs.Runs.{Run, cycle_of, IsEndlessRun, IsValuation}
 use Rattle.net_parts.specs.Laws.{width_fits}
 use Rattle.net_parts.specs.Groups.{values_of, all_low}
-use Rattle.mm_runs.specs.Operations.{pieces}
-use Rattle.mm_runs.specs.Commands.{shows, burst_before}
-use Rattle.mm_machines.specs.Link.{Port, takes}
-use Rattle.mm_machines.specs.Machines.{Raw, raw_at}
+use Rattle.memory_runs.specs.Operations.{pieces}
+use Rattle.memory_runs.specs.Commands.{shows, burst_before}
+use Rattle.memory_machines.specs.Link.{Port, takes}
+use Rattle.memory_machines.specs.Machines.{Raw, raw_at}
 use Rattle.command_nets.specs.declared.nets.AnswerNets.{AnswerNets}
 use Rattle.command_nets.specs.Nets.{raw_in, port_in}
 use Rattle.command_nets.specs.Groups.{is_shown, first_value}
@@ -20,11 +20,11 @@ use Rattle.mm_split.specs.declared.split.Split.{Split}
 use Rattle.mm_split.specs.declared.split.SplitKept.{SplitKept}
 use Rattle.mm_split.specs.Pieces.{lane, has_lane, is_marked, count_of, stands_at, fill, those}
 use Rattle.mm_split.specs.Parts.{shows_part, stands_whole, count_in, IsAbove, IsBeatBelow, number_of, here_of, touched_of}
-use Rattle.mm_links.specs.Splits.{SplitState, RunsAsSplit, opens, completes, piece_at, IsPut, AddsTo, split_at, asked_at, are_same}
+use Rattle.memory_links.specs.Splits.{SplitState, RunsAsSplit, opens, completes, piece_at, IsPut, AddsTo, split_at, asked_at, are_same}
 use Rattle.mm_split.specs.SplitNets.{IsSplitForm, SplitCommand, SplitAnswer}
 use Rattle.mm_split.specs.Registers.{group_of, low_group_of}
 use Rattle.mm_split.specs.Comings.{NextAre, TellsComing}
-use Rattle.mm_links.specs.Selects.{takes_read}
+use Rattle.memory_links.specs.Selects.{takes_read}
 use Rattle.mm_split.proofs.Masks.{those_or_first, same_by_masks, those_count}
 use Rattle.mm_split.proofs.Marks.{count_most, none_below}
 use Rattle.mm_split.proofs.Same.{or_first_fits, filled_by, own_piece, kept_piece, low_put}

@@ -1,7 +1,7 @@
 -- What a splitter's nets tell of the beat above, and the beat that they show below.
 use Rattle.std.specs.Prelude.{◌≡◌, ℕ, suc, ◌+◌, ◌-◌, ◌*◌, ◌/◌, ◌^◌, Bool, not, ◌&&◌, ◌||◌, if◌then◌else◌, nat_eq, nat_lt, ◌==◌}
 use Rattle.histories.specs.History.{is_raised, one_if}
-use Rattle.mm_machines.specs.Machines.{Raw}
+use Rattle.memory_machines.specs.Machines.{Raw}
 use Rattle.command_nets.specs.Groups.{is_shown}
 use Rattle.mm_split.specs.Pieces.{lane, is_marked, has_lane, mask_of, count_of, stands_at, pick, or_first_mask}
 use Rattle.mm_split.specs.declared.sizes.Sizes.{Sizes}

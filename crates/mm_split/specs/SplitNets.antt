@@ -6,8 +6,8 @@ use Rattle.netlist.specs.Netlists.{Netlist, IsWaiting}
 use Rattle.netlist.specs.Runs.{Always}
 use Rattle.netlist.specs.Longer.{Extends}
 use Rattle.net_parts.specs.Groups.{StartAllLow, TakeAllNext}
-use Rattle.mm_machines.specs.Link.{Target, Port}
-use Rattle.mm_machines.specs.Machines.{MaySplit}
+use Rattle.memory_machines.specs.Link.{Target, Port}
+use Rattle.memory_machines.specs.Machines.{MaySplit}
 use Rattle.command_nets.specs.declared.nets.CommandNets.{CommandNets}
 use Rattle.command_nets.specs.declared.nets.AnswerNets.{AnswerNets}
 use Rattle.command_nets.specs.Nets.{Widths, AreCommandNets, raw_in}
@@ -23,7 +23,7 @@ use Rattle.mm_split.specs.Sizes.{AreSplitSizes, AreSizes}
 use Rattle.mm_split.specs.Registers.{group_of, low_group_of, owns, AreRegisterNets, AreRegisters, register_nets_last, registers_last}
 use Rattle.mm_split.specs.Told.{ArePartNets, IsPart, part_lasts}
 use Rattle.mm_split.specs.Comings.{is_done, TellsComing, NextAre}
-use Rattle.mm_links.specs.Splits.{SplitState, RunsAsSplit, split_form}
+use Rattle.memory_links.specs.Splits.{SplitState, RunsAsSplit, split_form}
 
 -- wide words of the splitter's size, whose bytes are addressed, and narrow ones of the agent's size
 pub record IsSplitForm (split : Split) (form : Form) : Type 0 where

@@ -11,7 +11,7 @@ use crate::registers::{SplitRegisters, hold};
 use crate::sizes::Sizes;
 use command_nets::{AnswerNets, CommandNets, both};
 use link_core::Link;
-use mm_links::widths::split_is_a_link;
+use memory_links::widths::split_is_a_link;
 use net_parts::set_all_next;
 use netlist::{Builder, Net, NetFault};
 

@@ -12,20 +12,20 @@ use Rattle.netlist.specs.Netlists.{Netlist}
 use Rattle.netlist.specs.Runs.{Run, IsEndlessRun, cycle_of}
 use Rattle.netlist.specs.Longer.{Extends}
 use Rattle.net_parts.specs.Laws.{extends_twice}
-use Rattle.mm_machines.specs.Link.{Target, Port}
-use Rattle.mm_links.specs.Cutters.{IsCutPlan, IsTouchPlan, reach_longest, reach_words, cut_form}
-use Rattle.mm_links.specs.Drops.{drop_form}
-use Rattle.mm_links.specs.Gathers.{GatherState, RunsAsGather, IsGatherPlan, gather_form}
-use Rattle.mm_links.specs.Links.{pass_form}
-use Rattle.mm_links.specs.Selects.{RunsAsSelect, IsSelectPlan, select_form}
-use Rattle.mm_links.specs.Splits.{SplitState, RunsAsSplit, split_form}
-use Rattle.mm_machines.specs.Machines.{MaySplit}
-use Rattle.mm_awake.specs.Rows.{IsWired, CutsBursts, FitsWords, DropsBeats, CutsAtWords, GathersBelowCut, drops_some}
-use Rattle.mm_awake.specs.Rows.CutsBursts.{cutter, no_cutter}
-use Rattle.mm_awake.specs.Rows.FitsWords.{selector, gatherer, splitter, no_width}
-use Rattle.mm_awake.specs.Rows.DropsBeats.{dropper, no_dropper}
-use Rattle.mm_packed.specs.Packed.{RowPacks}
-use Rattle.mm_runs.specs.Commands.{longest_burst}
+use Rattle.memory_machines.specs.Link.{Target, Port}
+use Rattle.memory_links.specs.Cutters.{IsCutPlan, IsTouchPlan, reach_longest, reach_words, cut_form}
+use Rattle.memory_links.specs.Drops.{drop_form}
+use Rattle.memory_links.specs.Gathers.{GatherState, RunsAsGather, IsGatherPlan, gather_form}
+use Rattle.memory_links.specs.Links.{pass_form}
+use Rattle.memory_links.specs.Selects.{RunsAsSelect, IsSelectPlan, select_form}
+use Rattle.memory_links.specs.Splits.{SplitState, RunsAsSplit, split_form}
+use Rattle.memory_machines.specs.Machines.{MaySplit}
+use Rattle.memory_awake.specs.Rows.{IsWired, CutsBursts, FitsWords, DropsBeats, CutsAtWords, GathersBelowCut, drops_some}
+use Rattle.memory_awake.specs.Rows.CutsBursts.{cutter, no_cutter}
+use Rattle.memory_awake.specs.Rows.FitsWords.{selector, gatherer, splitter, no_width}
+use Rattle.memory_awake.specs.Rows.DropsBeats.{dropper, no_dropper}
+use Rattle.memory_packed.specs.Packed.{RowPacks}
+use Rattle.memory_runs.specs.Commands.{longest_burst}
 use Rattle.command_nets.specs.declared.nets.CommandNets.{CommandNets}
 use Rattle.command_nets.specs.declared.nets.AnswerNets.{AnswerNets}
 use Rattle.command_nets.specs.Nets.{port_in}

@@ -2,17 +2,17 @@
 use Rattle.std.proofs.Common.{◌≡◌, ℕ, zero, suc, ◌<◌, ◌&&◌, ◌||◌, Bool, true, false, if◌then◌else◌, List, [], ◌∷◌, length, Some, slice_get, nat_eq, nat_lt, refl, sym, subst, ap, ◌∙◌, arith}
 use Rattle.std.proofs.lemmas.Bool.{ltb-true}
 use Rattle.histories.specs.History.{is_raised}
-use Rattle.mm_runs.specs.Operations.{Beat}
-use Rattle.mm_runs.specs.Views.{Levels}
-use Rattle.mm_runs.specs.Commands.{shows}
-use Rattle.mm_machines.specs.Link.{Port, takes}
-use Rattle.mm_machines.specs.Machines.{Raw, raw_at, joined}
-use Rattle.mm_links.specs.Cutters.{Reach, Rest, CutterState, RunsAsCutter, is_sending, read_burst_of, write_of_burst, first_burst, whole_read, behind_burst}
-use Rattle.mm_links.specs.Drops.{DropState, RunsAsDrop, keeps, sent_beat, standing_at}
-use Rattle.mm_links.specs.Gathers.{GatherState, RunsAsGather}
-use Rattle.mm_links.specs.Gathers as gathers
-use Rattle.mm_links.specs.Selects.{RunsAsSelect, is_shut, takes_read}
-use Rattle.mm_links.specs.Splits.{SplitState, RunsAsSplit, split_at, opens}
+use Rattle.memory_runs.specs.Operations.{Beat}
+use Rattle.memory_runs.specs.Views.{Levels}
+use Rattle.memory_runs.specs.Commands.{shows}
+use Rattle.memory_machines.specs.Link.{Port, takes}
+use Rattle.memory_machines.specs.Machines.{Raw, raw_at, joined}
+use Rattle.memory_links.specs.Cutters.{Reach, Rest, CutterState, RunsAsCutter, is_sending, read_burst_of, write_of_burst, first_burst, whole_read, behind_burst}
+use Rattle.memory_links.specs.Drops.{DropState, RunsAsDrop, keeps, sent_beat, standing_at}
+use Rattle.memory_links.specs.Gathers.{GatherState, RunsAsGather}
+use Rattle.memory_links.specs.Gathers as gathers
+use Rattle.memory_links.specs.Selects.{RunsAsSelect, is_shut, takes_read}
+use Rattle.memory_links.specs.Splits.{SplitState, RunsAsSplit, split_at, opens}
 use Rattle.link_core.specs.Lines.{with_tag}
 
 -- what is shown bears the tag that is above in that cycle

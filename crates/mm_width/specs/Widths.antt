@@ -8,15 +8,15 @@ use Rattle.netlist.specs.Nets.{NetValue}
 use Rattle.netlist.specs.Netlists.{Netlist, IsWaiting, WaitsForWrite}
 use Rattle.netlist.specs.Runs.{Run, IsEndlessRun}
 use Rattle.netlist.specs.Longer.{Extends}
-use Rattle.mm_runs.specs.Views.{Shape}
-use Rattle.mm_machines.specs.Link.{Target, Port}
-use Rattle.mm_awake.specs.Rows.{CutsBursts, FitsWords, DropsBeats, GathersBelowCut, drops_some}
+use Rattle.memory_runs.specs.Views.{Shape}
+use Rattle.memory_machines.specs.Link.{Target, Port}
+use Rattle.memory_awake.specs.Rows.{CutsBursts, FitsWords, DropsBeats, GathersBelowCut, drops_some}
 use Rattle.command_nets.specs.declared.nets.CommandNets.{CommandNets}
 use Rattle.command_nets.specs.declared.nets.AnswerNets.{AnswerNets}
 use Rattle.command_nets.specs.Nets.{port_in}
 use Rattle.link_core.specs.declared.row.Begun.{Begun}
 use Rattle.link_core.specs.Rows.{IsBegun, AreBegun, IsOfOne}
-use Rattle.mm_packed.specs.Packed.{RowPacks}
+use Rattle.memory_packed.specs.Packed.{RowPacks}
 pub use Rattle.mm_width.specs.Kept.{WidthKept, owns_width, stores_width}
 use Rattle.mm_width.specs.Kept.{WidthKeeps, WidthCommand, keeps_lasts, command_lasts}
 pub use Rattle.mm_width.specs.Links.{Width, width_of}

@@ -6,7 +6,7 @@ use Rattle.system_tables.specs.Tables.{SystemTable}
 use Rattle.netlist.specs.Netlists.{Netlist}
 use Rattle.netlist.specs.Runs.{Run}
 use Rattle.histories.specs.History.{one_if}
-use Rattle.mm_runs.specs.Views.{Levels, AgentView}
+use Rattle.memory_runs.specs.Views.{Levels, AgentView}
 use Rattle.port_tables.specs.declared.roles.PortRole.TheVariants as role
 use Rattle.port_tables.specs.Ports.{bits_if}
 use Rattle.port_tables.specs.PortMaps.{port_at}

@@ -3,7 +3,7 @@ use Rattle.std.specs.Prelude.{◌*◌, List, [], ◌∷◌}
 use Rattle.iface_roles.specs.declared.records.HostPort.{HostPort}
 use Rattle.system_tables.specs.declared.tables.EndId.{EndId}
 use Rattle.system_tables.specs.Tables.{SystemTable}
-use Rattle.mm_runs.specs.Views.{Levels}
+use Rattle.memory_runs.specs.Views.{Levels}
 use Rattle.port_tables.specs.declared.roles.PortRole.TheVariants as role
 use Rattle.port_tables.specs.Ports.{bits_if}
 use Rattle.port_tables.specs.PortMaps.{port_at}

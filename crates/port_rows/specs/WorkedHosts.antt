@@ -1,7 +1,7 @@
 -- A small host, for the rows that show what the definitions say.
 use Rattle.std.specs.Prelude.{List, [], ◌∷◌, Some, None}
 use Rattle.av_base.specs.Word.{Word, word}
-use Rattle.mm_runs.specs.Views.{Levels}
+use Rattle.memory_runs.specs.Views.{Levels}
 use Rattle.port_rows.specs.declared.host_ends.places.HostPlaces.{HostPlaces}
 
 -- it writes alone, and has address, write and writedata in this order

@@ -4,4 +4,4 @@ pub mod PortForms
 pub mod Headers
 pub mod Signals
 pub mod PortPlaces
-pub mod StreamLinks
+pub mod StreamConnections

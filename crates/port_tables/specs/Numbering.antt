@@ -17,9 +17,9 @@ use Rattle.system_tables.specs.Tables.{SystemTable, IsEnd, IsLogic, Joins}
 use Rattle.address_map.specs.Ends.{is_same_end, each_once}
 use Rattle.address_map.specs.Footprints.{known_at}
 use Rattle.address_map.specs.Maps.{is_mm, mm_connections, hosts_of, agents_of}
-use Rattle.link_rules.specs.declared.plan_links.StreamLink.{StreamLink}
+use Rattle.link_rules.specs.declared.plan_connections.StreamConnection.{StreamConnection}
 use Rattle.link_rules.specs.Links.{is_stream, streams_of}
-use Rattle.link_rules.specs.PlanLinks.{IsStreamLink}
+use Rattle.link_rules.specs.PlanConnections.{IsStreamConnection}
 use Rattle.port_tables.specs.Ports.{connection_ends, ends_of}
 use Rattle.port_tables.specs.Ends.{IsNarrow, IsPlanEnd, ArePlanEnds, IsStreamPlace}
 use Rattle.port_tables.specs.EndFacts.{AreNarrow, IsPlanned, known_is}
@@ -395,13 +395,13 @@ are_ends system number connection at (suc (suc k)) end e = absurd (let n : None 
 -- ---- streams by their numbers
 
 -- the stream of a link: its connection, whose ends are the link's
-pub record IsStreamOf (system : SystemTable) (number : ℕ) (link : StreamLink) : Type 0 where
+pub record IsStreamOf (system : SystemTable) (number : ℕ) (link : StreamConnection) : Type 0 where
   pub connection : Connection
   pub place : IsStreamPlace system number connection
   pub start : connection.start ≡ link.source_end
   pub end : connection.end ≡ link.sink_end
 
-pub link_stream : (system : SystemTable) (number : ℕ) (link : StreamLink) → IsPlanned system → IsStreamLink system number link → IsStreamOf system number link
+pub link_stream : (system : SystemTable) (number : ℕ) (link : StreamConnection) → IsPlanned system → IsStreamConnection system number link → IsStreamOf system number link
 link_stream system number link h l =
     let at = stream_at system link.connection l.connection h l.connection_is l.kind in
     record {

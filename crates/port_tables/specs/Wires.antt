@@ -7,7 +7,7 @@ use Rattle.system_tables.specs.declared.tables.Connection.{Connection}
 use Rattle.system_tables.specs.Tables.{SystemTable}
 use Rattle.address_map.specs.Footprints.{known_at}
 use Rattle.link_rules.specs.Links.{streams_of}
-use Rattle.link_rules.specs.declared.plan_links.StreamLink.{StreamLink}
+use Rattle.link_rules.specs.declared.plan_connections.StreamConnection.{StreamConnection}
 use Rattle.stream_runs.specs.Ends.{Declared}
 use Rattle.st_timing.specs.Ends.{declared}
 
@@ -40,7 +40,7 @@ abbrev pub is_wire : SystemTable → Connection → Bool
 is_wire system connection = is_wire_as connection.fifo (known_at system connection.start) (known_at system connection.end)
 
 -- the link is a wire
-abbrev pub is_wire_link : StreamLink → Bool
+abbrev pub is_wire_link : StreamConnection → Bool
 is_wire_link link = is_wire_stream (declared link.source) (declared link.sink) link.fifo
 
 -- the connection of this number is a stream that is a wire

@@ -79,7 +79,7 @@ fn push_streams(entries: &mut List<PortEntry>, plan: &Plan) -> Result<(), NoMemo
 {
     plan.well_made();
     streams_are_numbered();
-    for link in plan.stream_links() {
+    for link in plan.stream_connections() {
         push_ends(entries, plan, &[link.source_end, link.sink_end])?;
     }
     Ok(())
@@ -103,7 +103,7 @@ fn sinks(alloc: Global, plan: &Plan) -> Result<List<EndId>, NoMemory>
     plan.well_made();
     streams_are_numbered();
     let mut sinks = List::new(alloc);
-    for link in plan.stream_links() {
+    for link in plan.stream_connections() {
         sinks.push(link.sink_end)?;
     }
     Ok(sinks)

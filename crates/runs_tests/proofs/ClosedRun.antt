@@ -3,13 +3,13 @@ use Rattle.std.proofs.Common.{ℕ, suc, ◌<◌, ◌≤◌, ◌-◌, arith, refl
 use Rattle.std.specs.Bool.{⊤}
 use Rattle.histories.specs.Below.{each_below, each_cycle_host}
 use Rattle.histories.specs.History.{IsPrefix, is_raised}
-use Rattle.mm_runs.specs.Views.{Run}
-use Rattle.mm_runs.specs.Views.Responses.{AreZero}
-use Rattle.mm_runs.specs.Commands.{agent_accepts, is_held, words_before}
-use Rattle.mm_runs.specs.Legal.{IsProperAtAgent, IsProperAtHost, is_under_way, host_accepts, gives_word, given, unanswered, words_asked}
-use Rattle.mm_runs.specs.Operations.{bytes_read}
-use Rattle.mm_runs.specs.Order.{ActsAsMemory, ServesInGrantedOrder, ReturnsInCommandOrder, IsWordOf, KeepsReadOrder, answers, asked, taken, of_host, issued, is_agent, is_joined, owners_taken, are_together, beats_taken, words_covered, untaken}
-use Rattle.mm_runs.specs.Whole.{IsSafe}
+use Rattle.memory_runs.specs.Views.{Run}
+use Rattle.memory_runs.specs.Views.Responses.{AreZero}
+use Rattle.memory_runs.specs.Commands.{agent_accepts, is_held, words_before}
+use Rattle.memory_runs.specs.Legal.{IsProperAtAgent, IsProperAtHost, is_under_way, host_accepts, gives_word, given, unanswered, words_asked}
+use Rattle.memory_runs.specs.Operations.{bytes_read}
+use Rattle.memory_runs.specs.Order.{ActsAsMemory, ServesInGrantedOrder, ReturnsInCommandOrder, IsWordOf, KeepsReadOrder, answers, asked, taken, of_host, issued, is_agent, is_joined, owners_taken, are_together, beats_taken, words_covered, untaken}
+use Rattle.memory_runs.specs.Whole.{IsSafe}
 use Rattle.runs_tests.specs.ClosedRun.{closed_system as sys, closed_run, first_contents, right_words}
 
 abbrev run : Run

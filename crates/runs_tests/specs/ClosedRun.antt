@@ -1,6 +1,6 @@
 -- A run of a host and an agent, in which the agent gives what was written.
 use Rattle.std.specs.Prelude.{ℕ, true, false, Some, [], ◌∷◌, List, slice_index}
-use Rattle.mm_runs.specs.Views.{Signals, Shape, System, Run}
+use Rattle.memory_runs.specs.Views.{Signals, Shape, System, Run}
 
 abbrev pub signal : List ℕ → ℕ → ℕ
 signal values cycle = slice_index values cycle

@@ -1,10 +1,10 @@
 //! A run in which an agent acts as memory, and near it some in which it doesn't.
 
 ghost use Rattle.std.specs.Prelude.{◌≡◌, ℕ, ◌∷◌, []};
-ghost use Rattle.mm_runs.specs.Legal.{given};
-ghost use Rattle.mm_runs.specs.Order.{ActsAsMemory, ReadsFromMemory, ReturnsInCommandOrder};
-ghost use Rattle.mm_runs.specs.Views.Responses.{AreZero};
-ghost use Rattle.mm_runs.specs.Whole.{IsLegalRun, IsSafe};
+ghost use Rattle.memory_runs.specs.Legal.{given};
+ghost use Rattle.memory_runs.specs.Order.{ActsAsMemory, ReadsFromMemory, ReturnsInCommandOrder};
+ghost use Rattle.memory_runs.specs.Views.Responses.{AreZero};
+ghost use Rattle.memory_runs.specs.Whole.{IsLegalRun, IsSafe};
 ghost use Rattle.runs_tests.specs.ClosedRun.{closed_system, closed_run, first_contents, right_words, late_words, wide_words};
 
 /// The hosts and agents are legal, the agent acts as memory, and the host is given what the writes before its reads have left.

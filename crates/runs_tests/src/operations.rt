@@ -1,6 +1,6 @@
 //! Byte operations of beats, bursts and footprints.
 
-use mm_runs::{
+use memory_runs::{
     BeatValue, ByteOperation, End, Transfer, filled_lanes, footprint, longest_burst, operations_of,
     own_operations,
 };

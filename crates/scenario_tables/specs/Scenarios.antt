@@ -7,8 +7,8 @@ use Rattle.system_tables.specs.declared.tables.EndId.{EndId}
 use Rattle.system_tables.specs.Tables.{SystemTable}
 use Rattle.address_map.specs.Footprints.{known_at}
 use Rattle.address_map.specs.Maps.{hosts_of, agents_of}
-use Rattle.link_rules.specs.declared.plan_links.StreamLink.{StreamLink}
-use Rattle.link_rules.specs.PlanLinks.{stream_links}
+use Rattle.link_rules.specs.declared.plan_connections.StreamConnection.{StreamConnection}
+use Rattle.link_rules.specs.PlanConnections.{stream_connections}
 use Rattle.scenario_tables.specs.declared.statements.HostStatement.{HostStatement}
 use Rattle.scenario_tables.specs.declared.statements.AgentStatement.{AgentStatement}
 use Rattle.scenario_tables.specs.declared.statements.SourceStatement.{SourceStatement}
@@ -33,9 +33,9 @@ pub record IsScenario (system : SystemTable) (scenario : Scenario) : Type 0 wher
   pub few : scenario.cycles ≤ 65536
   pub hosts : length scenario.hosts ≡ length (hosts_of system)
   pub agents : length scenario.agents ≡ length (agents_of system)
-  pub sources : length scenario.sources ≡ length (stream_links system)
-  pub sinks : length scenario.sinks ≡ length (stream_links system)
+  pub sources : length scenario.sources ≡ length (stream_connections system)
+  pub sinks : length scenario.sinks ≡ length (stream_connections system)
   pub at_hosts : (h : ℕ) (port : HostPort) (script : List HostStatement) → IsHostAt system h port → slice_get scenario.hosts h ≡ Some script → IsHostScript port script
   pub at_agents : (a : ℕ) (port : AgentPort) (script : List AgentStatement) → IsAgentAt system a port → slice_get scenario.agents a ≡ Some script → IsAgentScript port script
-  pub at_sources : (s : ℕ) (link : StreamLink) (script : List SourceStatement) → slice_get (stream_links system) s ≡ Some link → slice_get scenario.sources s ≡ Some script → IsSourceScript link.source script
-  pub at_sinks : (s : ℕ) (link : StreamLink) (script : List Pattern) → slice_get (stream_links system) s ≡ Some link → slice_get scenario.sinks s ≡ Some script → IsSinkScript link.sink script
+  pub at_sources : (s : ℕ) (link : StreamConnection) (script : List SourceStatement) → slice_get (stream_connections system) s ≡ Some link → slice_get scenario.sources s ≡ Some script → IsSourceScript link.source script
+  pub at_sinks : (s : ℕ) (link : StreamConnection) (script : List Pattern) → slice_get (stream_connections system) s ≡ Some link → slice_get scenario.sinks s ≡ Some script → IsSinkScript link.sink script

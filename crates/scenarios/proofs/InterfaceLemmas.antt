@@ -14,8 +14,8 @@ use Rattle.system_tables.specs.declared.tables.EndId.{EndId}
 use Rattle.system_tables.specs.Tables.{SystemTable, IsEnd}
 use Rattle.address_map.specs.Footprints.{known_at}
 use Rattle.address_map.specs.Maps.{hosts_of, agents_of}
-use Rattle.link_rules.specs.declared.plan_links.StreamLink.{StreamLink}
-use Rattle.link_rules.specs.PlanLinks.{stream_links, IsStreamLink, IsHostEnd, IsAgentEnd}
+use Rattle.link_rules.specs.declared.plan_connections.StreamConnection.{StreamConnection}
+use Rattle.link_rules.specs.PlanConnections.{stream_connections, IsStreamConnection, IsHostEnd, IsAgentEnd}
 use Rattle.scenarios.specs.declared.interfaces.Named.{Named}
 use Rattle.scenarios.specs.Interfaces.{IsNamed, place_of, as_host, host_at, host_named, as_agent, agent_at, agent_named, stream_end, stream_port}
 use Rattle.scenarios.proofs.EndLemmas.{known_is, same_known}
@@ -62,25 +62,25 @@ agent_record system ends word known are h all =
     record { agent = one.agent; is = same; proper = subst IsProper (sym same) one.proper }
 
 -- each link of a plan is that of its stream
-pub record AreLinks (system : SystemTable) (links : List StreamLink) : Type 0 where
-  pub are : links ≡ stream_links system
-  pub each : (number : ℕ) (link : StreamLink) → slice_get (stream_links system) number ≡ Some link → IsStreamLink system number link
+pub record AreLinks (system : SystemTable) (links : List StreamConnection) : Type 0 where
+  pub are : links ≡ stream_connections system
+  pub each : (number : ℕ) (link : StreamConnection) → slice_get (stream_connections system) number ≡ Some link → IsStreamConnection system number link
 
-link_there : (system : SystemTable) (links : List StreamLink) (k : ℕ) (d : StreamLink) → AreLinks system links → k < length links → IsStreamLink system k (get_or links k d)
+link_there : (system : SystemTable) (links : List StreamConnection) (k : ℕ) (d : StreamConnection) → AreLinks system links → k < length links → IsStreamConnection system k (get_or links k d)
 link_there system links k d h less = h.each k (get_or links k d) (ap (λ ls. slice_get ls k) (sym h.are) ∙ slice_get-get_or links k d less)
 
-known_on : (system : SystemTable) (side : Side) (number : ℕ) (link : StreamLink) → IsStreamLink system number link → (known : Finished) × IsEnd system (stream_end side link) known
+known_on : (system : SystemTable) (side : Side) (number : ℕ) (link : StreamConnection) → IsStreamConnection system number link → (known : Finished) × IsEnd system (stream_end side link) known
 known_on system Start number link h = (Source link.source, h.source)
 known_on system End number link h = (Sink link.sink, h.sink)
 
-pub stream_known : (system : SystemTable) (side : Side) (links : List StreamLink) (k : ℕ) (d : StreamLink) → AreLinks system links → k < length links → (known : Finished) × IsEnd system (stream_end side (get_or links k d)) known
+pub stream_known : (system : SystemTable) (side : Side) (links : List StreamConnection) (k : ℕ) (d : StreamConnection) → AreLinks system links → k < length links → (known : Finished) × IsEnd system (stream_end side (get_or links k d)) known
 stream_known system side links k d h less = known_on system side k (get_or links k d) (link_there system links k d h less)
 
-bounded_on : (system : SystemTable) (side : Side) (number : ℕ) (link : StreamLink) → ((port : StreamPort) → IsProper (Source port) → IsBoundedStream port) → ((port : StreamPort) → IsProper (Sink port) → IsBoundedStream port)
-    → IsStreamLink system number link → IsBoundedStream (stream_port side link)
+bounded_on : (system : SystemTable) (side : Side) (number : ℕ) (link : StreamConnection) → ((port : StreamPort) → IsProper (Source port) → IsBoundedStream port) → ((port : StreamPort) → IsProper (Sink port) → IsBoundedStream port)
+    → IsStreamConnection system number link → IsBoundedStream (stream_port side link)
 bounded_on system Start number link source sink h = source link.source h.source_proper
 bounded_on system End number link source sink h = sink link.sink h.sink_proper
 
-pub stream_bounded : (system : SystemTable) (side : Side) (links : List StreamLink) (k : ℕ) (d : StreamLink) → ((port : StreamPort) → IsProper (Source port) → IsBoundedStream port)
+pub stream_bounded : (system : SystemTable) (side : Side) (links : List StreamConnection) (k : ℕ) (d : StreamConnection) → ((port : StreamPort) → IsProper (Source port) → IsBoundedStream port)
     → ((port : StreamPort) → IsProper (Sink port) → IsBoundedStream port) → AreLinks system links → k < length links → IsBoundedStream (stream_port side (get_or links k d))
 stream_bounded system side links k d source sink h less = bounded_on system side k (get_or links k d) source sink (link_there system links k d h less)

@@ -13,8 +13,8 @@ use Rattle.system_tables.specs.declared.tables.EndId.{EndId}
 use Rattle.system_tables.specs.Tables.{SystemTable}
 use Rattle.address_map.specs.Footprints.{known_at}
 use Rattle.address_map.specs.Maps.{hosts_of, agents_of}
-use Rattle.link_rules.specs.declared.plan_links.StreamLink.{StreamLink}
-use Rattle.link_rules.specs.PlanLinks.{stream_links}
+use Rattle.link_rules.specs.declared.plan_connections.StreamConnection.{StreamConnection}
+use Rattle.link_rules.specs.PlanConnections.{stream_connections}
 use Rattle.scenario_tables.specs.declared.statements.HostStatement.{HostStatement}
 use Rattle.scenario_tables.specs.declared.statements.AgentStatement.{AgentStatement}
 use Rattle.scenario_tables.specs.declared.statements.AgentStatement.TheVariants.{Stall, Latency}
@@ -35,8 +35,8 @@ pub record AreFitting (system : SystemTable) (so_far : SoFar) : Type 0 where
   pub cycles : (n : ℕ) → so_far.cycles ≡ Some n → IsRest n
   pub hosts : (h : ℕ) (port : HostPort) (script : List HostStatement) → IsHostAt system h port → slice_get so_far.hosts h ≡ Some script → IsHostScript port script
   pub agents : (a : ℕ) (port : AgentPort) (script : List AgentStatement) → IsAgentAt system a port → slice_get so_far.agents a ≡ Some script → IsAgentScript port script
-  pub sources : (s : ℕ) (link : StreamLink) (script : List SourceStatement) → slice_get (stream_links system) s ≡ Some link → slice_get so_far.sources s ≡ Some script → IsSourceScript link.source script
-  pub sinks : (s : ℕ) (link : StreamLink) (script : List Pattern) → slice_get (stream_links system) s ≡ Some link → slice_get so_far.sinks s ≡ Some script → IsSinkScript link.sink script
+  pub sources : (s : ℕ) (link : StreamConnection) (script : List SourceStatement) → slice_get (stream_connections system) s ≡ Some link → slice_get so_far.sources s ≡ Some script → IsSourceScript link.source script
+  pub sinks : (s : ℕ) (link : StreamConnection) (script : List Pattern) → slice_get (stream_connections system) s ≡ Some link → slice_get so_far.sinks s ≡ Some script → IsSinkScript link.sink script
 
 -- ---- what is named is there, by its number
 
@@ -62,7 +62,7 @@ agent_is system word agent e = at_number (agent_at system) _ agent (λ n. number
 
 pub stream_is : (system : SystemTable) (side : Side) (word : List ℕ) (stream : Named StreamPort) → stream_named system side word ≡ Some stream → stream_at system side stream.number ≡ Some stream
 unfolding stream_named
-stream_is system side word stream e = at_number (stream_at system side) _ stream (λ n. number_is n (λ (link : StreamLink). Some (stream_port side link)) (slice_get (stream_links system) n) stream) e
+stream_is system side word stream e = at_number (stream_at system side) _ stream (λ n. number_is n (λ (link : StreamConnection). Some (stream_port side link)) (slice_get (stream_connections system) n) stream) e
 
 -- ---- with its record
 
@@ -75,9 +75,9 @@ host_port system n host port at e is = same_port (host_at system) n host port at
 agent_port : (system : SystemTable) (n : ℕ) (agent : Named AgentPort) (port : AgentPort) → agent_at system agent.number ≡ Some agent → n ≡ agent.number → IsAgentAt system n port → agent.port ≡ port
 agent_port system n agent port at e is = same_port (agent_at system) n agent port at e (ap (option_and_then (λ (end : EndId). as_agent n (known_at system end))) is.end_is ∙ ap (as_agent n) is.is)
 
-own_port : (system : SystemTable) (side : Side) (n : ℕ) (stream : Named StreamPort) (link : StreamLink) → stream_at system side stream.number ≡ Some stream → n ≡ stream.number → slice_get (stream_links system) n ≡ Some link
+own_port : (system : SystemTable) (side : Side) (n : ℕ) (stream : Named StreamPort) (link : StreamConnection) → stream_at system side stream.number ≡ Some stream → n ≡ stream.number → slice_get (stream_connections system) n ≡ Some link
     → stream.port ≡ stream_port side link
-own_port system side n stream link at e is = same_port (stream_at system side) n stream (stream_port side link) at e (ap (option_and_then (λ (l : StreamLink). numbered n (Some (stream_port side l)))) is)
+own_port system side n stream link at e is = same_port (stream_at system side) n stream (stream_port side link) at e (ap (option_and_then (λ (l : StreamConnection). numbered n (Some (stream_port side l)))) is)
 
 -- ---- one script grows, and stays a script of its port
 
@@ -124,8 +124,8 @@ agent_more system so_far agent statement h at more = record {
 }
 
 -- the link of a stream
-abbrev IsLinkAt : SystemTable → ℕ → StreamLink → Type 0
-IsLinkAt system n link = slice_get (stream_links system) n ≡ Some link
+abbrev IsLinkAt : SystemTable → ℕ → StreamConnection → Type 0
+IsLinkAt system n link = slice_get (stream_connections system) n ≡ Some link
 
 pub source_more : (system : SystemTable) (so_far : SoFar) (source : Named StreamPort) (statement : SourceStatement) → AreFitting system so_far → stream_at system Start source.number ≡ Some source
     → (IsSourceScript source.port (script_at source.number so_far.sources) → IsSourceScript source.port (script_at source.number so_far.sources ++ statement ∷ []))

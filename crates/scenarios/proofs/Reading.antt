@@ -4,7 +4,7 @@ use Rattle.std.proofs.lemmas.List.{length-replicate}
 use Rattle.std.proofs.lemmas.Option.{same_Some}
 use Rattle.system_tables.specs.Tables.{SystemTable}
 use Rattle.address_map.specs.Maps.{hosts_of, agents_of}
-use Rattle.link_rules.specs.PlanLinks.{stream_links}
+use Rattle.link_rules.specs.PlanConnections.{stream_connections}
 use Rattle.waves.specs.Cuts.{line_feed, longer_first, pieces, ended, lines}
 use Rattle.scenario_tables.specs.declared.scenario.Scenario.{Scenario}
 use Rattle.scenario_tables.specs.Statements.{IsHostScript, IsAgentScript, IsSourceScript, IsSinkScript}
@@ -69,8 +69,8 @@ blank_fits system = record {
   cycles = λ n e. absurd (let wrong = e in cc);
   hosts = λ h port script is there. subst (IsHostScript port) (sym (replicated (length (hosts_of system)) h [] script there)) (no_host_script port);
   agents = λ a port script is there. subst (IsAgentScript port) (sym (replicated (length (agents_of system)) a [] script there)) (no_agent_script port);
-  sources = λ s link script is there. subst (IsSourceScript link.source) (sym (replicated (length (stream_links system)) s [] script there)) (no_source_script link.source);
-  sinks = λ s link script is there. subst (IsSinkScript link.sink) (sym (replicated (length (stream_links system)) s [] script there)) (no_sink_script link.sink);
+  sources = λ s link script is there. subst (IsSourceScript link.source) (sym (replicated (length (stream_connections system)) s [] script there)) (no_source_script link.source);
+  sinks = λ s link script is there. subst (IsSinkScript link.sink) (sym (replicated (length (stream_connections system)) s [] script there)) (no_sink_script link.sink);
 }
 
 pub before_lines : (system : SystemTable) (bytes : List ℕ) → IsReadTo system bytes 1 (blank system) (lines bytes)

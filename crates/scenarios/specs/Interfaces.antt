@@ -12,8 +12,8 @@ use Rattle.system_tables.specs.declared.tables.EndId.{EndId}
 use Rattle.system_tables.specs.Tables.{SystemTable, IsEnd}
 use Rattle.address_map.specs.Footprints.{known_at}
 use Rattle.address_map.specs.Maps.{hosts_of, agents_of}
-use Rattle.link_rules.specs.declared.plan_links.StreamLink.{StreamLink}
-use Rattle.link_rules.specs.PlanLinks.{stream_links}
+use Rattle.link_rules.specs.declared.plan_connections.StreamConnection.{StreamConnection}
+use Rattle.link_rules.specs.PlanConnections.{stream_connections}
 use Rattle.map_text.specs.Text.{end_name}
 use Rattle.scenarios.specs.declared.interfaces.Named.{Named}
 
@@ -63,17 +63,17 @@ unfoldable pub agent_named : SystemTable → List ℕ → Option (Named AgentPor
 agent_named system word = option_and_then (agent_at system) (place_of system (agents_of system) word)
 
 -- the end of a stream on a side, and the record there
-abbrev pub stream_end : Side → StreamLink → EndId
+abbrev pub stream_end : Side → StreamConnection → EndId
 stream_end Start link = link.source_end
 stream_end End link = link.sink_end
 
-abbrev pub stream_port : Side → StreamLink → StreamPort
+abbrev pub stream_port : Side → StreamConnection → StreamPort
 stream_port Start link = link.source
 stream_port End link = link.sink
 
 abbrev pub stream_at : SystemTable → Side → ℕ → Option (Named StreamPort)
-stream_at system side number = option_and_then (λ link. numbered number (Some (stream_port side link))) (slice_get (stream_links system) number)
+stream_at system side number = option_and_then (λ link. numbered number (Some (stream_port side link))) (slice_get (stream_connections system) number)
 
 -- the source, or the sink, that a word names, with the number of its stream
 unfoldable pub stream_named : SystemTable → Side → List ℕ → Option (Named StreamPort)
-stream_named system side word = option_and_then (stream_at system side) (position (λ (link : StreamLink). bytes_eq (end_name system (stream_end side link)) word) (stream_links system))
+stream_named system side word = option_and_then (stream_at system side) (position (λ (link : StreamConnection). bytes_eq (end_name system (stream_end side link)) word) (stream_connections system))

@@ -2,7 +2,7 @@
 use Rattle.std.specs.Prelude.{ℕ, ◌≡◌, Bool, true, List, [], ◌∷◌, ◌++◌, length, replicate, slice_get, unwrap_or, Option, Some, None, is_none, Result, Ok, Err}
 use Rattle.system_tables.specs.Tables.{SystemTable}
 use Rattle.address_map.specs.Maps.{hosts_of, agents_of}
-use Rattle.link_rules.specs.PlanLinks.{stream_links}
+use Rattle.link_rules.specs.PlanConnections.{stream_connections}
 use Rattle.scenario_tables.specs.Changes.{changed_at}
 use Rattle.scenario_tables.specs.declared.statements.HostStatement.{HostStatement}
 use Rattle.scenario_tables.specs.declared.statements.AgentStatement.{AgentStatement}
@@ -20,16 +20,16 @@ blank system = record {
   cycles = None;
   hosts = replicate (length (hosts_of system)) [];
   agents = replicate (length (agents_of system)) [];
-  sources = replicate (length (stream_links system)) [];
-  sinks = replicate (length (stream_links system)) [];
+  sources = replicate (length (stream_connections system)) [];
+  sinks = replicate (length (stream_connections system)) [];
 }
 
 -- there are scripts for all interfaces
 pub record HasScripts (system : SystemTable) (so_far : SoFar) : Type 0 where
   pub hosts : length so_far.hosts ≡ length (hosts_of system)
   pub agents : length so_far.agents ≡ length (agents_of system)
-  pub sources : length so_far.sources ≡ length (stream_links system)
-  pub sinks : length so_far.sinks ≡ length (stream_links system)
+  pub sources : length so_far.sources ≡ length (stream_connections system)
+  pub sinks : length so_far.sinks ≡ length (stream_connections system)
 
 -- no line has stated for how many cycles the scenario is
 abbrev pub is_early : SoFar → Bool

@@ -8,15 +8,15 @@ ghost use Rattle.iface_roles.specs.Proper.{IsBoundedHost, IsBoundedAgent, IsBoun
 ghost use Rattle.system_tables.specs.declared.tables.EndId.{EndId as Id};
 ghost use Rattle.system_tables.specs.Tables.{IsEnd};
 ghost use Rattle.address_map.specs.Maps.{hosts_of, agents_of};
-ghost use Rattle.link_rules.specs.declared.plan_links.StreamLink.{StreamLink as Link};
-ghost use Rattle.link_rules.specs.PlanLinks.{stream_links};
+ghost use Rattle.link_rules.specs.declared.plan_connections.StreamConnection.{StreamConnection as Link};
+ghost use Rattle.link_rules.specs.PlanConnections.{stream_connections};
 ghost use Rattle.map_text.specs.Text.{end_name};
 ghost use Rattle.scenarios.specs.declared.faults.ScenarioRule.TheVariants.{Interfaces};
 ghost use Rattle.scenarios.specs.Interfaces.{place_of, IsNamed, host_named, agent_named, stream_end, stream_port, stream_named};
 
 use crate::faults::{ScenarioRule, refuse_if};
 use iface_roles::{AgentPort, Finished, HostPort, Side, StreamPort, proper_records_are_bounded};
-use link_rules::{Plan, StreamLink, ends_are_known, streams_are_numbered};
+use link_rules::{Plan, StreamConnection, ends_are_known, streams_are_numbered};
 use system_tables::EndId;
 
 /// What is known of an interface, with its number; that of a source or a sink is its stream's.
@@ -126,7 +126,7 @@ pub(crate) fn agent_named(plan: &Plan, word: &[u8]) -> Result<Named<AgentPort>, 
     })
 }
 
-fn end_of(link: &StreamLink, side: Side) -> EndId
+fn end_of(link: &StreamConnection, side: Side) -> EndId
     ensures { result ≡ stream_end side link.now }
 {
     match side {
@@ -135,7 +135,7 @@ fn end_of(link: &StreamLink, side: Side) -> EndId
     }
 }
 
-fn port_of(link: &StreamLink, side: Side) -> StreamPort
+fn port_of(link: &StreamConnection, side: Side) -> StreamPort
     ensures { result ≡ stream_port side link.now }
 {
     match side {
@@ -146,12 +146,12 @@ fn port_of(link: &StreamLink, side: Side) -> StreamPort
 
 /// How many streams stand before the first whose end on this side has the word as its name.
 fn stream_len(plan: &Plan, side: Side, word: &[u8]) -> usize
-    ensures { result ≡ position_or_len (λ (link : Link). bytes_eq (end_name plan.now.system (stream_end side link)) word.now) (stream_links plan.now.system) }
+    ensures { result ≡ position_or_len (λ (link : Link). bytes_eq (end_name plan.now.system (stream_end side link)) word.now) (stream_connections plan.now.system) }
 {
     plan.well_made();
     streams_are_numbered();
     let mut count = 0;
-    'streams: for link in plan.stream_links() {
+    'streams: for link in plan.stream_connections() {
         if is_name(plan, end_of(link, side), word) {
             return count;
         }
@@ -168,7 +168,7 @@ pub(crate) fn stream_named(
     word: &[u8],
 ) -> Result<Named<StreamPort>, ScenarioRule>
     ensures ok { IfOk result (λ stream. stream_named plan.now.system side word.now ≡ Some stream) }
-    ensures number { IfOk result (λ stream. stream.number < length (stream_links plan.now.system)) }
+    ensures number { IfOk result (λ stream. stream.number < length (stream_connections plan.now.system)) }
     ensures port { IfOk result (λ stream. IsBoundedStream stream.port) }
     ensures none { IfErr result (λ rule. (stream_named plan.now.system side word.now ≡ None) × (rule ≡ Interfaces)) }
 {
@@ -177,11 +177,11 @@ pub(crate) fn stream_named(
     proper_records_are_bounded();
     let number = stream_len(plan, side, word);
     refuse_if(
-        plan.stream_links().len() <= number,
+        plan.stream_connections().len() <= number,
         ScenarioRule::Interfaces,
     )?;
     Ok(Named {
         number,
-        port: port_of(&plan.stream_links()[number], side),
+        port: port_of(&plan.stream_connections()[number], side),
     })
 }

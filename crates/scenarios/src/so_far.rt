@@ -41,8 +41,8 @@ impl SoFar {
             cycles: None,
             hosts: Scripts::blank(alloc, plan.hosts().len())?,
             agents: Scripts::blank(alloc, plan.agents().len())?,
-            sources: Scripts::blank(alloc, plan.stream_links().len())?,
-            sinks: Scripts::blank(alloc, plan.stream_links().len())?,
+            sources: Scripts::blank(alloc, plan.stream_connections().len())?,
+            sinks: Scripts::blank(alloc, plan.stream_connections().len())?,
         })
     }
 

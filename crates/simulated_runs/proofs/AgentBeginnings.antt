@@ -3,10 +3,10 @@ use Rattle.std.proofs.Common.{◌≡◌, ℕ, zero, suc, ◌+◌, ◌-◌, ◌<�
 use Rattle.std.proofs.lemmas.Bool.{cases_Bool, leb-true}
 use Rattle.histories.specs.History.{is_raised, one_if, only_if, before}
 use Rattle.iface_roles.specs.declared.records.AgentPort.{AgentPort}
-use Rattle.mm_runs.specs.Views.{Levels, AgentSide, AgentView, levels_at}
-use Rattle.mm_runs.specs.Operations.{memory_after, own_operations}
-use Rattle.mm_runs.specs.Commands.{Burst, Transfer, stood_before, agent_accepts, burst_before, burst_after, transfer_of, transfer_at, accepted}
-use Rattle.mm_runs.specs.Beginnings.{AgentsAgree}
+use Rattle.memory_runs.specs.Views.{Levels, AgentSide, AgentView, levels_at}
+use Rattle.memory_runs.specs.Operations.{memory_after, own_operations}
+use Rattle.memory_runs.specs.Commands.{Burst, Transfer, stood_before, agent_accepts, burst_before, burst_after, transfer_of, transfer_at, accepted}
+use Rattle.memory_runs.specs.Beginnings.{AgentsAgree}
 use Rattle.memory_sides.specs.Sides.{agent_side}
 use Rattle.scenario_tables.specs.declared.statements.AgentStatement.{AgentStatement}
 use Rattle.agent_stand_ins.specs.Contents.{filled, contents_before}

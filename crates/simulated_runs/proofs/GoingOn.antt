@@ -9,8 +9,8 @@ use Rattle.netlist.specs.Netlists.{Netlist}
 use Rattle.netlist.specs.Runs.{Run, Cycle}
 use Rattle.cycle_sim.specs.Standing.{IsClearedRun, with_cycle}
 use Rattle.stream_runs.specs.View.{EndView, AgreeBefore}
-use Rattle.mm_runs.specs.Views.{HostView, AgentView, levels_at}
-use Rattle.mm_runs.specs.Beginnings.{HostsAgree, AgentsAgree}
+use Rattle.memory_runs.specs.Views.{HostView, AgentView, levels_at}
+use Rattle.memory_runs.specs.Beginnings.{HostsAgree, AgentsAgree}
 use Rattle.memory_sides.specs.Sides.{agent_side}
 use Rattle.interconnect.specs.Memory.{host_in, agent_in}
 use Rattle.scenario_tables.specs.declared.statements.HostStatement.{HostStatement}

@@ -10,7 +10,7 @@ use Rattle.iface_roles.specs.declared.records.StreamPort.{StreamPort}
 use Rattle.system_tables.specs.declared.tables.EndId.{EndId}
 use Rattle.system_tables.specs.Tables.{SystemTable}
 use Rattle.address_map.specs.Maps.{hosts_of, agents_of}
-use Rattle.link_rules.specs.declared.plan_links.StreamLink.{StreamLink}
+use Rattle.link_rules.specs.declared.plan_connections.StreamConnection.{StreamConnection}
 use Rattle.link_rules.specs.Plans.{PlanTable}
 use Rattle.netlist.specs.Netlists.{Netlist}
 use Rattle.netlist.specs.Runs.{Run, Cycle}
@@ -18,8 +18,8 @@ use Rattle.netlist.specs.Signals.{port_net, port_value, port_named, signal}
 use Rattle.cycle_sim.specs.Standing.{IsClearedRun, with_cycle}
 use Rattle.stream_runs.specs.View.{EndView, Beat, AgreeBefore, beat_at}
 use Rattle.stream_runs.specs.Ends.{signal_or}
-use Rattle.mm_runs.specs.Views.{Levels, HostView, AgentView, levels_at}
-use Rattle.mm_runs.specs.Beginnings.{HostsAgree, AgentsAgree}
+use Rattle.memory_runs.specs.Views.{Levels, HostView, AgentView, levels_at}
+use Rattle.memory_runs.specs.Beginnings.{HostsAgree, AgentsAgree}
 use Rattle.memory_plans.specs.Systems.{memory_system}
 use Rattle.memory_plans.specs.Shown.{silent_host, silent_agent}
 use Rattle.port_tables.specs.Ports.{EndName, port_name, name_at}

@@ -2,8 +2,8 @@
 use Rattle.std.proofs.Common.{◌≡◌, ℕ, zero, suc, ◌<◌, ◌≤◌, List, refl, sym, ap, ap₂, ◌∙◌, arith}
 use Rattle.histories.specs.History.{is_raised}
 use Rattle.iface_roles.specs.declared.records.HostPort.{HostPort}
-use Rattle.mm_runs.specs.Views.{HostView}
-use Rattle.mm_runs.specs.Beginnings.{HostsAgree}
+use Rattle.memory_runs.specs.Views.{HostView}
+use Rattle.memory_runs.specs.Beginnings.{HostsAgree}
 use Rattle.scenario_tables.specs.declared.statements.HostStatement.{HostStatement}
 use Rattle.host_stand_ins.specs.Steps.{Step, all_steps, shown, left_after}
 use Rattle.host_stand_ins.specs.StandIns.{left_before, IsHostStandIn}

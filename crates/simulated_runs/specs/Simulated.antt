@@ -3,8 +3,8 @@ use Rattle.std.specs.Prelude.{◌≡◌, ℕ, ◌&&◌, List, slice_get, Some, i
 use Rattle.histories.specs.History.{one_if}
 use Rattle.iface_roles.specs.declared.records.HostPort.{HostPort}
 use Rattle.iface_roles.specs.declared.records.AgentPort.{AgentPort}
-use Rattle.link_rules.specs.declared.plan_links.StreamLink.{StreamLink}
-use Rattle.link_rules.specs.PlanLinks.{stream_links}
+use Rattle.link_rules.specs.declared.plan_connections.StreamConnection.{StreamConnection}
+use Rattle.link_rules.specs.PlanConnections.{stream_connections}
 use Rattle.link_rules.specs.Plans.{PlanTable}
 use Rattle.netlist.specs.Netlists.{Netlist}
 use Rattle.netlist.specs.Runs.{Run}
@@ -12,8 +12,8 @@ use Rattle.cycle_sim.specs.Standing.{IsClearedRun}
 use Rattle.stream_runs.specs.Source.{IsLegalSource}
 use Rattle.stream_runs.specs.Ends.{side_of}
 use Rattle.st_timing.specs.Ends.{declared}
-use Rattle.mm_runs.specs.Views.{AgentView, levels_at}
-use Rattle.mm_runs.specs.Whole.{IsLegalRun}
+use Rattle.memory_runs.specs.Views.{AgentView, levels_at}
+use Rattle.memory_runs.specs.Whole.{IsLegalRun}
 use Rattle.memory_sides.specs.Sides.{agent_side}
 use Rattle.memory_plans.specs.Systems.{memory_system}
 use Rattle.interconnect.specs.Memory.{host_in, agent_in, module_run}
@@ -36,15 +36,15 @@ pub record IsSimulated (plan : PlanTable) (scenario : Scenario) (netlist : Netli
   pub is_run : IsClearedRun netlist run end
   pub hosts : (h : ℕ) (port : HostPort) (script : List HostStatement) → IsHostAt plan.system h port → slice_get scenario.hosts h ≡ Some script → IsHostStandIn port script (host_in plan netlist run h) end
   pub agents : (a : ℕ) (port : AgentPort) (script : List AgentStatement) → IsAgentAt plan.system a port → slice_get scenario.agents a ≡ Some script → IsAgentStandIn port script (agent_in plan netlist run a) end
-  pub sources : (s : ℕ) (link : StreamLink) (script : List SourceStatement) → slice_get (stream_links plan.system) s ≡ Some link → slice_get scenario.sources s ≡ Some script
+  pub sources : (s : ℕ) (link : StreamConnection) (script : List SourceStatement) → slice_get (stream_connections plan.system) s ≡ Some link → slice_get scenario.sources s ≡ Some script
       → IsSourceStandIn link.source script (stream_view plan.system netlist run link.source_end) end
-  pub sinks : (s : ℕ) (link : StreamLink) (script : List Pattern) → slice_get (stream_links plan.system) s ≡ Some link → slice_get scenario.sinks s ≡ Some script
+  pub sinks : (s : ℕ) (link : StreamConnection) (script : List Pattern) → slice_get (stream_connections plan.system) s ≡ Some link → slice_get scenario.sinks s ≡ Some script
       → IsSinkStandIn script (stream_view plan.system netlist run link.sink_end) end
 
 -- all components of a plan keep to what they declare, in the cycles before `end`
 pub record AreLegal (plan : PlanTable) (netlist : Netlist) (run : Run) (end : ℕ) : Type 0 where
   pub memory : IsLegalRun (memory_system plan) (module_run plan netlist run) end
-  pub sources : (s : ℕ) (link : StreamLink) → slice_get (stream_links plan.system) s ≡ Some link
+  pub sources : (s : ℕ) (link : StreamConnection) → slice_get (stream_connections plan.system) s ≡ Some link
       → IsLegalSource (side_of (declared link.source)) (stream_view plan.system netlist run link.source_end) end
 
 -- ---- one cycle of a simulation
@@ -61,7 +61,7 @@ pub record AreShown (plan : PlanTable) (scenario : Scenario) (netlist : Netlist)
   pub hosts : (h : ℕ) (port : HostPort) (script : List HostStatement) → IsHostAt plan.system h port → slice_get scenario.hosts h ≡ Some script
       → levels_at (host_in plan netlist run h).signals c ≡ shown port (left_before (all_steps port script) (host_in plan netlist run h).waitrequest c)
   pub agents : (a : ℕ) (port : AgentPort) (script : List AgentStatement) → IsAgentAt plan.system a port → slice_get scenario.agents a ≡ Some script → AgentShows port script (agent_in plan netlist run a) c
-  pub sources : (s : ℕ) (link : StreamLink) (script : List SourceStatement) → slice_get (stream_links plan.system) s ≡ Some link → slice_get scenario.sources s ≡ Some script
+  pub sources : (s : ℕ) (link : StreamConnection) (script : List SourceStatement) → slice_get (stream_connections plan.system) s ≡ Some link → slice_get scenario.sources s ≡ Some script
       → Shows (stream_view plan.system netlist run link.source_end) c (beat_shown link.source script (stream_view plan.system netlist run link.source_end) c)
-  pub sinks : (s : ℕ) (link : StreamLink) (script : List Pattern) → slice_get (stream_links plan.system) s ≡ Some link → slice_get scenario.sinks s ≡ Some script
+  pub sinks : (s : ℕ) (link : StreamConnection) (script : List Pattern) → slice_get (stream_connections plan.system) s ≡ Some link → slice_get scenario.sinks s ≡ Some script
       → (stream_view plan.system netlist run link.sink_end).ready c ≡ one_if (ready_in script c)

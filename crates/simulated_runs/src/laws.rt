@@ -7,7 +7,7 @@ ghost use Rattle.netlist.specs.Netlists.{Netlist};
 ghost use Rattle.netlist.specs.Runs.{Run, Cycle};
 ghost use Rattle.cycle_sim.specs.Standing.{IsClearedRun, with_cycle};
 ghost use Rattle.stream_runs.specs.View.{AgreeBefore};
-ghost use Rattle.mm_runs.specs.Beginnings.{HostsAgree, AgentsAgree};
+ghost use Rattle.memory_runs.specs.Beginnings.{HostsAgree, AgentsAgree};
 ghost use Rattle.port_tables.specs.Ports.{name_at};
 ghost use Rattle.interconnect.specs.Memory.{host_in, agent_in};
 ghost use Rattle.interconnect.specs.Streams.{dropped_signal};

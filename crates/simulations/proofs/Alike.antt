@@ -10,8 +10,8 @@ use Rattle.netlist.specs.Runs.{Run}
 use Rattle.netlist.specs.Signals.{port_value, port_named, signal}
 use Rattle.stream_runs.specs.View.{EndView, Beat, AgreeBefore, beat_at}
 use Rattle.stream_runs.specs.Ends.{signal_or}
-use Rattle.mm_runs.specs.Views.{Levels, HostView, AgentView, levels_at}
-use Rattle.mm_runs.specs.Beginnings.{HostsAgree, AgentsAgree}
+use Rattle.memory_runs.specs.Views.{Levels, HostView, AgentView, levels_at}
+use Rattle.memory_runs.specs.Beginnings.{HostsAgree, AgentsAgree}
 use Rattle.memory_plans.specs.Systems.{memory_system}
 use Rattle.memory_plans.specs.Shown.{silent_host, silent_agent}
 use Rattle.port_tables.specs.Ports.{EndName, port_name, name_at}

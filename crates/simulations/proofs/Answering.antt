@@ -2,9 +2,9 @@
 use Rattle.std.proofs.Common.{◌≡◌, ℕ, zero, suc, ◌+◌, ◌-◌, ◌<◌, ◌≤◌, ◌&&◌, ◌||◌, not, nat_eq, nat_le, Bool, List, ◌++◌, flat_map, if◌then◌else◌, refl, ap, ap₂, ◌∙◌, arith}
 use Rattle.histories.specs.History.{is_raised, only_if}
 use Rattle.iface_roles.specs.declared.records.AgentPort.{AgentPort}
-use Rattle.mm_runs.specs.Views.{Levels, AgentSide, AgentView, levels_at}
-use Rattle.mm_runs.specs.Operations.{memory_after, own_operations}
-use Rattle.mm_runs.specs.Commands.{Burst, Transfer, stood_before, agent_accepts, burst_before, burst_after, transfer_of, transfer_at, accepted}
+use Rattle.memory_runs.specs.Views.{Levels, AgentSide, AgentView, levels_at}
+use Rattle.memory_runs.specs.Operations.{memory_after, own_operations}
+use Rattle.memory_runs.specs.Commands.{Burst, Transfer, stood_before, agent_accepts, burst_before, burst_after, transfer_of, transfer_at, accepted}
 use Rattle.memory_sides.specs.Sides.{agent_side}
 use Rattle.scenario_tables.specs.declared.statements.AgentStatement.{AgentStatement}
 use Rattle.agent_stand_ins.specs.Contents.{filled, contents_before}

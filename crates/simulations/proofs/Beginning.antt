@@ -7,7 +7,7 @@ use Rattle.netlist.specs.Netlists.{Netlist}
 use Rattle.netlist.specs.Runs.{Run}
 use Rattle.cycle_sim.specs.Sims.{input_widths, widths_of}
 use Rattle.cycle_sim.specs.Standing.{IsClearedRun, StandsFor}
-use Rattle.mm_runs.specs.Views.{AgentView}
+use Rattle.memory_runs.specs.Views.{AgentView}
 use Rattle.port_tables.specs.Ports.{ports_of}
 use Rattle.port_rows.specs.Rows.{blank_row}
 use Rattle.interconnect.specs.Memory.{agent_in}

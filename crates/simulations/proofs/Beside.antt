@@ -7,7 +7,7 @@ use Rattle.iface_roles.specs.Proper.{IsProper, IsBoundedHost, IsBoundedAgent}
 use Rattle.system_tables.specs.declared.tables.EndId.{EndId}
 use Rattle.system_tables.specs.Tables.{SystemTable, IsSystem}
 use Rattle.address_map.specs.Maps.{hosts_of, agents_of}
-use Rattle.link_rules.specs.PlanLinks.{IsHostEnd, IsAgentEnd}
+use Rattle.link_rules.specs.PlanConnections.{IsHostEnd, IsAgentEnd}
 use Rattle.port_tables.specs.EndFacts.{known_is}
 use Rattle.port_tables.specs.Lists.{Among, among_at, among_front, among_back}
 use Rattle.link_rules.specs.Links.{streams_of}

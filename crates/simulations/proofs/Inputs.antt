@@ -13,9 +13,9 @@ use Rattle.system_tables.specs.declared.tables.Connection.{Connection}
 use Rattle.system_tables.specs.Tables.{SystemTable}
 use Rattle.address_map.specs.Footprints.{known_at}
 use Rattle.address_map.specs.Maps.{hosts_of, agents_of}
-use Rattle.link_rules.specs.declared.plan_links.StreamLink.{StreamLink}
+use Rattle.link_rules.specs.declared.plan_connections.StreamConnection.{StreamConnection}
 use Rattle.link_rules.specs.Links.{streams_of}
-use Rattle.link_rules.specs.PlanLinks.{stream_links, IsStreamLink, IsHostEnd, IsAgentEnd}
+use Rattle.link_rules.specs.PlanConnections.{stream_connections, IsStreamConnection, IsHostEnd, IsAgentEnd}
 use Rattle.link_rules.specs.Plans.{PlanTable}
 use Rattle.netlist.specs.declared.line.PortLine.{PortLine}
 use Rattle.netlist.specs.Netlists.{Netlist, IsInputPort}
@@ -23,7 +23,7 @@ use Rattle.netlist.specs.Runs.{Cycle, Run, cycle_of, IsValuation, SameInputs, Al
 use Rattle.netlist.specs.Signals.{port_net, port_named, port_value}
 use Rattle.stream_runs.specs.Ends.{signal_or}
 use Rattle.stream_runs.specs.View.{Beat, beat_at}
-use Rattle.mm_runs.specs.Views.{Levels, HostView, AgentView, levels_at}
+use Rattle.memory_runs.specs.Views.{Levels, HostView, AgentView, levels_at}
 use Rattle.port_tables.specs.declared.roles.PortRole.{PortRole}
 use Rattle.port_tables.specs.declared.roles.RolePort.{RolePort}
 use Rattle.port_tables.specs.EndFacts.{known_is}
@@ -56,11 +56,11 @@ pub record GivesSame (one two : AgentView) (c : ℕ) : Type 0 where
 pub record AllGiveSame (plan : PlanTable) (netlist : Netlist) (one two : Run) (c : ℕ) : Type 0 where
   pub hosts : (h : ℕ) (port : HostPort) → IsHostAt plan.system h port → levels_at (host_in plan netlist one h).signals c ≡ levels_at (host_in plan netlist two h).signals c
   pub agents : (a : ℕ) (port : AgentPort) → IsAgentAt plan.system a port → GivesSame (agent_in plan netlist one a) (agent_in plan netlist two a) c
-  pub valid : (s : ℕ) (link : StreamLink) → slice_get (stream_links plan.system) s ≡ Some link
+  pub valid : (s : ℕ) (link : StreamConnection) → slice_get (stream_connections plan.system) s ≡ Some link
       → (stream_view plan.system netlist one link.source_end).valid c ≡ (stream_view plan.system netlist two link.source_end).valid c
-  pub beat : (s : ℕ) (link : StreamLink) → slice_get (stream_links plan.system) s ≡ Some link
+  pub beat : (s : ℕ) (link : StreamConnection) → slice_get (stream_connections plan.system) s ≡ Some link
       → beat_at (stream_view plan.system netlist one link.source_end) c ≡ beat_at (stream_view plan.system netlist two link.source_end) c
-  pub ready : (s : ℕ) (link : StreamLink) → slice_get (stream_links plan.system) s ≡ Some link
+  pub ready : (s : ℕ) (link : StreamConnection) → slice_get (stream_connections plan.system) s ≡ Some link
       → (stream_view plan.system netlist one link.sink_end).ready c ≡ (stream_view plan.system netlist two link.sink_end).ready c
 
 -- ---- at the ports of an end
@@ -130,10 +130,10 @@ abbrev pub AgentsAreKnown : SystemTable → Type 0
 AgentsAreKnown system = (a : ℕ) (end : EndId) → slice_get (agents_of system) a ≡ Some end → IsAgentEnd system end
 
 abbrev pub StreamsAreNumbered : SystemTable → Type 0
-StreamsAreNumbered system = map (λ (link : StreamLink). link.connection) (stream_links system) ≡ streams_of system
+StreamsAreNumbered system = map (λ (link : StreamConnection). link.connection) (stream_connections system) ≡ streams_of system
 
 abbrev pub LinksAreKnown : SystemTable → Type 0
-LinksAreKnown system = (s : ℕ) (link : StreamLink) → slice_get (stream_links system) s ≡ Some link → IsStreamLink system s link
+LinksAreKnown system = (s : ℕ) (link : StreamConnection) → slice_get (stream_connections system) s ≡ Some link → IsStreamConnection system s link
 
 module _ (plan : PlanTable) (netlist : Netlist) (one two : Run) (c : ℕ) (hosts : HostsAreKnown plan.system) (agents : AgentsAreKnown plan.system) (numbered : StreamsAreNumbered plan.system)
     (links : LinksAreKnown plan.system) (give : AllGiveSame plan netlist one two c) where
@@ -168,10 +168,10 @@ module _ (plan : PlanTable) (netlist : Netlist) (one two : Run) (c : ℕ) (hosts
   ends_at : (place : ℕ) (connection : Connection) → slice_get plan.system.connections place ≡ Some connection → connection_ends plan.system place ≡ connection.start ∷ connection.end ∷ []
   ends_at place connection there = rw there refl
 
-  ends_of_link : (s : ℕ) (link : StreamLink) → IsStreamLink plan.system s link → connection_ends plan.system link.connection ≡ link.source_end ∷ link.sink_end ∷ []
+  ends_of_link : (s : ℕ) (link : StreamConnection) → IsStreamConnection plan.system s link → connection_ends plan.system link.connection ≡ link.source_end ∷ link.sink_end ∷ []
   ends_of_link s link is = ends_at link.connection is.connection is.connection_is ∙ ap₂ (λ (a b : EndId). a ∷ b ∷ []) is.start is.end
 
-  at_link : (s : ℕ) (link : StreamLink) (at : slice_get (stream_links plan.system) s ≡ Some link) (end : EndId) → Among end (link.source_end ∷ link.sink_end ∷ []) → EndAlike end
+  at_link : (s : ℕ) (link : StreamConnection) (at : slice_get (stream_connections plan.system) s ≡ Some link) (end : EndId) → Among end (link.source_end ∷ link.sink_end ∷ []) → EndAlike end
   at_link s link at end (inl e) =
       let known = known_is plan.system link.source_end (Source link.source) (links s link at).source in
       subst EndAlike e (subst (InputsAlike netlist one two c (name_at plan.system link.source_end)) (sym known)
@@ -185,8 +185,8 @@ module _ (plan : PlanTable) (netlist : Netlist) (one two : Run) (c : ℕ) (hosts
   stream_alike : (end : EndId) → Among end (flat_map (connection_ends plan.system) (streams_of plan.system)) → EndAlike end
   stream_alike end among =
       let place = among_flat_map (connection_ends plan.system) (streams_of plan.system) end among in
-      let link = among_map (λ (l : StreamLink). l.connection) (stream_links plan.system) place.from (subst (Among place.from) (sym numbered) place.among) in
-      let number = at_among (stream_links plan.system) link.from link.among in
+      let link = among_map (λ (l : StreamConnection). l.connection) (stream_connections plan.system) place.from (subst (Among place.from) (sym numbered) place.among) in
+      let number = at_among (stream_connections plan.system) link.from link.among in
       let own : Among end (connection_ends plan.system link.from.connection) = subst (λ (n : ℕ). Among end (connection_ends plan.system n)) (sym link.makes) place.makes in
       at_link number.place link.from number.is end (subst (Among end) (ends_of_link number.place link.from (links number.place link.from number.is)) own)
 

@@ -11,8 +11,8 @@ use Rattle.iface_roles.specs.declared.records.AgentPort.{AgentPort}
 use Rattle.iface_roles.specs.declared.records.StreamPort.{StreamPort}
 use Rattle.iface_roles.specs.declared.records.Finished.TheVariants.{Host, Agent}
 use Rattle.address_map.specs.Maps.{hosts_of, agents_of}
-use Rattle.link_rules.specs.declared.plan_links.StreamLink.{StreamLink}
-use Rattle.link_rules.specs.PlanLinks.{stream_links}
+use Rattle.link_rules.specs.declared.plan_connections.StreamConnection.{StreamConnection}
+use Rattle.link_rules.specs.PlanConnections.{stream_connections}
 use Rattle.link_rules.specs.Plans.{PlanTable}
 use Rattle.netlist.specs.declared.line.Line.{Line}
 use Rattle.netlist.specs.declared.line.PortLine.{PortLine}
@@ -21,9 +21,9 @@ use Rattle.netlist.specs.Runs.{Cycle, Run, cycle_of, IsValuation, SameInputs, Sa
 use Rattle.netlist.specs.Signals.{port_net}
 use Rattle.cycle_sim.specs.Standing.{IsFirst}
 use Rattle.stream_runs.specs.View.{EndView, Beat, AgreeBefore, is_ready_cycle}
-use Rattle.mm_runs.specs.Views.{HostView, levels_at}
-use Rattle.mm_runs.specs.Beginnings.{HostsAgree}
-use Rattle.mm_runs.specs.Moment.{Moment, AgentSees}
+use Rattle.memory_runs.specs.Views.{HostView, levels_at}
+use Rattle.memory_runs.specs.Beginnings.{HostsAgree}
+use Rattle.memory_runs.specs.Moment.{Moment, AgentSees}
 use Rattle.memory_plans.specs.Shown.{moment_in, standing_still}
 use Rattle.port_tables.specs.EndFacts.{known_is}
 use Rattle.interconnect.specs.Memory.{host_in, agent_in, module_run}
@@ -224,13 +224,13 @@ module _ (plan : PlanTable) (scenario : Scenario) (netlist : Netlist) (one two :
           response = (first.agents a port script.item at script.is).response c low ∙ code_alike port script.item view_one view_two c commanded ∙ sym ((second.agents a port script.item at script.is).response c low);
         }
 
-    source_script : (s : ℕ) (link : StreamLink) → slice_get (stream_links plan.system) s ≡ Some link → Beside scenario.sources s
-    source_script s link at = has scenario.sources s (subst (λ (n : ℕ). s < n) (sym set.is_scenario.sources) (inside (stream_links plan.system) s link at))
+    source_script : (s : ℕ) (link : StreamConnection) → slice_get (stream_connections plan.system) s ≡ Some link → Beside scenario.sources s
+    source_script s link at = has scenario.sources s (subst (λ (n : ℕ). s < n) (sym set.is_scenario.sources) (inside (stream_connections plan.system) s link at))
 
-    sink_script : (s : ℕ) (link : StreamLink) → slice_get (stream_links plan.system) s ≡ Some link → Beside scenario.sinks s
-    sink_script s link at = has scenario.sinks s (subst (λ (n : ℕ). s < n) (sym set.is_scenario.sinks) (inside (stream_links plan.system) s link at))
+    sink_script : (s : ℕ) (link : StreamConnection) → slice_get (stream_connections plan.system) s ≡ Some link → Beside scenario.sinks s
+    sink_script s link at = has scenario.sinks s (subst (λ (n : ℕ). s < n) (sym set.is_scenario.sinks) (inside (stream_connections plan.system) s link at))
 
-    shown_same : (s : ℕ) (link : StreamLink) (script : List SourceStatement)
+    shown_same : (s : ℕ) (link : StreamConnection) (script : List SourceStatement)
         → beat_shown link.source script (stream_view plan.system netlist one link.source_end) c ≡ beat_shown link.source script (stream_view plan.system netlist two link.source_end) c
     shown_same s link script =
         same_beat keep_sources link.source script (stream_view plan.system netlist one link.source_end) (stream_view plan.system netlist two link.source_end) c (agree.streams link.source_end)

@@ -9,10 +9,10 @@ use Rattle.system_tables.specs.declared.tables.Connection.{Connection}
 use Rattle.system_tables.specs.Tables.{SystemTable}
 use Rattle.address_map.specs.Footprints.{known_at}
 use Rattle.address_map.specs.Maps.{hosts_of, agents_of}
-use Rattle.link_rules.specs.declared.plan_links.StreamLink.{StreamLink}
+use Rattle.link_rules.specs.declared.plan_connections.StreamConnection.{StreamConnection}
 use Rattle.link_rules.specs.Links.{streams_of}
-use Rattle.link_rules.specs.PlanLinks.{stream_links, IsStreamLink}
-use Rattle.mm_runs.specs.Legal.{Word as CodedWord}
+use Rattle.link_rules.specs.PlanConnections.{stream_connections, IsStreamConnection}
+use Rattle.memory_runs.specs.Legal.{Word as CodedWord}
 use Rattle.port_tables.specs.EndFacts.{known_is}
 use Rattle.port_tables.specs.Ports.{connection_ends, ends_of}
 use Rattle.port_tables.specs.PortMaps.{HasKnownPorts}
@@ -63,7 +63,7 @@ module _ (system : SystemTable) where
   ends_at : (place : ℕ) (connection : Connection) → slice_get system.connections place ≡ Some connection → connection_ends system place ≡ connection.start ∷ connection.end ∷ []
   ends_at place connection there = rw there refl
 
-  stream_given : (s place : ℕ) (stream : BenchStreamValue) (script : List Pattern) → ((number : ℕ) (link : StreamLink) → slice_get (stream_links system) number ≡ Some link → IsStreamLink system number link)
+  stream_given : (s place : ℕ) (stream : BenchStreamValue) (script : List Pattern) → ((number : ℕ) (link : StreamConnection) → slice_get (stream_connections system) number ≡ Some link → IsStreamConnection system number link)
       → slice_get (streams_of system) s ≡ Some place → IsStreamOf system s script stream → AreGivenAt system (connection_ends system place) (of_streams.sets stream)
   stream_given s place stream script links there of =
       let link = of.link in
@@ -92,7 +92,7 @@ abbrev pub EndsAreApart : Type 0
 EndsAreApart = (system : SystemTable) (ends : List EndLevels) → HasKnownPorts system → map (λ (given : EndLevels). given.end) ends ≡ ends_of system → AllAreEndInputs system ends → AreApart (flat_map (end_levels system) ends)
 
 abbrev pub LinksAreNumbered : SystemTable → Type 0
-LinksAreNumbered system = (number : ℕ) (link : StreamLink) → slice_get (stream_links system) number ≡ Some link → IsStreamLink system number link
+LinksAreNumbered system = (number : ℕ) (link : StreamConnection) → slice_get (stream_connections system) number ≡ Some link → IsStreamConnection system number link
 
 -- whatever the words of the agents are, no place is set twice
 pub all_apart : (system : SystemTable) (bench : BenchValue) (words : BenchAgentValue → CodedWord) → EndsAreApart → LinksAreNumbered system → HasKnownPorts system → AreOf system bench → AreApart (all_levels bench words)
@@ -142,5 +142,5 @@ pub streams_stand : (back : BackStands) (row : List Word) (bench : BenchValue) (
 streams_stand back row bench words h = back row (flat_map of_hosts.sets bench.hosts ++ flat_map (sets_with words) bench.agents) (flat_map of_streams.sets bench.streams) h
 
 -- as many streams as links
-pub stream_count_is : (system : SystemTable) → map (λ (link : StreamLink). link.connection) (stream_links system) ≡ streams_of system → length (stream_links system) ≡ length (streams_of system)
-stream_count_is system numbers = sym (length-map (stream_links system) (λ (link : StreamLink). link.connection)) ∙ ap length numbers
+pub stream_count_is : (system : SystemTable) → map (λ (link : StreamConnection). link.connection) (stream_connections system) ≡ streams_of system → length (stream_connections system) ≡ length (streams_of system)
+stream_count_is system numbers = sym (length-map (stream_connections system) (λ (link : StreamConnection). link.connection)) ∙ ap length numbers

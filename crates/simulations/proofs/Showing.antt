@@ -4,8 +4,8 @@ use Rattle.histories.specs.History.{one_if}
 use Rattle.iface_roles.specs.declared.records.HostPort.{HostPort}
 use Rattle.iface_roles.specs.declared.records.AgentPort.{AgentPort}
 use Rattle.iface_roles.specs.declared.records.StreamPort.{StreamPort}
-use Rattle.mm_runs.specs.Views.{HostView, AgentView, levels_at}
-use Rattle.mm_runs.specs.Legal.{Word as CodedWord}
+use Rattle.memory_runs.specs.Views.{HostView, AgentView, levels_at}
+use Rattle.memory_runs.specs.Legal.{Word as CodedWord}
 use Rattle.stream_runs.specs.View.{EndView}
 use Rattle.scenario_tables.specs.declared.statements.HostStatement.{HostStatement}
 use Rattle.scenario_tables.specs.declared.statements.AgentStatement.{AgentStatement}

@@ -6,7 +6,7 @@ use Rattle.netlist.specs.Netlists.{Netlist, IsInputPort}
 use Rattle.netlist.specs.Runs.{Run, IsValuation}
 use Rattle.cycle_sim.specs.Sims.{SimValue, given_to, input_widths, present, widths_of}
 use Rattle.cycle_sim.specs.Standing.{IsClearedRun, StandsFor, with_cycle}
-use Rattle.mm_runs.specs.Legal.{Word as CodedWord}
+use Rattle.memory_runs.specs.Legal.{Word as CodedWord}
 use Rattle.port_tables.specs.Ports.{ports_of}
 use Rattle.port_rows.specs.Levels.{Level, AllFit, AllStand, set_levels}
 use Rattle.scenario_tables.specs.declared.scenario.Scenario.{Scenario}

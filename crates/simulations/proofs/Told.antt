@@ -4,10 +4,10 @@ use Rattle.std.specs.Prelude.{sum_by}
 use Rattle.std.proofs.lemmas.List.Sums.{sum_by-cons}
 use Rattle.av_base.specs.Word.{word}
 use Rattle.histories.specs.History.{is_raised, numbers, only_if}
-use Rattle.mm_runs.specs.Views.{Levels, HostSide, HostView, AgentSide, AgentView, levels_at}
-use Rattle.mm_runs.specs.Operations.{Beat as MemoryBeat}
-use Rattle.mm_runs.specs.Commands.{Transfer, agent_accepts, is_of_reads, transfer_at}
-use Rattle.mm_runs.specs.Legal.{gives_word}
+use Rattle.memory_runs.specs.Views.{Levels, HostSide, HostView, AgentSide, AgentView, levels_at}
+use Rattle.memory_runs.specs.Operations.{Beat as MemoryBeat}
+use Rattle.memory_runs.specs.Commands.{Transfer, agent_accepts, is_of_reads, transfer_at}
+use Rattle.memory_runs.specs.Legal.{gives_word}
 use Rattle.stream_runs.specs.View.{EndView, Beat, Side, beat_at}
 use Rattle.stream_runs.specs.Symbols.{symbol_count}
 use Rattle.trace_lines.specs.declared.counts.Counts.{Counts}

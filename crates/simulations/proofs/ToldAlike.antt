@@ -2,18 +2,18 @@
 use Rattle.std.proofs.Common.{◌≡◌, ◌<◌, ◌==◌, ℕ, List, ◌++◌, length, ap, ap₂}
 use Rattle.histories.specs.History.{numbers, one_if}
 use Rattle.address_map.specs.Maps.{hosts_of, agents_of}
-use Rattle.link_rules.specs.declared.plan_links.StreamLink.{StreamLink}
-use Rattle.link_rules.specs.PlanLinks.{stream_links}
+use Rattle.link_rules.specs.declared.plan_connections.StreamConnection.{StreamConnection}
+use Rattle.link_rules.specs.PlanConnections.{stream_connections}
 use Rattle.link_rules.specs.Plans.{PlanTable}
 use Rattle.netlist.specs.Netlists.{Netlist}
 use Rattle.netlist.specs.Runs.{Run}
 use Rattle.stream_runs.specs.Ends.{side_of}
 use Rattle.stream_runs.specs.View.{is_high}
 use Rattle.st_timing.specs.Ends.{declared}
-use Rattle.mm_runs.specs.Beginnings.{AgentsAgree}
-use Rattle.mm_runs.specs.Commands.{agent_accepts, transfer_at}
-use Rattle.mm_runs.specs.Legal.{gives_word}
-use Rattle.mm_runs.specs.Views.{AgentSide, AgentView}
+use Rattle.memory_runs.specs.Beginnings.{AgentsAgree}
+use Rattle.memory_runs.specs.Commands.{agent_accepts, transfer_at}
+use Rattle.memory_runs.specs.Legal.{gives_word}
+use Rattle.memory_runs.specs.Views.{AgentSide, AgentView}
 use Rattle.map_text.specs.Text.{end_name}
 use Rattle.memory_plans.specs.Systems.{memory_system}
 use Rattle.port_tables.specs.Ports.{name_at}
@@ -47,7 +47,7 @@ module _ (accepted : AcceptedAlike) (transfer : TransfersAlike) (plan : PlanTabl
       let left = agent_in plan netlist one a in
       let right = agent_in plan netlist two a in
       same_agent k (name_in system (agents_of system) a) side left right (accepted side left right end k agree low) (transfer side left right end k agree low) (agree.signals k low) (agree.grant k low))) in
-      let streams = flat_same (told_of_stream k) (stream_ends plan netlist one) (stream_ends plan netlist two) (stream_links system) (λ (link : StreamLink). (
+      let streams = flat_same (told_of_stream k) (stream_ends plan netlist one) (stream_ends plan netlist two) (stream_connections system) (λ (link : StreamConnection). (
       let source = all.streams link.source_end in
       let sink = all.streams link.sink_end in
       same_stream k (end_name system link.source_end) (end_name system link.sink_end) (side_of (declared link.source)) (side_of (declared link.sink))
@@ -69,12 +69,12 @@ module _ (accepted : AcceptedAlike) (transfer : TransfersAlike) (plan : PlanTabl
       let left = agent_in plan netlist one a in
       let right = agent_in plan netlist two a in
       same_beats k (name_in system (agents_of system) a) side left right (accepted side left right end k agree low) (transfer side left right end k agree low))) in
-      let delivered = sum_same (symbols_delivered_in k) (stream_ends plan netlist one) (stream_ends plan netlist two) (stream_links system) (λ (link : StreamLink). (
+      let delivered = sum_same (symbols_delivered_in k) (stream_ends plan netlist one) (stream_ends plan netlist two) (stream_connections system) (λ (link : StreamConnection). (
       let sink = all.streams link.sink_end in
       same_symbols k (end_name system link.source_end) (end_name system link.sink_end) (side_of (declared link.source)) (side_of (declared link.sink))
       (stream_view system netlist one link.source_end) (stream_view system netlist two link.source_end) (stream_view system netlist one link.sink_end) (stream_view system netlist two link.sink_end)
       (dropped_signal netlist one (name_at system link.sink_end)) (dropped_signal netlist two (name_at system link.sink_end))
       (record { valid = sink.valid k low; beat = sink.beat k low; ready = sink.ready k low }))) in
-      let dropped = sum_same (λ (stream : StreamEnds). one_if (is_high stream.dropped k)) (stream_ends plan netlist one) (stream_ends plan netlist two) (stream_links system) (λ (link : StreamLink).
+      let dropped = sum_same (λ (stream : StreamEnds). one_if (is_high stream.dropped k)) (stream_ends plan netlist one) (stream_ends plan netlist two) (stream_connections system) (λ (link : StreamConnection).
       ap (λ (level : ℕ). one_if (level == 1)) (all.dropped link.sink_end k low)) in
       same_counts _ _ _ _ _ _ _ _ taken given delivered dropped

@@ -5,7 +5,7 @@ use Rattle.link_rules.specs.Plans.{PlanTable}
 use Rattle.netlist.specs.Netlists.{Netlist}
 use Rattle.netlist.specs.Runs.{Run}
 use Rattle.stream_runs.specs.View.{AgreeBefore}
-use Rattle.mm_runs.specs.Beginnings.{RunsAgreeBefore}
+use Rattle.memory_runs.specs.Beginnings.{RunsAgreeBefore}
 use Rattle.port_tables.specs.Ports.{name_at}
 use Rattle.interconnect.specs.Memory.{module_run}
 use Rattle.interconnect.specs.Streams.{dropped_signal}

@@ -2,13 +2,13 @@
 use Rattle.std.specs.Prelude.{◌≡◌, ℕ, List, ◌++◌, length, flat_map, slice_get, Some}
 use Rattle.av_base.specs.Word.{Word}
 use Rattle.address_map.specs.Maps.{hosts_of, agents_of}
-use Rattle.link_rules.specs.PlanLinks.{stream_links}
+use Rattle.link_rules.specs.PlanConnections.{stream_connections}
 use Rattle.link_rules.specs.Plans.{PlanTable, IsPlan}
 use Rattle.netlist.specs.Netlists.{Netlist, IsModule}
 use Rattle.netlist.specs.Runs.{Run}
 use Rattle.cycle_sim.specs.Sims.{SimValue, input_widths, widths_of}
 use Rattle.cycle_sim.specs.Standing.{StandsFor}
-use Rattle.mm_runs.specs.Legal.{Word as CodedWord}
+use Rattle.memory_runs.specs.Legal.{Word as CodedWord}
 use Rattle.port_tables.specs.Ports.{ports_of}
 use Rattle.port_tables.specs.PortMaps.{HasKnownPorts}
 use Rattle.port_rows.specs.Levels.{Level}
@@ -84,7 +84,7 @@ pub record StreamStands (plan : PlanTable) (netlist : Netlist) (run : Run) (c s 
 pub record ComponentsStand (plan : PlanTable) (scenario : Scenario) (netlist : Netlist) (run : Run) (c : ℕ) (bench : BenchValue) : Type 0 where
   pub host_count : length bench.hosts ≡ length (hosts_of plan.system)
   pub agent_count : length bench.agents ≡ length (agents_of plan.system)
-  pub stream_count : length bench.streams ≡ length (stream_links plan.system)
+  pub stream_count : length bench.streams ≡ length (stream_connections plan.system)
   pub hosts : (h : ℕ) (host : BenchHostValue) (script : List HostStatement) → slice_get bench.hosts h ≡ Some host → slice_get scenario.hosts h ≡ Some script → HostStands plan netlist run c h script host
   pub agents : (a : ℕ) (agent : BenchAgentValue) (script : List AgentStatement) → slice_get bench.agents a ≡ Some agent → slice_get scenario.agents a ≡ Some script
       → AgentStands plan netlist run c scenario.cycles a script agent

@@ -5,7 +5,7 @@ use Rattle.netlist.specs.Netlists.{IsInputPort}
 use Rattle.netlist.specs.Runs.{Run, IsValuation}
 use Rattle.cycle_sim.specs.Sims.{present, given_to}
 use Rattle.cycle_sim.specs.Standing.{IsClearedRun, with_cycle}
-use Rattle.mm_runs.specs.Legal.{Word as CodedWord}
+use Rattle.memory_runs.specs.Legal.{Word as CodedWord}
 use Rattle.port_rows.specs.Levels.{AllStand, set_levels}
 use Rattle.interconnect.specs.Memory.{host_in, agent_in}
 use Rattle.scenario_tables.specs.declared.scenario.Scenario.{Scenario}

@@ -5,8 +5,8 @@ use Rattle.histories.specs.History.{is_raised}
 use Rattle.link_rules.specs.Plans.{PlanTable}
 use Rattle.netlist.specs.Netlists.{Netlist}
 use Rattle.netlist.specs.Runs.{Run}
-use Rattle.mm_runs.specs.Views.{HostView}
-use Rattle.mm_runs.specs.Legal.{Word, given}
+use Rattle.memory_runs.specs.Views.{HostView}
+use Rattle.memory_runs.specs.Legal.{Word, given}
 use Rattle.memory_plans.specs.Systems.{memory_system}
 use Rattle.interconnect.specs.Memory.{host_in}
 use Rattle.scenario_tables.specs.declared.scenario.Scenario.{Scenario}

@@ -5,8 +5,8 @@ use Rattle.std.proofs.lemmas.Grind.{flat_map-append}
 use Rattle.std.proofs.lemmas.List.FromFn.{length-map-range_with_len}
 use Rattle.std.proofs.lemmas.List.Sums.{sum_by-cons}
 use Rattle.histories.specs.History.{before, only_if, one_if}
-use Rattle.mm_runs.specs.Commands.{Transfer, agent_accepts, accepted}
-use Rattle.mm_runs.specs.Legal.{gives_word, given, Word}
+use Rattle.memory_runs.specs.Commands.{Transfer, agent_accepts, accepted}
+use Rattle.memory_runs.specs.Legal.{gives_word, given, Word}
 use Rattle.stream_runs.specs.View.{beat_at, is_high}
 use Rattle.stream_runs.specs.Symbols.{symbol_count, symbol_in, symbols_of, delivered_symbols, symbols_in}
 use Rattle.trace_lines.specs.declared.counts.Counts.{Counts}

@@ -5,8 +5,8 @@ use Rattle.std.proofs.lemmas.Bool.{cond-true, cond-false}
 use Rattle.std.proofs.lemmas.List.{length-map}
 use Rattle.av_base.specs.Word.{word}
 use Rattle.histories.specs.History.{is_raised, numbers}
-use Rattle.mm_runs.specs.Views.{levels_at}
-use Rattle.mm_runs.specs.Commands.{Burst, Transfer, agent_accepts, burst_before, read_beat, read_transfer, write_transfer}
+use Rattle.memory_runs.specs.Views.{levels_at}
+use Rattle.memory_runs.specs.Commands.{Burst, Transfer, agent_accepts, burst_before, read_beat, read_transfer, write_transfer}
 use Rattle.trace_lines.specs.Lines.{write_line, read_line}
 use Rattle.trace_lines.specs.Told.{AgentEnd, taken_at, told_of_agent, told_of_transfer, read_address, write_address}
 use Rattle.trace_lines.specs.Sums.{beats_taken_in}

@@ -1,8 +1,8 @@
 -- What a run has done so far, in four counts.
 use Rattle.std.specs.Prelude.{ℕ, length, flat_map, sum_by}
 use Rattle.histories.specs.History.{before, only_if}
-use Rattle.mm_runs.specs.Commands.{Transfer, agent_accepts, accepted}
-use Rattle.mm_runs.specs.Legal.{given}
+use Rattle.memory_runs.specs.Commands.{Transfer, agent_accepts, accepted}
+use Rattle.memory_runs.specs.Legal.{given}
 use Rattle.stream_runs.specs.View.{is_high}
 use Rattle.stream_runs.specs.Symbols.{delivered_symbols}
 use Rattle.trace_lines.specs.declared.counts.Counts.{Counts}

@@ -1,8 +1,8 @@
 -- What one cycle adds to the counts of a run.
 use Rattle.std.specs.Prelude.{ℕ, ◌+◌, length, sum_by, if◌then◌else◌}
 use Rattle.histories.specs.History.{one_if}
-use Rattle.mm_runs.specs.Commands.{agent_accepts}
-use Rattle.mm_runs.specs.Legal.{gives_word}
+use Rattle.memory_runs.specs.Commands.{agent_accepts}
+use Rattle.memory_runs.specs.Legal.{gives_word}
 use Rattle.stream_runs.specs.View.{beat_at, is_high}
 use Rattle.stream_runs.specs.Symbols.{symbol_count}
 use Rattle.trace_lines.specs.declared.counts.Counts.{Counts}

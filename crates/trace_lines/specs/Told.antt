@@ -2,10 +2,10 @@
 use Rattle.std.specs.Prelude.{ℕ, ◌+◌, ◌*◌, ◌%◌, Bool, List, [], ◌∷◌, ◌++◌, map, flat_map, length, nat_eq, Option, Some, None, if◌then◌else◌}
 use Rattle.av_base.specs.Word.{word}
 use Rattle.histories.specs.History.{before, only_if}
-use Rattle.mm_runs.specs.Views.{HostSide, HostView, AgentSide, AgentView}
-use Rattle.mm_runs.specs.Operations.{Beat}
-use Rattle.mm_runs.specs.Commands.{Transfer, agent_accepts, byte_address, burst_before, transfer_at, is_of_reads}
-use Rattle.mm_runs.specs.Legal.{gives_word}
+use Rattle.memory_runs.specs.Views.{HostSide, HostView, AgentSide, AgentView}
+use Rattle.memory_runs.specs.Operations.{Beat}
+use Rattle.memory_runs.specs.Commands.{Transfer, agent_accepts, byte_address, burst_before, transfer_at, is_of_reads}
+use Rattle.memory_runs.specs.Legal.{gives_word}
 use Rattle.stream_runs.specs.View.{EndView, Side, is_high, is_transfer}
 use Rattle.trace_lines.specs.declared.events.ShownBeat.{ShownBeat}
 use Rattle.trace_lines.specs.Lines.{get_line, write_line, read_line, sent_line, got_line, dropped_line, end_line}

@@ -1,6 +1,6 @@
 -- Small runs: a wire of byte packets whose sink stalls in each third cycle, and a host that writes to an agent and reads it.
 use Rattle.std.specs.Prelude.{ℕ, true, false, List, [], ◌∷◌, Some, codes}
-use Rattle.mm_runs.specs.Views.{Signals, Shape, HostSide, HostView, AgentSide, AgentView}
+use Rattle.memory_runs.specs.Views.{Signals, Shape, HostSide, HostView, AgentSide, AgentView}
 use Rattle.stream_runs.specs.View.{EndView}
 use Rattle.stream_runs.specs.Ends.{byte_packets, side_of}
 use Rattle.stream_runs.specs.Rows.{signal_of, never, showing, word, opens, closes}

@@ -6,7 +6,7 @@ ghost use Rattle.histories.specs.History.{is_raised};
 ghost use Rattle.iface_roles.specs.declared.records.Finished.{Finished as Known};
 ghost use Rattle.system_tables.specs.Tables.{IsEnd};
 ghost use Rattle.link_rules.specs.Plans.{instance_name_at, interface_name_at};
-ghost use Rattle.mm_runs.specs.Commands.{agent_accepts};
+ghost use Rattle.memory_runs.specs.Commands.{agent_accepts};
 ghost use Rattle.trace_lines.specs.Spelling.{short_hex};
 ghost use Rattle.trace_lines.specs.Lines.{write_line, read_line, sent_line, got_line, dropped_line};
 ghost use Rattle.trace_lines.specs.Told.{AgentEnd, RunEnds, read_address, write_address, told_of_agent, told_in, trace_of};

@@ -9,7 +9,7 @@ use Rattle.system_tables.specs.declared.tables.EndId.{EndId}
 use Rattle.system_tables.specs.Tables.{SystemTable, IsEnd}
 use Rattle.address_map.specs.Footprints.{known_at}
 use Rattle.address_map.specs.Maps.{hosts_of}
-use Rattle.link_rules.specs.PlanLinks.{IsHostEnd}
+use Rattle.link_rules.specs.PlanConnections.{IsHostEnd}
 
 first_is : (ends : List EndId) (other : EndId) → 1 ≤ length ends → slice_get ends 0 ≡ Some (slice_index_or ends 0 other)
 first_is [] other some = absurd (omega arith)

@@ -7,7 +7,7 @@ use Rattle.iface_roles.specs.declared.records.HostPort.{HostPort}
 use Rattle.iface_roles.specs.Proper.{range_of}
 use Rattle.system_tables.specs.Tables.{SystemTable}
 use Rattle.address_map.specs.Maps.{hosts_of, agents_of}
-use Rattle.link_rules.specs.PlanLinks.{stream_links}
+use Rattle.link_rules.specs.PlanConnections.{stream_connections}
 use Rattle.waves.specs.Cuts.{line_feed, lines}
 use Rattle.verilog_writer.specs.Text.{hex_digits}
 use Rattle.scenario_tables.specs.declared.statements.HostStatement.{HostStatement}
@@ -36,8 +36,8 @@ standing system cycles script = record {
   cycles = Some cycles;
   hosts = script ∷ replicate (length (hosts_of system) - 1) [];
   agents = replicate (length (agents_of system)) [];
-  sources = replicate (length (stream_links system)) [];
-  sinks = replicate (length (stream_links system)) [];
+  sources = replicate (length (stream_connections system)) [];
+  sinks = replicate (length (stream_connections system)) [];
 }
 
 -- host 0 has this name and these ports

@@ -3,7 +3,7 @@ use Rattle.std.specs.Prelude.{ℕ, ◌-◌, ◌^◌, ◌<◌, List, [], ◌∷�
 use Rattle.std.specs.Option.{option_map_or}
 use Rattle.system_tables.specs.Tables.{SystemTable}
 use Rattle.address_map.specs.Maps.{hosts_of, agents_of}
-use Rattle.link_rules.specs.PlanLinks.{stream_links}
+use Rattle.link_rules.specs.PlanConnections.{stream_connections}
 use Rattle.map_text.specs.Text.{end_name}
 use Rattle.scenario_tables.specs.declared.statements.HostStatement.{HostStatement}
 use Rattle.scenario_tables.specs.declared.scenario.Scenario.{Scenario}
@@ -22,8 +22,8 @@ host_alone system cycles statements = record {
   cycles = cycles;
   hosts = statements ∷ replicate (length (hosts_of system) - 1) [];
   agents = replicate (length (agents_of system)) [];
-  sources = replicate (length (stream_links system)) [];
-  sinks = replicate (length (stream_links system)) [];
+  sources = replicate (length (stream_connections system)) [];
+  sinks = replicate (length (stream_connections system)) [];
 }
 
 -- the text of the commands of transactions at host 0, for so many cycles

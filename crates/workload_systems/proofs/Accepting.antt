@@ -14,9 +14,9 @@ use Rattle.address_map.specs.Footprints.{footprints}
 use Rattle.address_map.specs.MapRules as maps
 use Rattle.link_rules.specs.Links.{tests_of, limit_tests}
 use Rattle.address_map.specs.Maps.{hosts_of, agents_of}
-use Rattle.link_rules.specs.declared.plan_links.MemoryLink.{MemoryLink}
-use Rattle.link_rules.specs.declared.plan_links.StreamLink.{StreamLink}
-use Rattle.link_rules.specs.PlanLinks.{memory_links, stream_links}
+use Rattle.link_rules.specs.declared.plan_connections.MemoryConnection.{MemoryConnection}
+use Rattle.link_rules.specs.declared.plan_connections.StreamConnection.{StreamConnection}
+use Rattle.link_rules.specs.PlanConnections.{memory_connections, stream_connections}
 use Rattle.workload_systems.specs.Systems.{hosts, agents}
 use Rattle.workload_systems.specs.Workloads.{host_port, agent_port, stream_port, workload_links, workload_streams}
 use Rattle.workload_systems.specs.Components.{host_name, agent_name, source_name, sink_name}
@@ -62,10 +62,10 @@ fits (Err refusal) = false
 
 -- what tells a workload system: its name, its links, and how many hosts and agents there are
 abbrev pub Facts : Type 0
-Facts = List ℕ × (List MemoryLink × (List StreamLink × (ℕ × ℕ)))
+Facts = List ℕ × (List MemoryConnection × (List StreamConnection × (ℕ × ℕ)))
 
 abbrev pub facts_of : SystemTable → Facts
-facts_of system = (system.name, (memory_links system, (stream_links system, (length (hosts_of system), length (agents_of system)))))
+facts_of system = (system.name, (memory_connections system, (stream_connections system, (length (hosts_of system), length (agents_of system)))))
 
 abbrev pub facts : {E : Type 0} → Result SystemTable E → Option Facts
 facts (Ok system) = Some (facts_of system)

@@ -2,8 +2,8 @@
 use Rattle.std.proofs.Common.{◌≡◌, ℕ, ◌+◌, ◌*◌, ◌/◌, ◌%◌, List, [], ◌∷◌, ◌++◌, map, refl, ap, ◌∙◌, arith}
 use Rattle.std.specs.Prelude.{codes}
 use Rattle.std.specs.List.{flat_map}
-use Rattle.link_rules.specs.declared.plan_links.MemoryLink.{MemoryLink}
-use Rattle.link_rules.specs.declared.plan_links.StreamLink.{StreamLink}
+use Rattle.link_rules.specs.declared.plan_connections.MemoryConnection.{MemoryConnection}
+use Rattle.link_rules.specs.declared.plan_connections.StreamConnection.{StreamConnection}
 use Rattle.workload_systems.specs.Workloads.{host_port, agent_port, stream_port, workload_link, links_of_host, workload_links, workload_stream, workload_streams}
 use Rattle.workload_systems.proofs.Accepting.{workload_facts}
 use Rattle.workload_systems.specs.Components.{digit, host_name, agent_name, source_name, sink_name}
@@ -54,7 +54,7 @@ all_same_flat : {X Y : Type 0} (f g : X → List Y) → ((x : X) → f x ≡ g x
 all_same_flat f g same [] = refl
 all_same_flat f g same (x ∷ xs) = ap (λ l. l ++ flat_map f xs) (same x) ∙ ap (λ l. g x ++ l) (all_same_flat f g same xs)
 
-abbrev link_with : ℕ → ℕ → ℕ → ℕ → ℕ → MemoryLink
+abbrev link_with : ℕ → ℕ → ℕ → ℕ → ℕ → MemoryConnection
 link_with count i j host agent = record { connection = count * i + j; host_number = i; agent_number = j; host = host_port host; agent = agent_port agent; base = 4096 * j; shares = 1 + i % 3 }
 
 same_link : (n i j : ℕ) → workload_link n i j ≡ workload_link (n % 24) i j
@@ -70,7 +70,7 @@ pub same_links : (n : ℕ) → workload_links n ≡ workload_links (n % 24)
 same_links n =
     all_same_flat (links_of_host n) (links_of_host (n % 24)) (same_links_of n) (below (hosts n)) ∙ ap (λ c. flat_map (links_of_host (n % 24)) (below c)) (same_hosts n)
 
-abbrev stream_with : ℕ → ℕ → ℕ → ℕ → ℕ → ℕ → StreamLink
+abbrev stream_with : ℕ → ℕ → ℕ → ℕ → ℕ → ℕ → StreamConnection
 stream_with h a t k source sink = record {
   connection = h * a + k;
   source_end = record { instance = h + a + k; interface = 0 };

@@ -6,9 +6,9 @@ use Rattle.iface_roles.specs.declared.records.AgentPort.{AgentPort}
 use Rattle.iface_roles.specs.declared.records.StreamPort.{StreamPort}
 use Rattle.system_tables.specs.Tables.{SystemTable}
 use Rattle.address_map.specs.Maps.{hosts_of, agents_of}
-use Rattle.link_rules.specs.declared.plan_links.MemoryLink.{MemoryLink}
-use Rattle.link_rules.specs.declared.plan_links.StreamLink.{StreamLink}
-use Rattle.link_rules.specs.PlanLinks.{memory_links, stream_links}
+use Rattle.link_rules.specs.declared.plan_connections.MemoryConnection.{MemoryConnection}
+use Rattle.link_rules.specs.declared.plan_connections.StreamConnection.{StreamConnection}
+use Rattle.link_rules.specs.PlanConnections.{memory_connections, stream_connections}
 use Rattle.workload_systems.specs.Systems.{hosts, agents, streams, below}
 
 -- a host of 2 to the exponent bytes and 20 bits of byte address; one of a byte has no byte enables
@@ -76,7 +76,7 @@ stream_port latency symbols = record {
 }
 
 -- a host at an agent: their widths, a base of 0x1000 times the agent's number, and 1 to 3 shares
-abbrev pub workload_link : ℕ → ℕ → ℕ → MemoryLink
+abbrev pub workload_link : ℕ → ℕ → ℕ → MemoryConnection
 workload_link number i j = record {
   connection = agents number * i + j;
   host_number = i;
@@ -87,15 +87,15 @@ workload_link number i j = record {
   shares = 1 + i % 3;
 }
 
-abbrev pub links_of_host : ℕ → ℕ → List MemoryLink
+abbrev pub links_of_host : ℕ → ℕ → List MemoryConnection
 links_of_host number i = map (workload_link number i) (below (agents number))
 
 -- each host is joined to each agent
-abbrev pub workload_links : ℕ → List MemoryLink
+abbrev pub workload_links : ℕ → List MemoryConnection
 workload_links number = flat_map (links_of_host number) (below (hosts number))
 
 -- a source and its sink; the instances are hosts, agents, sources and sinks, in this order
-abbrev pub workload_stream : ℕ → ℕ → StreamLink
+abbrev pub workload_stream : ℕ → ℕ → StreamConnection
 workload_stream number k = record {
   connection = hosts number * agents number + k;
   source_end = record { instance = hosts number + agents number + k; interface = 0 };
@@ -105,7 +105,7 @@ workload_stream number k = record {
   fifo = 0;
 }
 
-abbrev pub workload_streams : ℕ → List StreamLink
+abbrev pub workload_streams : ℕ → List StreamConnection
 workload_streams number = map (workload_stream number) (below (streams number))
 
 -- the system is the workload system of the number
@@ -113,5 +113,5 @@ pub record IsWorkload (number : ℕ) (system : SystemTable) : Type 0 where
   pub name : system.name ≡ codes "w"
   pub hosts_are : length (hosts_of system) ≡ hosts number
   pub agents_are : length (agents_of system) ≡ agents number
-  pub links : memory_links system ≡ workload_links number
-  pub streams_are : stream_links system ≡ workload_streams number
+  pub links : memory_connections system ≡ workload_links number
+  pub streams_are : stream_connections system ≡ workload_streams number

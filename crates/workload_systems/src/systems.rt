@@ -75,7 +75,7 @@ fn put_parameter(text: &mut Bytes, i: u8, j: u8, name: &[u8], value: &[u8]) -> R
 }
 
 /// A host at an agent.
-fn put_memory_link(text: &mut Bytes, i: u8, j: u8) -> Result<(), NoMemory>
+fn put_memory_connection(text: &mut Bytes, i: u8, j: u8) -> Result<(), NoMemory>
     requires host { i < 10 }
     requires agent { j < 10 }
     ensures { OnOk result (text.new ≡ text.old ++ text_of (memory_lines i j)) }
@@ -96,12 +96,12 @@ fn put_host_links(text: &mut Bytes, agents: u8, i: u8) -> Result<(), NoMemory>
     ensures { OnOk result (text.new ≡ text.old ++ text_of (host_links agents i)) }
 {
     'agents: for j in 0..agents {
-        put_memory_link(text, i, j)?;
+        put_memory_connection(text, i, j)?;
     }
     Ok(())
 }
 
-fn put_stream_link(text: &mut Bytes, k: u8) -> Result<(), NoMemory>
+fn put_stream_connection(text: &mut Bytes, k: u8) -> Result<(), NoMemory>
     requires { k < 10 }
     ensures { OnOk result (text.new ≡ text.old ++ line_text (stream_line k)) }
 {
@@ -151,7 +151,7 @@ fn put_sinks(text: &mut Bytes, number: u32, streams: u8) -> Result<(), NoMemory>
     Ok(())
 }
 
-fn put_memory_links(text: &mut Bytes, hosts: u8, agents: u8) -> Result<(), NoMemory>
+fn put_memory_connections(text: &mut Bytes, hosts: u8, agents: u8) -> Result<(), NoMemory>
     requires hosts { hosts ≤ 10 }
     requires agents { agents ≤ 10 }
     ensures { OnOk result (text.new ≡ text.old ++ text_of (flat_map (host_links agents) (below hosts))) }
@@ -162,12 +162,12 @@ fn put_memory_links(text: &mut Bytes, hosts: u8, agents: u8) -> Result<(), NoMem
     Ok(())
 }
 
-fn put_stream_links(text: &mut Bytes, streams: u8) -> Result<(), NoMemory>
+fn put_stream_connections(text: &mut Bytes, streams: u8) -> Result<(), NoMemory>
     requires { streams ≤ 10 }
     ensures { OnOk result (text.new ≡ text.old ++ text_of (map stream_line (below streams))) }
 {
     'streams: for k in 0..streams {
-        put_stream_link(text, k)?;
+        put_stream_connection(text, k)?;
     }
     Ok(())
 }
@@ -186,7 +186,7 @@ pub(crate) fn system_text(alloc: Global, number: u32) -> Result<Bytes, NoMemory>
     put_agents(&mut text, number, agents)?;
     put_sources(&mut text, number, streams)?;
     put_sinks(&mut text, number, streams)?;
-    put_memory_links(&mut text, hosts, agents)?;
-    put_stream_links(&mut text, streams)?;
+    put_memory_connections(&mut text, hosts, agents)?;
+    put_stream_connections(&mut text, streams)?;
     Ok(text)
 }

@@ -6,8 +6,8 @@ use Rattle.iface_roles.specs.declared.records.AgentPort.{AgentPort}
 use Rattle.iface_roles.specs.Proper.{IsBoundedAgent}
 use Rattle.histories.specs.History.{one_if}
 use Rattle.cycle_sim.specs.Sims.{SimValue}
-use Rattle.mm_runs.specs.Views.{AgentView, levels_at}
-use Rattle.mm_runs.specs.Legal.{Word as CodedWord}
+use Rattle.memory_runs.specs.Views.{AgentView, levels_at}
+use Rattle.memory_runs.specs.Legal.{Word as CodedWord}
 use Rattle.scenario_tables.specs.declared.statements.AgentStatement.{AgentStatement}
 use Rattle.scenario_tables.specs.Statements.{IsAgentScript}
 use Rattle.agent_stand_ins.specs.declared.delayed.Answer.{Answer}

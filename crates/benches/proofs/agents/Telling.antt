@@ -9,8 +9,8 @@ use Rattle.histories.specs.History.{is_raised, one_if}
 use Rattle.memory_sides.specs.Sides.{agent_side}
 use Rattle.system_tables.specs.Tables.{SystemTable}
 use Rattle.cycle_sim.specs.Sims.{SimValue}
-use Rattle.mm_runs.specs.Views.{Levels, AgentView, levels_at}
-use Rattle.mm_runs.specs.Commands.{Burst, agent_accepts, burst_before, byte_address}
+use Rattle.memory_runs.specs.Views.{Levels, AgentView, levels_at}
+use Rattle.memory_runs.specs.Commands.{Burst, agent_accepts, burst_before, byte_address}
 use Rattle.scenario_tables.specs.declared.statements.AgentStatement.{AgentStatement}
 use Rattle.agent_stand_ins.specs.StandIns.{stalls_in}
 use Rattle.agent_stand_ins.specs.Whole.{AgentStandInValue, IsBehind, StandsFor, TakesAsDefined, accepts, address_shown}

@@ -10,9 +10,9 @@ use Rattle.iface_roles.specs.Records.{ready_latency}
 use Rattle.system_tables.specs.declared.tables.EndId.{EndId}
 use Rattle.system_tables.specs.Tables.{SystemTable}
 use Rattle.address_map.specs.Maps.{hosts_of, agents_of}
-use Rattle.link_rules.specs.declared.plan_links.StreamLink.{StreamLink}
+use Rattle.link_rules.specs.declared.plan_connections.StreamConnection.{StreamConnection}
 use Rattle.link_rules.specs.Links.{streams_of}
-use Rattle.link_rules.specs.PlanLinks.{stream_links, IsStreamLink, KeepsStreamRules}
+use Rattle.link_rules.specs.PlanConnections.{stream_connections, IsStreamConnection, KeepsStreamRules}
 use Rattle.link_rules.specs.Plans.{PlanTable, IsPlan}
 use Rattle.port_tables.specs.EndFacts.{planned}
 use Rattle.port_tables.specs.Ends.{IsAnEnd}
@@ -23,25 +23,25 @@ use Rattle.benches.specs.Sound.{IsSoundLink}
 
 -- ---- how many there are
 
-pub few_links : (plan : PlanTable) → IsPlan plan → map (λ (link : StreamLink). link.connection) (stream_links plan.system) ≡ streams_of plan.system → length (stream_links plan.system) ≤ 16
+pub few_links : (plan : PlanTable) → IsPlan plan → map (λ (link : StreamConnection). link.connection) (stream_connections plan.system) ≡ streams_of plan.system → length (stream_connections plan.system) ≤ 16
 few_links plan is numbers =
     let few = (planned plan is).few_streams in
-    let many = length-map (stream_links plan.system) (λ (link : StreamLink). link.connection) in
+    let many = length-map (stream_connections plan.system) (λ (link : StreamConnection). link.connection) in
     let all = ap (λ (ns : List ℕ). length ns) numbers in
     omega (arith, few, many, all)
 
 -- ---- their ends
 
-end_among : (system : SystemTable) (number : ℕ) (link : StreamLink) (end : EndId) (is : IsStreamLink system number link) → Among end (is.connection.start ∷ is.connection.end ∷ []) → Among end (ends_of system)
+end_among : (system : SystemTable) (number : ℕ) (link : StreamConnection) (end : EndId) (is : IsStreamConnection system number link) → Among end (is.connection.start ∷ is.connection.end ∷ []) → Among end (ends_of system)
 end_among system number link end is a =
     among_back (hosts_of system ++ agents_of system) (flat_map (connection_ends system) (streams_of system)) end
     (among_flat (connection_ends system) (streams_of system) link.connection end (among_at (streams_of system) number link.connection is.place_is)
     (subst (λ (ends : List EndId). Among end ends) (sym (ends_at system link.connection is.connection is.connection_is)) a))
 
-pub source_among : (system : SystemTable) (number : ℕ) (link : StreamLink) → IsStreamLink system number link → Among link.source_end (ends_of system)
+pub source_among : (system : SystemTable) (number : ℕ) (link : StreamConnection) → IsStreamConnection system number link → Among link.source_end (ends_of system)
 source_among system number link is = end_among system number link link.source_end is (inl is.start)
 
-pub sink_among : (system : SystemTable) (number : ℕ) (link : StreamLink) → IsStreamLink system number link → Among link.sink_end (ends_of system)
+pub sink_among : (system : SystemTable) (number : ℕ) (link : StreamConnection) → IsStreamConnection system number link → Among link.sink_end (ends_of system)
 sink_among system number link is = end_among system number link link.sink_end is (inr (inl is.end))
 
 an_end : (system : SystemTable) (end : EndId) → Among end (ends_of system) → IsAnEnd system end
@@ -49,7 +49,7 @@ an_end system end among = let at = at_among (ends_of system) end among in (at.pl
 
 -- ---- their records
 
-pub sound : (plan : PlanTable) (number : ℕ) (link : StreamLink) → IsStreamLink plan.system number link → KeepsStreamRules plan.system link → ((source : StreamPort) → IsProper (Source source) → IsBoundedStream source)
+pub sound : (plan : PlanTable) (number : ℕ) (link : StreamConnection) → IsStreamConnection plan.system number link → KeepsStreamRules plan.system link → ((source : StreamPort) → IsProper (Source source) → IsBoundedStream source)
     → ((sink : StreamPort) → IsProper (Sink sink) → IsBoundedStream sink) → IsSoundLink plan.system number link
 sound plan number link is keeps sources sinks =
     let rules = keeps is.connection is.connection_is in

@@ -9,7 +9,7 @@ use Rattle.iface_roles.specs.declared.records.StreamPort.{StreamPort}
 use Rattle.system_tables.specs.declared.tables.EndId.{EndId}
 use Rattle.system_tables.specs.Tables.{SystemTable}
 use Rattle.address_map.specs.Footprints.{known_at}
-use Rattle.link_rules.specs.PlanLinks.{IsStreamLink}
+use Rattle.link_rules.specs.PlanConnections.{IsStreamConnection}
 use Rattle.netlist.specs.declared.line.PortLine.{PortLine}
 use Rattle.netlist.specs.Netlists.{Netlist}
 use Rattle.netlist.specs.Runs.{Run}
@@ -107,7 +107,7 @@ SinksHaveRoom = (system : SystemTable) (row : List Word) → HasKnownPorts syste
     → AllFit row (level_if (place_at system end role.Ready) (one_if ready))
 
 pub room : (system : SystemTable) (row : List Word) (number : ℕ) (script : List Pattern) (stream : BenchStreamValue) → SourcesHaveRoom → SinksHaveRoom → (of : IsStreamOf system number script stream)
-    → IsStreamLink system number of.link → HasKnownPorts system → widths_of row ≡ input_widths (ports_of system) → FitsSource stream.source (unwrap_or (shown_by stream) no_beat)
+    → IsStreamConnection system number of.link → HasKnownPorts system → widths_of row ≡ input_widths (ports_of system) → FitsSource stream.source (unwrap_or (shown_by stream) no_beat)
     → FitsReady stream.sink (is_ready stream) → AllFit row (sets stream)
 room system row number script stream sources sinks of is known same beat_fits ready_fits =
     let link = of.link in
@@ -149,7 +149,7 @@ beat_same netlist run c sim ports stream same is are =
     same_beat _ _ (level (λ p. p.word)) (level (λ p. p.channel)) (level (λ p. p.error)) (level (λ p. p.first)) (level (λ p. p.last)) (level (λ p. p.empty))
 
 pub seen : (system : SystemTable) (netlist : Netlist) (run : Run) (row : List Word) (sim : SimValue) (number : ℕ) (script : List Pattern) (stream : BenchStreamValue)
-    (of : IsStreamOf system number script stream) → EndsAreShown system netlist run stream.cycle row → IsStreamLink system number of.link → sim.netlist ≡ netlist
+    (of : IsStreamOf system number script stream) → EndsAreShown system netlist run stream.cycle row → IsStreamConnection system number of.link → sim.netlist ≡ netlist
     → IsPresent run stream.cycle sim → FitsSource stream.source (unwrap_or (shown_by stream) no_beat) → FitsReady stream.sink (is_ready stream)
     → AllStand row (source_levels stream.places (shown_by stream)) → AllStand row (level_if stream.ready_place (one_if (is_ready stream)))
     → IsSeen (stream_view system netlist run of.link.source_end) (stream_view system netlist run of.link.sink_end) (dropped_signal netlist run (name_at system of.link.sink_end)) sim stream

@@ -6,7 +6,7 @@ ghost use Rattle.iface_roles.specs.declared.records.Finished.{Finished as Known}
 ghost use Rattle.iface_roles.specs.Proper.{IsBoundedAgent};
 ghost use Rattle.system_tables.specs.Tables.{IsEnd};
 ghost use Rattle.address_map.specs.Maps.{agents_of};
-ghost use Rattle.link_rules.specs.PlanLinks.{IsAgentEnd};
+ghost use Rattle.link_rules.specs.PlanConnections.{IsAgentEnd};
 ghost use Rattle.port_tables.specs.Ports.{ports_of};
 ghost use Rattle.port_tables.specs.PortMaps.{AreTold};
 ghost use Rattle.port_rows.specs.Levels.{AllFit, set_levels};

@@ -7,8 +7,8 @@ ghost use Rattle.iface_roles.specs.declared.records.Finished.{Finished};
 ghost use Rattle.iface_roles.specs.Records.{ready_latency};
 ghost use Rattle.system_tables.specs.declared.tables.EndId.{EndId};
 ghost use Rattle.system_tables.specs.Tables.{SystemTable, IsEnd, IsSystem};
-ghost use Rattle.link_rules.specs.declared.plan_links.StreamLink.{StreamLink};
-ghost use Rattle.link_rules.specs.PlanLinks.{stream_links};
+ghost use Rattle.link_rules.specs.declared.plan_connections.StreamConnection.{StreamConnection};
+ghost use Rattle.link_rules.specs.PlanConnections.{stream_connections};
 ghost use Rattle.link_rules.specs.Plans.{PlanTable, IsPlan};
 ghost use Rattle.netlist.specs.Netlists.{Netlist};
 ghost use Rattle.netlist.specs.Runs.{Run};
@@ -44,14 +44,14 @@ use stream_stand_ins::sources_keep_enough;
 
 /// A plan has few streams.
 pub(crate) fn links_are_few()
-    ensures { (plan : PlanTable) → IsPlan plan → length (stream_links plan.system) ≤ 16 }
+    ensures { (plan : PlanTable) → IsPlan plan → length (stream_connections plan.system) ≤ 16 }
 {
     streams_are_numbered();
 }
 
 /// The ends of each stream of a plan are ends of its module, and their records are sound.
 pub(crate) fn links_are_sound()
-    ensures { (plan : PlanTable) → IsPlan plan → (number : ℕ) (link : StreamLink) → slice_get (stream_links plan.system) number ≡ Some link → IsSoundLink plan.system number link }
+    ensures { (plan : PlanTable) → IsPlan plan → (number : ℕ) (link : StreamConnection) → slice_get (stream_connections plan.system) number ≡ Some link → IsSoundLink plan.system number link }
 {
     streams_are_numbered();
     links_keep_rules();

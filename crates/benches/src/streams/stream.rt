@@ -5,8 +5,8 @@ ghost use Rattle.std.specs.Bool.{OnTrue, OnFalse};
 ghost use Rattle.av_base.specs.Word.{word};
 ghost use Rattle.av_files.specs.Outside.{Rose, with_more};
 ghost use Rattle.histories.specs.History.{only_if};
-ghost use Rattle.link_rules.specs.declared.plan_links.StreamLink.{StreamLink as Link};
-ghost use Rattle.link_rules.specs.PlanLinks.{stream_links};
+ghost use Rattle.link_rules.specs.declared.plan_connections.StreamConnection.{StreamConnection as Link};
+ghost use Rattle.link_rules.specs.PlanConnections.{stream_connections};
 ghost use Rattle.port_tables.specs.Ports.{ports_of};
 ghost use Rattle.port_tables.specs.PortMaps.{AreTold};
 ghost use Rattle.scenario_tables.specs.declared.statements.SourceStatement.{SourceStatement as Statement};
@@ -26,7 +26,7 @@ use av_files::{Sink, put_all};
 use byte_lines::Line;
 use iface_roles::{Role, StreamPort};
 use interconnect::PortMap;
-use link_rules::{Plan, StreamLink};
+use link_rules::{Plan, StreamConnection};
 use netlist::PortLine;
 use port_rows::stream_ends::{SinkPorts, SourcePlaces};
 use port_rows::{InputRow, input_place, levels_stand, port_number};
@@ -86,15 +86,15 @@ fn first_stream<'a>(
     ports: &PortMap,
     header: &[PortLine],
     number: u32,
-    link: &StreamLink,
+    link: &StreamConnection,
     statements: &'a [SourceStatement],
     script: &'a [Pattern],
 ) -> BenchStream<'a>
     requires told { AreTold plan.now.system ports.now }
     requires header { header.now ≡ ports_of plan.now.system }
-    requires link { slice_get (stream_links plan.now.system) number ≡ Some link.now }
-    requires statements { (of : Link) → slice_get (stream_links plan.now.system) number ≡ Some of → IsSourceScript of.source statements.now }
-    requires script { (of : Link) → slice_get (stream_links plan.now.system) number ≡ Some of → IsSinkScript of.sink script.now }
+    requires link { slice_get (stream_connections plan.now.system) number ≡ Some link.now }
+    requires statements { (of : Link) → slice_get (stream_connections plan.now.system) number ≡ Some of → IsSourceScript of.source statements.now }
+    requires script { (of : Link) → slice_get (stream_connections plan.now.system) number ≡ Some of → IsSinkScript of.sink script.now }
     ensures { IsFirstStream plan.now.system number statements.now script.now result }
 {
     plan.well_made();
@@ -125,18 +125,18 @@ pub fn streams_of_plan<'a>(
 ) -> Result<Vec<BenchStream<'a>>, NoMemory>
     requires told { AreTold plan.now.system ports.now }
     requires header { header.now ≡ ports_of plan.now.system }
-    requires sources { length sources.now ≡ length (stream_links plan.now.system) }
-    requires sinks { length sinks.now ≡ length (stream_links plan.now.system) }
-    requires statements { (s : ℕ) (link : Link) (script : Sequence Statement) → slice_get (stream_links plan.now.system) s ≡ Some link → slice_get sources.now s ≡ Some script
+    requires sources { length sources.now ≡ length (stream_connections plan.now.system) }
+    requires sinks { length sinks.now ≡ length (stream_connections plan.now.system) }
+    requires statements { (s : ℕ) (link : Link) (script : Sequence Statement) → slice_get (stream_connections plan.now.system) s ≡ Some link → slice_get sources.now s ≡ Some script
         → IsSourceScript link.source script }
-    requires patterns { (s : ℕ) (link : Link) (script : Sequence Stalls) → slice_get (stream_links plan.now.system) s ≡ Some link → slice_get sinks.now s ≡ Some script
+    requires patterns { (s : ℕ) (link : Link) (script : Sequence Stalls) → slice_get (stream_connections plan.now.system) s ≡ Some link → slice_get sinks.now s ≡ Some script
         → IsSinkScript link.sink script }
     ensures { IfOk result (λ streams. AreFirstStreams plan.now.system sources.now sinks.now streams.items) }
 {
     plan.well_made();
     links_are_few();
     let mut streams = Vec::new(alloc);
-    'links: for (number, link) in plan.stream_links().iter().enumerate() {
+    'links: for (number, link) in plan.stream_connections().iter().enumerate() {
         streams.push(first_stream(
             plan,
             ports,

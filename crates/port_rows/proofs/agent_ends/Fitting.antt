@@ -5,11 +5,11 @@ use Rattle.std.proofs.lemmas.Nat.{pow_pos}
 use Rattle.iface_roles.specs.declared.records.AgentPort.{AgentPort}
 use Rattle.iface_roles.specs.Proper.{IsBoundedAgent}
 use Rattle.histories.specs.History.{is_raised, numbers, one_if}
-use Rattle.mm_runs.specs.Views.{Kind, Levels, levels_at, AgentSide, AgentView}
-use Rattle.mm_runs.specs.Views.Kind.{Reads, Writes}
-use Rattle.mm_runs.specs.Operations.{Operation, Beat, byte_at, is_enabled, memory_after, operation_at, operation_of_kind, own_operations, written}
-use Rattle.mm_runs.specs.Operations.Operation.{Write, Read}
-use Rattle.mm_runs.specs.Commands.{Transfer, accepted, agent_accepts, stood_before, wait_time}
+use Rattle.memory_runs.specs.Views.{Kind, Levels, levels_at, AgentSide, AgentView}
+use Rattle.memory_runs.specs.Views.Kind.{Reads, Writes}
+use Rattle.memory_runs.specs.Operations.{Operation, Beat, byte_at, is_enabled, memory_after, operation_at, operation_of_kind, own_operations, written}
+use Rattle.memory_runs.specs.Operations.Operation.{Write, Read}
+use Rattle.memory_runs.specs.Commands.{Transfer, accepted, agent_accepts, stood_before, wait_time}
 use Rattle.memory_sides.specs.Sides.{agent_side}
 use Rattle.port_tables.specs.Ports.{bits_if}
 use Rattle.scenario_tables.specs.declared.statements.AgentStatement.{AgentStatement}

@@ -9,7 +9,7 @@ use Rattle.address_map.specs.Footprints.{known_at}
 use Rattle.netlist.specs.Netlists.{Netlist}
 use Rattle.netlist.specs.Runs.{Run}
 use Rattle.cycle_sim.specs.Sims.{widths_of, input_widths}
-use Rattle.mm_runs.specs.Views.{Levels, levels_at}
+use Rattle.memory_runs.specs.Views.{Levels, levels_at}
 use Rattle.port_tables.specs.declared.roles.RolePort.{RolePort}
 use Rattle.port_tables.specs.Lists.{Among, among_at}
 use Rattle.port_tables.specs.Ports.{host_ports, is_output, name_at, ends_of, ports_of}

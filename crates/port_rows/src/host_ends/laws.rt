@@ -11,7 +11,7 @@ ghost use Rattle.address_map.specs.Footprints.{known_at};
 ghost use Rattle.netlist.specs.Netlists.{Netlist};
 ghost use Rattle.netlist.specs.Runs.{Run};
 ghost use Rattle.cycle_sim.specs.Sims.{input_widths, widths_of};
-ghost use Rattle.mm_runs.specs.Views.{Levels, levels_at};
+ghost use Rattle.memory_runs.specs.Views.{Levels, levels_at};
 ghost use Rattle.port_tables.specs.Lists.{Among};
 ghost use Rattle.port_tables.specs.Ports.{ends_of, name_at, ports_of};
 ghost use Rattle.port_tables.specs.PortMaps.{HasKnownPorts};

@@ -1,5 +1,5 @@
 use Rattle.std.proofs.Common.{◌≡◌, drop}
-use Rattle.mm_runs.specs.Views.{AgentSide}
+use Rattle.memory_runs.specs.Views.{AgentSide}
 use Rattle.agent_stand_ins.specs.Codes.{code_at}
 use Rattle.agent_stand_ins.proofs.codes.coded.Given as goal
 

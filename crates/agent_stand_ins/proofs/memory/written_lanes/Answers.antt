@@ -1,6 +1,6 @@
 use Rattle.std.proofs.Common.{◌≡◌, ◌-◌, ◌+◌, ℕ, suc, List, length, ap, sym, ◌∙◌, subst, arith, add-one, length-set, slice_set}
 use Rattle.histories.specs.History.{numbers}
-use Rattle.mm_runs.specs.Operations.{memory_after, byte_at}
+use Rattle.memory_runs.specs.Operations.{memory_after, byte_at}
 use Rattle.agent_stand_ins.specs.Memory.{MemoryValue, with_bytes, lane_writes}
 use Rattle.agent_stand_ins.proofs.Bytes.{lane_written, lane_skipped}
 use Rattle.agent_stand_ins.proofs.memory.written_lanes.Goals as goal

@@ -1,6 +1,6 @@
 use Rattle.std.proofs.Common.{◌≡◌, ◌-◌, ℕ, length}
 use Rattle.histories.specs.History.{numbers}
-use Rattle.mm_runs.specs.Operations.{memory_after}
+use Rattle.memory_runs.specs.Operations.{memory_after}
 use Rattle.agent_stand_ins.specs.Memory.{MemoryValue, with_bytes, lane_writes}
 use Rattle.agent_stand_ins.proofs.memory.written_lanes.Given as goal
 

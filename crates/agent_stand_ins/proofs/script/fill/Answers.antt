@@ -1,5 +1,5 @@
 use Rattle.std.proofs.Common.{ap, ◌∙◌, drop, flat_map, add-one, arith}
-use Rattle.mm_runs.specs.Operations.{memory_after}
+use Rattle.memory_runs.specs.Operations.{memory_after}
 use Rattle.agent_stand_ins.specs.Contents.{fills}
 use Rattle.agent_stand_ins.specs.Memory.{contents_of}
 use Rattle.agent_stand_ins.proofs.OperationLemmas.{one_more}

@@ -1,5 +1,5 @@
 use Rattle.std.proofs.Common.{◌≡◌, drop, flat_map}
-use Rattle.mm_runs.specs.Operations.{memory_after}
+use Rattle.memory_runs.specs.Operations.{memory_after}
 use Rattle.agent_stand_ins.specs.Contents.{fills}
 use Rattle.agent_stand_ins.specs.Memory.{contents_of}
 use Rattle.agent_stand_ins.proofs.script.fill.Given as goal

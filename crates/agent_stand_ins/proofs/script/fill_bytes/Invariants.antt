@@ -1,5 +1,5 @@
 use Rattle.std.proofs.Common.{◌≡◌, ◌+◌, drop}
-use Rattle.mm_runs.specs.Operations.{memory_after}
+use Rattle.memory_runs.specs.Operations.{memory_after}
 use Rattle.agent_stand_ins.specs.Contents.{writes_from}
 use Rattle.agent_stand_ins.specs.Memory.{contents_of}
 use Rattle.agent_stand_ins.proofs.script.fill_bytes.Given as goal

@@ -3,7 +3,7 @@ use Rattle.std.proofs.lemmas.List.{length-append, length-map}
 use Rattle.std.proofs.Math.Nat.{add-mul-mod_self_right}
 use Rattle.circular_buffer.specs.Buffer.{Buffer}
 use Rattle.histories.specs.History.{numbers}
-use Rattle.mm_runs.specs.Commands.{byte_address}
+use Rattle.memory_runs.specs.Commands.{byte_address}
 use Rattle.memory_sides.specs.Sides.{agent_side}
 use Rattle.host_stand_ins.specs.Steps.{levels_of}
 use Rattle.agent_stand_ins.specs.declared.waiting.Waiting.{Waiting}

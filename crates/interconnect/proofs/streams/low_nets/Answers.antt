@@ -1,8 +1,8 @@
 use Rattle.std.proofs.Common.{◌≡◌, ◌≤◌, ℕ, List, length, map, arith, ap, subst, ◌∙◌}
 use Rattle.std.proofs.lemmas.List.{length-map}
-use Rattle.link_rules.specs.declared.plan_links.StreamLink.{StreamLink}
+use Rattle.link_rules.specs.declared.plan_connections.StreamConnection.{StreamConnection}
 use Rattle.link_rules.specs.Links.{streams_of}
-use Rattle.link_rules.specs.PlanLinks.{stream_links}
+use Rattle.link_rules.specs.PlanConnections.{stream_connections}
 use Rattle.port_tables.specs.Wires.{wires_before}
 use Rattle.interconnect.specs.Joins.{with_lows, AreLows}
 use Rattle.interconnect.proofs.StreamEnds.{link_at}
@@ -17,27 +17,27 @@ pub loop-link-preserved : goal.loop-link-preserved
 loop-link-preserved c =
     let system = c.args.plan.now.system in
     low_more system c.loop-link.link-index _ c.args.builder.now c.loop-link.builder c.low_net.new.builder c.loop-link.lows c.push.new.self c.in_ok-low.low c.requires
-    (link_at system c.loop-link.link-index c.stream_links-link-items.result.now _ (c.streams_are_numbered.ensures.links system c.ports_are_known.ensures.planned.kept) c.stream_links-link-items.ensures c.loop-link-test.true)
+    (link_at system c.loop-link.link-index c.stream_connections-link-items.result.now _ (c.streams_are_numbered.ensures.links system c.ports_are_known.ensures.planned.kept) c.stream_connections-link-items.ensures c.loop-link-test.true)
     c.loop-link.invariant c.in_ok-low.ensures c.in_ok-push.ensures.ok
 
 -- all streams have had their turn
-all_streams : (streams : List ℕ) (links items : List StreamLink) (index : ℕ) → map (λ (link : StreamLink). link.connection) links ≡ streams → items ≡ links → length items ≤ index → index ≤ length streams → index ≡ length streams
+all_streams : (streams : List ℕ) (links items : List StreamConnection) (index : ℕ) → map (λ (link : StreamConnection). link.connection) links ≡ streams → items ≡ links → length items ≤ index → index ≤ length streams → index ≡ length streams
 all_streams streams links items index numbers same past inside =
-    let many = length-map links (λ (link : StreamLink). link.connection) in
+    let many = length-map links (λ (link : StreamConnection). link.connection) in
     let all = ap (λ (ns : List ℕ). length ns) numbers in
-    let long = ap (λ (ls : List StreamLink). length ls) same in
+    let long = ap (λ (ls : List StreamConnection). length ls) same in
     omega (arith, many, all, long, past, inside)
 
 pub returns-clause-lows : goal.returns-clause-lows
 returns-clause-lows c =
     let system = c.args.plan.now.system in
-    let last = all_streams (streams_of system) (stream_links system) c.stream_links-link-items.result.now c.loop-link.link-index (c.streams_are_numbered.ensures.numbers system c.ports_are_known.ensures.planned.kept)
-    c.stream_links-link-items.ensures (omega (arith, c.loop-link-test.false)) c.loop-link.invariant.inside in
+    let last = all_streams (streams_of system) (stream_connections system) c.stream_connections-link-items.result.now c.loop-link.link-index (c.streams_are_numbered.ensures.numbers system c.ports_are_known.ensures.planned.kept)
+    c.stream_connections-link-items.ensures (omega (arith, c.loop-link-test.false)) c.loop-link.invariant.inside in
     subst (λ (n : ℕ). AreLows system n c.loop-link.lows) last c.loop-link.invariant.lows
 
 pub returns-clause-lines : goal.returns-clause-lines
 returns-clause-lines c =
     let system = c.args.plan.now.system in
-    let last = all_streams (streams_of system) (stream_links system) c.stream_links-link-items.result.now c.loop-link.link-index (c.streams_are_numbered.ensures.numbers system c.ports_are_known.ensures.planned.kept)
-    c.stream_links-link-items.ensures (omega (arith, c.loop-link-test.false)) c.loop-link.invariant.inside in
+    let last = all_streams (streams_of system) (stream_connections system) c.stream_connections-link-items.result.now c.loop-link.link-index (c.streams_are_numbered.ensures.numbers system c.ports_are_known.ensures.planned.kept)
+    c.stream_connections-link-items.ensures (omega (arith, c.loop-link-test.false)) c.loop-link.invariant.inside in
     c.loop-link.invariant.lines ∙ ap (λ (n : ℕ). with_lows c.args.builder.now (wires_before system n)) last

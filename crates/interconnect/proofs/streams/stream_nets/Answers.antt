@@ -4,8 +4,8 @@ use Rattle.std.proofs.lemmas.Option.{slice_get_within}
 use Rattle.link_rules.specs.Links.{streams_of}
 use Rattle.netlist.specs.Nets.{NetValue}
 use Rattle.st_timing.specs.Ends.{declared}
-use Rattle.stream_path.specs.Ends.{ArePathNets}
-use Rattle.stream_path.specs.Serving.{ServesInLonger}
+use Rattle.st_path.specs.Ends.{ArePathNets}
+use Rattle.st_path.specs.Serving.{ServesInLonger}
 use Rattle.interconnect.specs.Joins.{AddsStream}
 use Rattle.interconnect.proofs.Driving.{is_an_end}
 use Rattle.interconnect.proofs.StreamEnds.{source_known, source_among, sink_among}

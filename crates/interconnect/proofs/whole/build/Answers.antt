@@ -19,8 +19,8 @@ finish-whole-requires-clause-driven c =
       bounded = c.proper_records_are_bounded.ensures.sink;
       laws = record {
         is_plan = is_plan;
-        numbered = c.memory_links_are_numbered.ensures.links plan.system is_plan.system;
-        each = c.memory_links_are_numbered.ensures.each plan.system is_plan.system;
+        numbered = c.memory_connections_are_numbered.ensures.links plan.system is_plan.system;
+        each = c.memory_connections_are_numbered.ensures.each plan.system is_plan.system;
         one = λ side. c.ends_have_one_number.ensures.one plan.system side;
         joined = λ side. c.ends_are_joined.ensures plan.system side;
       };
@@ -39,8 +39,8 @@ returns-clause-module c =
       bounded = c.proper_records_are_bounded.ensures.sink;
       laws = record {
         is_plan = is_plan;
-        numbered = c.memory_links_are_numbered.ensures.links plan.system is_plan.system;
-        each = c.memory_links_are_numbered.ensures.each plan.system is_plan.system;
+        numbered = c.memory_connections_are_numbered.ensures.links plan.system is_plan.system;
+        each = c.memory_connections_are_numbered.ensures.each plan.system is_plan.system;
         one = λ side. c.ends_have_one_number.ensures.one plan.system side;
         joined = λ side. c.ends_are_joined.ensures plan.system side;
       };

@@ -1,5 +1,5 @@
 use Rattle.std.proofs.Common.{sym, if◌then◌else◌, ap, ap₂, ◌∙◌, arith}
-use Rattle.mm_machines.specs.Machines.{Raw}
+use Rattle.memory_machines.specs.Machines.{Raw}
 use Rattle.net_parts.specs.Laws.{net_lasts, extends_twice, adds_twice, adds_fewer}
 use Rattle.command_nets.specs.Nets.{raw_in}
 use Rattle.command_nets.specs.Groups.{hidden, command_lasts}

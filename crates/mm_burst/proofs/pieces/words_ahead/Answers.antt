@@ -3,7 +3,7 @@ use Rattle.std.proofs.Math.Nat.{mod-lt}
 use Rattle.std.proofs.lemmas.Nat.{pow_pos}
 use Rattle.netlist.specs.Runs.{Always}
 use Rattle.net_parts.specs.Laws.{if_ok}
-use Rattle.mm_links.specs.Cutters.{reach_words}
+use Rattle.memory_links.specs.Cutters.{reach_words}
 use Rattle.mm_burst.proofs.Levels.{words_are}
 use Rattle.mm_burst.proofs.pieces.words_ahead.Goals as goal
 

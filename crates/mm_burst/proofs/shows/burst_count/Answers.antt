@@ -3,7 +3,7 @@ use Rattle.std.proofs.lemmas.Bool.{ne_eqb}
 use Rattle.histories.specs.History.{is_raised}
 use Rattle.netlist.specs.Runs.{Always}
 use Rattle.net_parts.specs.Laws.{if_ok}
-use Rattle.mm_links.specs.Cutters.{beats_of}
+use Rattle.memory_links.specs.Cutters.{beats_of}
 use Rattle.mm_burst.specs.Pieces.{longest_by}
 use Rattle.mm_burst.proofs.WayLaws.{plain_count, ahead_count, ahead_few}
 use Rattle.mm_burst.proofs.shows.burst_count.Goals as goal

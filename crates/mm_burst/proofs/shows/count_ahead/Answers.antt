@@ -2,7 +2,7 @@ use Rattle.std.proofs.Common.{◌≡◌, arith}
 use Rattle.netlist.specs.Runs.{Always}
 use Rattle.net_parts.specs.Laws.{if_ok, adds_fewer, adds_twice}
 use Rattle.command_nets.specs.Levels.{one_fits}
-use Rattle.mm_links.specs.Cutters.{beats_of}
+use Rattle.memory_links.specs.Cutters.{beats_of}
 use Rattle.mm_burst.proofs.Levels.{count_ahead_is, above_one}
 use Rattle.mm_burst.proofs.shows.count_ahead.Goals as goal
 use Rattle.net_parts.specs.Fitting.{fits_in_two}

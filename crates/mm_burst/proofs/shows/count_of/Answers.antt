@@ -1,8 +1,8 @@
 use Rattle.std.proofs.Common.{◌≡◌}
 use Rattle.netlist.specs.Runs.{Always}
 use Rattle.net_parts.specs.Laws.{if_ok}
-use Rattle.mm_runs.specs.Commands.{longest_burst}
-use Rattle.mm_links.specs.Cutters.{beats_of}
+use Rattle.memory_runs.specs.Commands.{longest_burst}
+use Rattle.memory_links.specs.Cutters.{beats_of}
 use Rattle.mm_burst.proofs.Levels.{count_is}
 use Rattle.mm_burst.proofs.shows.count_of.Goals as goal
 

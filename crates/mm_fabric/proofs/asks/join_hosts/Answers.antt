@@ -12,12 +12,12 @@ use Rattle.mm_fabric.proofs.asks.join_hosts.Goals as goal
 
 pub commands_for-requires : goal.commands_for-requires
 commands_for-requires c =
-    let all : c.deref.result.now ≡ asking c.args.plan.now.system c.args.number = c.deref.ensures.value ∙ c.in_ok-askers.ensures.askers ∙ ap (asking_among c.args.number) c.memory_links.ensures in
+    let all : c.deref.result.now ≡ asking c.args.plan.now.system c.args.number = c.deref.ensures.value ∙ c.in_ok-askers.ensures.askers ∙ ap (asking_among c.args.number) c.memory_connections.ensures in
     subst (AllHaveCommands c.args.number c.args.begun.now) (sym all) (can_have _ _ c.args.number _ c.args.begun.now _ c.requires.asks)
 
 pub join_agent-requires-clause-asking : goal.join_agent-requires-clause-asking
 join_agent-requires-clause-asking c =
-    let plain = c.in_ok-askers.ensures.askers ∙ ap (asking_among c.args.number) c.memory_links.ensures in
+    let plain = c.in_ok-askers.ensures.askers ∙ ap (asking_among c.args.number) c.memory_connections.ensures in
     let all : c.deref.result.now ≡ asking c.args.plan.now.system c.args.number = c.deref.ensures.value ∙ plain in
     let again : c.deref-2.result.now ≡ asking c.args.plan.now.system c.args.number = c.deref-2.ensures.value ∙ plain in
     let zipped = subst (λ (xs : List Asker). AllZip (AsksAs c.args.number c.args.begun.now) xs c.in_ok-asking.asking.items) all c.in_ok-asking.ensures.asking in
@@ -33,7 +33,7 @@ returns-clause-part c = subst (λ n. IfOk c.join_agent.result (IsAgentPart c.joi
 
 pub returns-clause-seats : goal.returns-clause-seats
 returns-clause-seats c =
-    let plain = c.in_ok-askers.ensures.askers ∙ ap (asking_among c.args.number) c.memory_links.ensures in
+    let plain = c.in_ok-askers.ensures.askers ∙ ap (asking_among c.args.number) c.memory_connections.ensures in
     let all : c.deref.result.now ≡ asking c.args.plan.now.system c.args.number = c.deref.ensures.value ∙ plain in
     let port = c.args.end.now.port in
     let zipped = subst (λ (xs : List Asker). AllZip (AsksAs c.args.number c.args.begun.now) xs c.in_ok-asking.asking.items) all c.in_ok-asking.ensures.asking in

@@ -1,6 +1,6 @@
 use Rattle.std.proofs.Common.{List, length, sym, subst, ap, ◌∙◌, inl, inr, arith}
 use Rattle.std.proofs.lemmas.List.{length-map}
-use Rattle.link_rules.specs.PlanLinks.{memory_links}
+use Rattle.link_rules.specs.PlanConnections.{memory_connections}
 use Rattle.netlist.specs.declared.line.Memory.{Memory}
 use Rattle.net_parts.specs.Refusing.{handed_on}
 use Rattle.net_parts.specs.Laws.{grows_without_memory, memory_grows_twice}
@@ -71,19 +71,19 @@ returns-clause-hosts c =
 
 pub returns-in_err-joined-clause-grows : goal.returns-in_err-joined-clause-grows
 returns-in_err-joined-clause-grows c =
-    memory_grows_within _ _ _ _ _ _ _ _ _ (grows_without_memory _ _ _ c.begin_hosts.ensures.grows) c.join_agents.ensures.grows (two_phases begun_nets finished_nets most_agent_nets link_nets (length c.args.hosts.now) (length c.args.agents.now) (length (memory_links c.args.plan.now.system))) (omega arith)
+    memory_grows_within _ _ _ _ _ _ _ _ _ (grows_without_memory _ _ _ c.begin_hosts.ensures.grows) c.join_agents.ensures.grows (two_phases begun_nets finished_nets most_agent_nets link_nets (length c.args.hosts.now) (length c.args.agents.now) (length (memory_connections c.args.plan.now.system))) (omega arith)
 
 pub returns-in_err-finished-clause-grows : goal.returns-in_err-finished-clause-grows
 returns-in_err-finished-clause-grows c =
     let as_many = ap (λ (bs : List BegunHost). length bs) c.as_slice-2.ensures ∙ sym (length-map c.in_ok-begun.begun end_of) ∙ ap (λ (es : List HostEnd). length es) c.in_ok-begun.ensures.begun.ends_are in
     memory_grows_within _ _ _ _ _ _ _ _ _ (memory_grows_twice _ _ _ _ _ _ _ (grows_without_memory _ _ _ c.begin_hosts.ensures.grows) c.join_agents.ensures.grows) c.finish_hosts.ensures.grows
-    (three_phases begun_nets finished_nets most_agent_nets link_nets (length c.args.hosts.now) (length c.args.agents.now) (length (memory_links c.args.plan.now.system)) (length c.as_slice-2.result.now) as_many) (omega (arith, as_many))
+    (three_phases begun_nets finished_nets most_agent_nets link_nets (length c.args.hosts.now) (length c.args.agents.now) (length (memory_connections c.args.plan.now.system)) (length c.as_slice-2.result.now) as_many) (omega (arith, as_many))
 
 pub returns-clause-grows : goal.returns-clause-grows
 returns-clause-grows c =
     let as_many = ap (λ (bs : List BegunHost). length bs) c.as_slice-2.ensures ∙ sym (length-map c.in_ok-begun.begun end_of) ∙ ap (λ (es : List HostEnd). length es) c.in_ok-begun.ensures.begun.ends_are in
     memory_grows_within _ _ _ _ _ _ _ _ _ (memory_grows_twice _ _ _ _ _ _ _ (grows_without_memory _ _ _ c.begin_hosts.ensures.grows) c.join_agents.ensures.grows) c.finish_hosts.ensures.grows
-    (three_phases begun_nets finished_nets most_agent_nets link_nets (length c.args.hosts.now) (length c.args.agents.now) (length (memory_links c.args.plan.now.system)) (length c.as_slice-2.result.now) as_many) (omega (arith, as_many))
+    (three_phases begun_nets finished_nets most_agent_nets link_nets (length c.args.hosts.now) (length c.args.agents.now) (length (memory_connections c.args.plan.now.system)) (length c.as_slice-2.result.now) as_many) (omega (arith, as_many))
 
 -- ---- what waits
 
@@ -113,12 +113,12 @@ returns-clause-no_more_wait_for_write c m w = writes_waited_alike c.args.builder
 pub returns-in_err-begun-clause-full : goal.returns-in_err-begun-clause-full
 returns-in_err-begun-clause-full c e =
     let full = c.begin_hosts.ensures.full (handed_on _ _ _ _ c.in_err-begun.was c.from_residual.ensures.1 e) in
-    let most = two_phases begun_nets finished_nets most_agent_nets link_nets (length c.args.hosts.now) (length c.args.agents.now) (length (memory_links c.args.plan.now.system)) in
+    let most = two_phases begun_nets finished_nets most_agent_nets link_nets (length c.args.hosts.now) (length c.args.agents.now) (length (memory_connections c.args.plan.now.system)) in
     inl (omega (arith, full, most))
 
 pub returns-in_err-joined-clause-full : goal.returns-in_err-joined-clause-full
 returns-in_err-joined-clause-full c e =
-    let most = two_phases begun_nets finished_nets most_agent_nets link_nets (length c.args.hosts.now) (length c.args.agents.now) (length (memory_links c.args.plan.now.system)) in
+    let most = two_phases begun_nets finished_nets most_agent_nets link_nets (length c.args.hosts.now) (length c.args.agents.now) (length (memory_connections c.args.plan.now.system)) in
     let grown = c.begin_hosts.ensures.grows.most in
     let memories = ap (length {A = Memory}) c.begin_hosts.ensures.grows.memories in
     elim (c.join_agents.ensures.full (handed_on _ _ _ _ c.in_err-joined.was c.from_residual-in_err-joined.ensures.1 e)) [
@@ -129,7 +129,7 @@ returns-in_err-joined-clause-full c e =
 pub returns-in_err-finished-clause-full : goal.returns-in_err-finished-clause-full
 returns-in_err-finished-clause-full c e =
     let as_many = ap (λ (bs : List BegunHost). length bs) c.as_slice-2.ensures ∙ sym (length-map c.in_ok-begun.begun end_of) ∙ ap (λ (es : List HostEnd). length es) c.in_ok-begun.ensures.begun.ends_are in
-    let most = three_phases begun_nets finished_nets most_agent_nets link_nets (length c.args.hosts.now) (length c.args.agents.now) (length (memory_links c.args.plan.now.system)) (length c.as_slice-2.result.now) as_many in
+    let most = three_phases begun_nets finished_nets most_agent_nets link_nets (length c.args.hosts.now) (length c.args.agents.now) (length (memory_connections c.args.plan.now.system)) (length c.as_slice-2.result.now) as_many in
     let grown = c.begin_hosts.ensures.grows.most in
     let joined = c.join_agents.ensures.grows.most in
     let memories = ap (length {A = Memory}) c.begin_hosts.ensures.grows.memories in

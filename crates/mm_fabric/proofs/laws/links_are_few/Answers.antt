@@ -8,4 +8,4 @@ pub returns : goal.returns
 returns c = λ plan is.
     (let linked = c.plans_are_linked.ensures plan is in
     links_for_agents plan.system (length (agents_of plan.system)) (λ a below. (linked.agents a below).few)
-    (λ k link at. (let numbered = c.memory_links_are_numbered.ensures.links plan.system is.system k link at in slice_get_within (agents_of plan.system) link.agent_number numbered.connection.end numbered.agent_is)))
+    (λ k link at. (let numbered = c.memory_connections_are_numbered.ensures.links plan.system is.system k link at in slice_get_within (agents_of plan.system) link.agent_number numbered.connection.end numbered.agent_is)))

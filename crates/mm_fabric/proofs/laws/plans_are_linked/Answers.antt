@@ -7,8 +7,8 @@ use Rattle.mm_fabric.proofs.laws.plans_are_linked.Goals as goal
 pub returns : goal.returns
 returns c = λ plan is.
     linked_plan plan (record {
-      numbered = c.memory_links_are_numbered.ensures.links plan.system is.system;
-      each = c.memory_links_are_numbered.ensures.each plan.system is.system;
+      numbered = c.memory_connections_are_numbered.ensures.links plan.system is.system;
+      each = c.memory_connections_are_numbered.ensures.each plan.system is.system;
       one = c.ends_have_one_number.ensures.one plan.system;
       joined = c.ends_are_joined.ensures plan.system;
       hosts = c.plans_have_their_ends.ensures.hosts plan is;

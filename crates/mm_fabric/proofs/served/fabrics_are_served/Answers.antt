@@ -1,5 +1,5 @@
 use Rattle.std.proofs.Common.{◌+◌}
-use Rattle.mm_runs.specs.Views.Responses.{AreCodes}
+use Rattle.memory_runs.specs.Views.Responses.{AreCodes}
 use Rattle.memory_plans.specs.Systems.{memory_system}
 use Rattle.mm_fabric.specs.Fabrics.{seen_in}
 use Rattle.mm_fabric.proofs.served.fabrics_are_served.Goals as goal

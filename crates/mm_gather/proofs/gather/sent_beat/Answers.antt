@@ -1,8 +1,8 @@
 use Rattle.std.proofs.Common.{◌*◌, ◌%◌, ◌^◌, ◌∙◌, refl, ap, arith}
 use Rattle.net_parts.specs.Laws.{bit_fits, net_lasts, extends_twice, adds_fewer, adds_twice}
 use Rattle.command_nets.specs.Groups.{command_lasts}
-use Rattle.mm_links.specs.Selects.{repeated}
-use Rattle.mm_links.specs.Gathers.{spread}
+use Rattle.memory_links.specs.Selects.{repeated}
+use Rattle.memory_links.specs.Gathers.{spread}
 use Rattle.mm_select.specs.Laws.{sent_read}
 use Rattle.mm_gather.proofs.gather.sent_beat.Goals as goal
 

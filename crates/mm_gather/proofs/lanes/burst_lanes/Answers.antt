@@ -1,7 +1,7 @@
 use Rattle.std.proofs.Common.{◌≡◌, ◌*◌, ◌%◌, ◌^◌, ◌∙◌, arith}
 use Rattle.netlist.specs.Runs.{Always}
 use Rattle.net_parts.specs.Laws.{net_fits, if_ok, adds_fewer, adds_twice, grows_once}
-use Rattle.mm_links.specs.Gathers.{spread}
+use Rattle.memory_links.specs.Gathers.{spread}
 use Rattle.mm_gather.proofs.LaneLaws.{burst_is}
 use Rattle.mm_gather.proofs.lanes.burst_lanes.Goals as goal
 

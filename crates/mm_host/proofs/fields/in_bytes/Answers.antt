@@ -4,7 +4,7 @@ use Rattle.std.proofs.lemmas.Nat.{pow-add}
 use Rattle.netlist.specs.Runs.{Always}
 use Rattle.net_parts.specs.Laws.{if_ok}
 use Rattle.iface_roles.specs.Proper.{range_of}
-use Rattle.mm_runs.specs.Commands.{byte_address}
+use Rattle.memory_runs.specs.Commands.{byte_address}
 use Rattle.memory_sides.specs.Sides.{host_side}
 use Rattle.mm_host.proofs.fields.in_bytes.Goals as goal
 

@@ -2,8 +2,8 @@ use Rattle.std.proofs.Common.{◌≡◌, ℕ, ◌+◌, ◌-◌, ◌*◌, ◌^◌
 use Rattle.netlist.specs.Runs.{Always}
 use Rattle.net_parts.specs.Nets.{IsNetOfWidth}
 use Rattle.net_parts.specs.Laws.{net_fits, if_ok}
-use Rattle.mm_links.specs.Gathers.{spread}
-use Rattle.mm_links.specs.Selects.{repeated}
+use Rattle.memory_links.specs.Gathers.{spread}
+use Rattle.memory_links.specs.Selects.{repeated}
 use Rattle.mm_select.proofs.PlaceLaws.{double_fits, double_width, repeated_on, once_repeated, spread_on, once_spread}
 use Rattle.mm_select.proofs.places.+repeat.Goals as goal
 

@@ -2,7 +2,7 @@ use Rattle.std.proofs.Common.{◌*◌, ◌^◌, ◌∙◌, refl, sym, ap, arith}
 use Rattle.net_parts.specs.Laws.{bit_fits, net_lasts, extends_twice, adds_fewer, adds_twice}
 use Rattle.net_parts.specs.Refusing.{handed_on}
 use Rattle.command_nets.specs.Groups.{command_lasts}
-use Rattle.mm_links.specs.Selects.{repeated}
+use Rattle.memory_links.specs.Selects.{repeated}
 use Rattle.command_nets.specs.Levels.{one_fits}
 use Rattle.mm_select.specs.Laws.{sent_read}
 use Rattle.mm_select.proofs.select.sent_command.Goals as goal

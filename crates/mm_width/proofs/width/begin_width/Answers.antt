@@ -8,7 +8,7 @@ use Rattle.net_parts.specs.Laws.{owned_same, waiting_within}
 use Rattle.net_parts.specs.Memories.{ForwardGrows, ForwardMemories, MemoriesCome, forward_grown, memory_grows_fewer, memories_come, memory_within}
 use Rattle.net_parts.specs.Refusing.{handed_on}
 use Rattle.link_core.specs.Rooms.{WithRoomFor, room_told}
-use Rattle.mm_machines.specs.Machines.{Raw}
+use Rattle.memory_machines.specs.Machines.{Raw}
 use Rattle.command_nets.specs.declared.nets.CommandNets.{CommandNets}
 use Rattle.command_nets.specs.Nets.{Widths, widths_of}
 use Rattle.mm_width.specs.Links.{Width, width_of}

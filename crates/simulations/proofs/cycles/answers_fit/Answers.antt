@@ -1,5 +1,5 @@
 use Rattle.std.proofs.Common.{ℕ, refl, sym, subst}
-use Rattle.mm_runs.specs.Beginnings.{AgentsAgree}
+use Rattle.memory_runs.specs.Beginnings.{AgentsAgree}
 use Rattle.cycle_sim.specs.Sims.{present}
 use Rattle.interconnect.specs.Memory.{agent_in}
 use Rattle.simulations.specs.Cycles.{run_with}

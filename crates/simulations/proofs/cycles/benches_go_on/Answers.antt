@@ -2,10 +2,10 @@ use Rattle.std.proofs.Common.{◌≡◌, ◌<◌, ◌+◌, ℕ, suc, List, sym, 
 use Rattle.netlist.specs.Netlists.{Netlist}
 use Rattle.cycle_sim.specs.Sims.{present, widths_of}
 use Rattle.cycle_sim.specs.Standing.{StandsFor}
-use Rattle.mm_runs.specs.Beginnings.{AgentsAgree}
+use Rattle.memory_runs.specs.Beginnings.{AgentsAgree}
 use Rattle.interconnect.specs.Memory.{host_in, agent_in}
 use Rattle.interconnect.specs.Streams.{dropped_signal}
-use Rattle.link_rules.specs.declared.plan_links.StreamLink.{StreamLink}
+use Rattle.link_rules.specs.declared.plan_connections.StreamConnection.{StreamConnection}
 use Rattle.port_tables.specs.Ports.{name_at}
 use Rattle.host_stand_ins.specs.Steps.{all_steps}
 use Rattle.stream_stand_ins.specs.Sources.{keeping_at}
@@ -83,7 +83,7 @@ returns c = λ plan scenario run k bench after set is ended same stands row.
           let behind : StreamStands plan netlist now (suc k) s sound.statements sound.script (of_streams.behind old.item sim) = record {
             of = after_of;
             cycle = later;
-            keeping = subst (λ (l : StreamLink). (of_streams.behind old.item sim).keeping ≡ keeping_at old.item.source sound.statements (stream_view plan.system netlist now l.source_end) (suc k)) one_link
+            keeping = subst (λ (l : StreamConnection). (of_streams.behind old.item sim).keeping ≡ keeping_at old.item.source sound.statements (stream_view plan.system netlist now l.source_end) (suc k)) one_link
                 (keeping ∙ ap (λ (d : ℕ). keeping_at old.item.source sound.statements source d) later);
           } in
           subst (λ (p : List Pattern). StreamStands plan netlist now (suc k) s statements p stream) (some_same sound.script script (sym sound.script_is ∙ there))

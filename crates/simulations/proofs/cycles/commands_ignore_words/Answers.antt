@@ -1,6 +1,6 @@
 use Rattle.std.proofs.Common.{◌≡◌, ℕ, ◌<◌, length, refl, sym, ap, subst, ◌∙◌}
 use Rattle.netlist.specs.Runs.{Cycle, SameState}
-use Rattle.mm_runs.specs.Moment.{Moment, AgentSees}
+use Rattle.memory_runs.specs.Moment.{Moment, AgentSees}
 use Rattle.memory_plans.specs.Shown.{moment_in, standing_still}
 use Rattle.interconnect.specs.Memory.{module_run}
 use Rattle.cycle_sim.specs.Sims.{present}

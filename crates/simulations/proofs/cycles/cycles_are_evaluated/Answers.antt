@@ -1,10 +1,10 @@
 use Rattle.std.proofs.Common.{◌≡◌, ◌<◌, ℕ, refl, sym, ap, subst, ◌∙◌}
-use Rattle.mm_runs.specs.Beginnings.{AgentsAgree}
-use Rattle.mm_runs.specs.Views.{levels_at}
-use Rattle.mm_runs.specs.Legal.{Word as CodedWord}
+use Rattle.memory_runs.specs.Beginnings.{AgentsAgree}
+use Rattle.memory_runs.specs.Views.{levels_at}
+use Rattle.memory_runs.specs.Legal.{Word as CodedWord}
 use Rattle.cycle_sim.specs.Sims.{present}
 use Rattle.histories.specs.History.{one_if}
-use Rattle.link_rules.specs.declared.plan_links.StreamLink.{StreamLink}
+use Rattle.link_rules.specs.declared.plan_connections.StreamConnection.{StreamConnection}
 use Rattle.interconnect.specs.Memory.{host_in, agent_in}
 use Rattle.host_stand_ins.specs.Steps.{all_steps, shown}
 use Rattle.port_rows.specs.Agents.{AreShownBy}
@@ -69,7 +69,7 @@ returns c = λ plan scenario run k bench words earlier set is answered same.
             ∙ ap (λ (d : ℕ). keeping_at stream.item.source sound.statements view d) (sym time) in
             let beat = c.streams_show.ensures.as_defined stream.item sound.statements view sound.source_fits sound.soon keeping in
             let shows = subst (Shows view stream.item.cycle) beat (streams s stream.item stream.is sound.script of).shows in
-            subst (λ (l : StreamLink). Shows (stream_view plan.system netlist now l.source_end) k (beat_shown l.source script (stream_view plan.system netlist now l.source_end) k)) one_link
+            subst (λ (l : StreamConnection). Shows (stream_view plan.system netlist now l.source_end) k (beat_shown l.source script (stream_view plan.system netlist now l.source_end) k)) one_link
             (source_shows view stream.item.source of.link.source sound.statements script stream.item.cycle k of.source one_script time shows);
         sinks = λ s link script at there.
             let stream = has bench.streams s (subst (λ n. s < n) (sym all.stream_count) (inside _ s link at)) in
@@ -77,7 +77,7 @@ returns c = λ plan scenario run k bench words earlier set is answered same.
             let of = sound.stands.of in
             let one_link : of.link ≡ link = some_same of.link link (sym of.link_is ∙ at) in
             let one_script = of.script_is ∙ some_same sound.script script (sym sound.script_is ∙ there) in
-            subst (λ (l : StreamLink). (stream_view plan.system netlist now l.sink_end).ready k ≡ one_if (ready_in script k)) one_link
+            subst (λ (l : StreamConnection). (stream_view plan.system netlist now l.sink_end).ready k ≡ one_if (ready_in script k)) one_link
             (sink_shows (stream_view plan.system netlist now of.link.sink_end) stream.item.script script stream.item.cycle k one_script sound.stands.cycle (streams s stream.item stream.is sound.script of).ready);
       };
       hosts = memory.hosts;

@@ -1,5 +1,5 @@
 use Rattle.std.proofs.Common.{ℕ, sym, ap, subst, ◌∙◌}
-use Rattle.mm_runs.specs.Views.{HostView, AgentView, levels_at}
+use Rattle.memory_runs.specs.Views.{HostView, AgentView, levels_at}
 use Rattle.port_rows.specs.Rows.{IsGivenRow}
 use Rattle.port_rows.specs.Agents.{AreShownBy}
 use Rattle.benches.specs.Present.{IsPresent}

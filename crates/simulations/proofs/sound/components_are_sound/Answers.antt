@@ -1,7 +1,7 @@
 use Rattle.std.proofs.Common.{List, sym, ap, subst, ◌∙◌}
 use Rattle.scenario_tables.specs.Statements.{IsSourceScript, IsSinkScript}
 use Rattle.scenario_tables.specs.declared.statements.Pattern.{Pattern}
-use Rattle.mm_runs.specs.Views.{AgentView}
+use Rattle.memory_runs.specs.Views.{AgentView}
 use Rattle.simulations.proofs.Ends.{agent_in_is}
 use Rattle.simulations.proofs.Beside.{agent_is_an_end, beside, bounded_agent, bounded_host}
 use Rattle.simulations.proofs.sound.components_are_sound.Goals as goal

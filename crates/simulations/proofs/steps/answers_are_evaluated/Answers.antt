@@ -3,7 +3,7 @@ use Rattle.av_base.specs.Word.{Word}
 use Rattle.netlist.specs.Netlists.{Netlist, IsInputPort}
 use Rattle.netlist.specs.Runs.{IsValuation, SameState}
 use Rattle.cycle_sim.specs.Sims.{given_to, input_widths, present}
-use Rattle.mm_runs.specs.Legal.{Word as CodedWord}
+use Rattle.memory_runs.specs.Legal.{Word as CodedWord}
 use Rattle.memory_plans.specs.Shown.{standing_still}
 use Rattle.port_rows.specs.Levels.{AllStand, set_levels}
 use Rattle.agent_stand_ins.specs.Whole.{word_now, word_shown, code_now, code_shown}

@@ -1,11 +1,11 @@
 use Rattle.std.proofs.Common.{◌≡◌, ℕ, List, ◌++◌, length, sym, ap, ap₂, subst, ◌∙◌, arith}
 use Rattle.histories.specs.History.{numbers, one_if}
 use Rattle.address_map.specs.Maps.{hosts_of, agents_of}
-use Rattle.link_rules.specs.declared.plan_links.StreamLink.{StreamLink}
-use Rattle.link_rules.specs.PlanLinks.{stream_links}
+use Rattle.link_rules.specs.declared.plan_connections.StreamConnection.{StreamConnection}
+use Rattle.link_rules.specs.PlanConnections.{stream_connections}
 use Rattle.cycle_sim.specs.Sims.{present}
-use Rattle.mm_runs.specs.Beginnings.{AgentsAgree}
-use Rattle.mm_runs.specs.Legal.{gives_word}
+use Rattle.memory_runs.specs.Beginnings.{AgentsAgree}
+use Rattle.memory_runs.specs.Legal.{gives_word}
 use Rattle.stream_runs.specs.View.{is_high}
 use Rattle.port_tables.specs.Ports.{name_at}
 use Rattle.interconnect.specs.Memory.{host_in, agent_in}
@@ -51,7 +51,7 @@ returns-clause-lines c = λ plan scenario run k bench set is.
     let lines = c.agents_are_told.ensures.lines sound.script view sim agent stands (is.agents a agent at) in
     ap (λ (m : ℕ). told_of_agent k (agent_end plan netlist now m)) number ∙ ap (told_of_agent k) (agent_end_is plan netlist now a agent sound.stands.of)
     ∙ sym (subst (λ (d : ℕ). of_agents.tells agent sim d ≡ told_of_agent d (told_end agent view)) time lines))) in
-    let streams = flat_beside (told_of_stream k) (stream_ends plan netlist now) (λ (stream : BenchStreamValue). of_streams.tells stream sim k) (stream_links system) bench.streams all.stream_count (λ s link stream there at. (
+    let streams = flat_beside (told_of_stream k) (stream_ends plan netlist now) (λ (stream : BenchStreamValue). of_streams.tells stream sim k) (stream_connections system) bench.streams all.stream_count (λ s link stream there at. (
     let sound = c.components_are_sound.ensures.streams plan scenario netlist run k bench set all s stream at in
     let of = sound.stands.of in
     let time = sound.stands.cycle in
@@ -60,7 +60,7 @@ returns-clause-lines c = λ plan scenario run k bench set is.
     let sink = stream_view system netlist now of.link.sink_end in
     let dropped = dropped_signal netlist now (name_at system of.link.sink_end) in
     let lines = c.streams_are_told.ensures.lines source sink dropped sim stream (is.streams s stream at sound.script of) in
-    ap (λ (l : StreamLink). told_of_stream k (stream_ends plan netlist now l)) one_link ∙ ap (told_of_stream k) (stream_ends_are plan netlist now s sound.script stream of)
+    ap (λ (l : StreamConnection). told_of_stream k (stream_ends plan netlist now l)) one_link ∙ ap (told_of_stream k) (stream_ends_are plan netlist now s sound.script stream of)
     ∙ sym (subst (λ (d : ℕ). of_streams.tells stream sim d ≡ told_of_stream d (of_streams.ends_of_bench stream source sink dropped)) time lines))) in
     ap₂ (λ (x y : List (List ℕ)). x ++ y) (ap₂ (λ (x y : List (List ℕ)). x ++ y) hosts agents) streams
 
@@ -89,7 +89,7 @@ returns-clause-counted c = λ plan scenario run k bench set is.
     let counted = c.agents_are_told.ensures.counted sound.script view sim agent stands (is.agents a agent at) in
     ap (λ (m : ℕ). beats_taken_in k (agent_end plan netlist now m)) number ∙ ap (beats_taken_in k) (agent_end_is plan netlist now a agent sound.stands.of)
     ∙ sym (subst (λ (d : ℕ). (of_agents.counts agent sim).taken ≡ beats_taken_in d (told_end agent view)) time counted))) in
-    let delivered = sum_beside (symbols_delivered_in k) (stream_ends plan netlist now) (λ (stream : BenchStreamValue). (of_streams.counts stream sim).delivered) (stream_links system) bench.streams all.stream_count (λ s link stream there at. (
+    let delivered = sum_beside (symbols_delivered_in k) (stream_ends plan netlist now) (λ (stream : BenchStreamValue). (of_streams.counts stream sim).delivered) (stream_connections system) bench.streams all.stream_count (λ s link stream there at. (
     let sound = c.components_are_sound.ensures.streams plan scenario netlist run k bench set all s stream at in
     let of = sound.stands.of in
     let one_link : link ≡ of.link = some_same link of.link (sym there ∙ of.link_is) in
@@ -97,9 +97,9 @@ returns-clause-counted c = λ plan scenario run k bench set is.
     let sink = stream_view system netlist now of.link.sink_end in
     let dropped = dropped_signal netlist now (name_at system of.link.sink_end) in
     let counted = c.streams_are_told.ensures.counted source sink dropped sim stream (is.streams s stream at sound.script of) in
-    ap (λ (l : StreamLink). symbols_delivered_in k (stream_ends plan netlist now l)) one_link ∙ ap (symbols_delivered_in k) (stream_ends_are plan netlist now s sound.script stream of)
+    ap (λ (l : StreamConnection). symbols_delivered_in k (stream_ends plan netlist now l)) one_link ∙ ap (symbols_delivered_in k) (stream_ends_are plan netlist now s sound.script stream of)
     ∙ sym (subst (λ (d : ℕ). (of_streams.counts stream sim).delivered ≡ symbols_delivered_in d (of_streams.ends_of_bench stream source sink dropped)) sound.stands.cycle counted.0))) in
-    let lost = sum_beside (λ (stream : StreamEnds). one_if (is_high stream.dropped k)) (stream_ends plan netlist now) (λ (stream : BenchStreamValue). (of_streams.counts stream sim).dropped) (stream_links system) bench.streams all.stream_count (λ s link stream there at. (
+    let lost = sum_beside (λ (stream : StreamEnds). one_if (is_high stream.dropped k)) (stream_ends plan netlist now) (λ (stream : BenchStreamValue). (of_streams.counts stream sim).dropped) (stream_connections system) bench.streams all.stream_count (λ s link stream there at. (
     let sound = c.components_are_sound.ensures.streams plan scenario netlist run k bench set all s stream at in
     let of = sound.stands.of in
     let one_link : link ≡ of.link = some_same link of.link (sym there ∙ of.link_is) in
@@ -107,7 +107,7 @@ returns-clause-counted c = λ plan scenario run k bench set is.
     let sink = stream_view system netlist now of.link.sink_end in
     let dropped = dropped_signal netlist now (name_at system of.link.sink_end) in
     let counted = c.streams_are_told.ensures.counted source sink dropped sim stream (is.streams s stream at sound.script of) in
-    ap (λ (l : StreamLink). one_if (is_high (stream_ends plan netlist now l).dropped k)) one_link
+    ap (λ (l : StreamConnection). one_if (is_high (stream_ends plan netlist now l).dropped k)) one_link
     ∙ sym (subst (λ (d : ℕ). (of_streams.counts stream sim).dropped ≡ one_if (is_high dropped d)) sound.stands.cycle counted.1))) in
     let none_of_hosts = sum_of_none bench.hosts in
     let none_of_agents = sum_of_none bench.agents in

@@ -9,7 +9,7 @@ pub agents-init : goal.agents-init
 agents-init c = no_line _
 
 pub agents-preserved : goal.agents-preserved
-agents-preserved c = some_more _ (memory_lines c.args.i) c.agents.j _ _ c.agents.invariant c.in_ok-put_memory_link.ensures
+agents-preserved c = some_more _ (memory_lines c.args.i) c.agents.j _ _ c.agents.invariant c.in_ok-put_memory_connection.ensures
 
 pub returns : goal.returns
 unfolding host_links

@@ -10,5 +10,5 @@ returns c =
     let agents = lines_then _ _ _ _ _ hosts c.in_ok-put_agents.ensures in
     let sources = lines_then _ _ _ _ _ agents c.in_ok-put_sources.ensures in
     let sinks = lines_then _ _ _ _ _ sources c.in_ok-put_sinks.ensures in
-    let links = lines_then _ _ _ _ _ sinks c.in_ok-put_memory_links.ensures in
-    from_empty _ _ _ c.new-text.ensures (lines_then _ _ _ _ _ links c.in_ok-put_stream_links.ensures)
+    let links = lines_then _ _ _ _ _ sinks c.in_ok-put_memory_connections.ensures in
+    from_empty _ _ _ c.new-text.ensures (lines_then _ _ _ _ _ links c.in_ok-put_stream_connections.ensures)

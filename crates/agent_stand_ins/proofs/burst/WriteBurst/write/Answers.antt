@@ -1,6 +1,6 @@
 use Rattle.std.proofs.Common.{ap, sym, ◌∙◌, append-nil}
-use Rattle.mm_runs.specs.Views.Kind.{Writes}
-use Rattle.mm_runs.specs.Operations.{Beat, memory_after, own_operations}
+use Rattle.memory_runs.specs.Views.Kind.{Writes}
+use Rattle.memory_runs.specs.Operations.{Beat, memory_after, own_operations}
 use Rattle.memory_sides.specs.Sides.{agent_side}
 use Rattle.agent_stand_ins.specs.Memory.{contents_of}
 use Rattle.agent_stand_ins.proofs.PlaceLemmas.{own_lanes}

@@ -1,6 +1,6 @@
 use Rattle.std.proofs.Common.{◌≡◌, ap, sym, ◌∙◌}
 use Rattle.histories.specs.History.{numbers}
-use Rattle.mm_runs.specs.Operations.{memory_after}
+use Rattle.memory_runs.specs.Operations.{memory_after}
 use Rattle.agent_stand_ins.specs.Memory.{MemoryValue, with_bytes, lane_writes}
 use Rattle.agent_stand_ins.proofs.Bytes.{with_own, on_ok}
 use Rattle.agent_stand_ins.proofs.memory.Memory.write.Goals as goal

@@ -3,7 +3,7 @@ use Rattle.net_parts.specs.Laws.{extends_twice, grows_fewer, adds_grow, grows_tw
 use Rattle.netlist.specs.Nets.{NetValue}
 use Rattle.netlist.specs.Netlists.{Netlist, IsNet}
 use Rattle.netlist.specs.Longer.{Extends}
-use Rattle.mm_machines.specs.Machines.{Raw}
+use Rattle.memory_machines.specs.Machines.{Raw}
 use Rattle.net_parts.specs.Fitting.{fits_more, fits_in_two}
 use Rattle.command_nets.specs.declared.nets.CommandNets.{CommandNets}
 use Rattle.command_nets.specs.Nets.{AreCommandNets, raw_in}

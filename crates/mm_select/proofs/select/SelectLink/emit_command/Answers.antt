@@ -7,7 +7,7 @@ use Rattle.net_parts.specs.Memories.{waits_where_same}
 use Rattle.item_queues.specs.Laws.{queue_lasts, starts_last}
 use Rattle.command_nets.specs.Nets.{raw_in}
 use Rattle.command_nets.specs.Groups.{command_lasts}
-use Rattle.mm_links.specs.Selects.{repeated}
+use Rattle.memory_links.specs.Selects.{repeated}
 use Rattle.mm_select.specs.Laws.{lanes_order, lanes_reach, ratio_is, place_is, address_is, many_is, levels_is, sizes_times, word_size_few, widths_are}
 use Rattle.mm_select.proofs.select.SelectLink.emit_command.Goals as goal
 

@@ -1,5 +1,5 @@
 use Rattle.std.proofs.Common.{sym, subst}
-use Rattle.mm_links.specs.Links.{LinkForm, IsLink}
+use Rattle.memory_links.specs.Links.{LinkForm, IsLink}
 use Rattle.command_nets.specs.Nets.{port_in}
 use Rattle.mm_split.proofs.SplitBetween.{split_runs, split_ignores}
 use Rattle.mm_split.proofs.split.SplitLink.law.Goals as goal

@@ -1,6 +1,6 @@
 use Rattle.std.proofs.Common.{◌≡◌, List, ◌++◌, Some, flat_map, slice_get, refl, ap, subst}
 use Rattle.av_base.specs.Word.{Word}
-use Rattle.mm_runs.specs.Legal.{Word as CodedWord}
+use Rattle.memory_runs.specs.Legal.{Word as CodedWord}
 use Rattle.port_rows.specs.Levels.{set_levels}
 use Rattle.benches.specs.Hosts as of_hosts
 use Rattle.benches.specs.Agents.{BenchAgentValue, word_answered}

@@ -1,5 +1,5 @@
 use Rattle.std.proofs.Common.{◌≡◌, false, ap, subst, sym, ◌∙◌}
-use Rattle.mm_runs.specs.Views.{Levels}
+use Rattle.memory_runs.specs.Views.{Levels}
 use Rattle.agent_stand_ins.specs.Whole.{AgentStandInValue, accepts}
 use Rattle.benches.specs.Agents.{BenchAgentValue, commanded}
 use Rattle.benches.proofs.agents.Reading.{nothing_told}

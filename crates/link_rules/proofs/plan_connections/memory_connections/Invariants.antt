@@ -1,0 +1,7 @@
+use Rattle.std.proofs.Common.{◌≡◌}
+use Rattle.link_rules.specs.PlanConnections.{memory_connection}
+use Rattle.link_rules.proofs.StreamLemmas.{made_before}
+use Rattle.link_rules.proofs.plan_connections.memory_connections.Given as goal
+
+abbrev pub invariant-loop-k : goal.invariant-loop-k
+invariant-loop-k l = l.links ≡ made_before (memory_connection l.system) l.connections l.k

@@ -1,5 +1,0 @@
-use Rattle.mm_awake.proofs.AheadOwed.{owed_alone}
-use Rattle.mm_awake.proofs.asked_words_are_owed.Goals as goal
-
-pub returns : goal.returns
-returns c = owed_alone

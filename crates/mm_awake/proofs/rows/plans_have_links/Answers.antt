@@ -1,5 +1,0 @@
-use Rattle.mm_awake.proofs.PlanLinks.{links_suit}
-use Rattle.mm_awake.proofs.rows.plans_have_links.Goals as goal
-
-pub returns : goal.returns
-returns c = links_suit

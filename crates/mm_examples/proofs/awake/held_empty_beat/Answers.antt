@@ -1,8 +1,0 @@
-use Rattle.mm_examples.proofs.IdleRuns.{held_asleep, held}
-use Rattle.mm_examples.proofs.awake.held_empty_beat.Goals as goal
-
-pub returns-clause-asleep : goal.returns-clause-asleep
-returns-clause-asleep c = held_asleep
-
-pub returns-clause-refused : goal.returns-clause-refused
-returns-clause-refused c = held

@@ -1,5 +1,0 @@
-use Rattle.mm_examples.proofs.AheadKept.{held_is_not}
-use Rattle.mm_examples.proofs.awake.read_held_back.Goals as goal
-
-pub returns : goal.returns
-returns c = held_is_not

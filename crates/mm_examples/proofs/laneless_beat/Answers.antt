@@ -1,5 +1,0 @@
-use Rattle.mm_examples.proofs.FaultRuns.{laneless_is_not}
-use Rattle.mm_examples.proofs.laneless_beat.Goals as goal
-
-pub returns-clause-after : goal.returns-clause-after
-returns-clause-after c = laneless_is_not

@@ -1,5 +1,0 @@
-use Rattle.mm_links.proofs.Beginning.{begun_is_shown}
-use Rattle.mm_links.proofs.begins.what_begins_is_prompt.Goals as goal
-
-pub returns : goal.returns
-returns c = begun_is_shown

@@ -1,5 +1,0 @@
-use Rattle.mm_links.proofs.CutShown.{fit_below}
-use Rattle.mm_links.proofs.bursts.cut_shows_fit_beats.Goals as goal
-
-pub returns : goal.returns
-returns c = λ reach longest up down state end plan run fit. fit_below reach longest up down state plan run end fit

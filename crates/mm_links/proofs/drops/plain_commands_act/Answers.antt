@@ -1,5 +1,0 @@
-use Rattle.mm_links.proofs.DropPrompt.{plain_acts}
-use Rattle.mm_links.proofs.drops.plain_commands_act.Goals as goal
-
-pub returns : goal.returns
-returns c = plain_acts

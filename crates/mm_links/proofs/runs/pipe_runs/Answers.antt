@@ -1,5 +1,0 @@
-use Rattle.mm_links.proofs.DrivenRuns.{pipe_runs}
-use Rattle.mm_links.proofs.runs.pipe_runs.Goals as goal
-
-pub returns : goal.returns
-returns c = pipe_runs

@@ -1,5 +1,0 @@
-use Rattle.mm_machines.proofs.TagOrder.{owed_by_tag}
-use Rattle.mm_machines.proofs.lines.tags_in_order.Goals as goal
-
-pub returns : goal.returns
-returns c = owed_by_tag

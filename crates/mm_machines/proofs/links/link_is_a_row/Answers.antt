@@ -1,5 +1,0 @@
-use Rattle.mm_machines.proofs.Rows.{row_of_link}
-use Rattle.mm_machines.proofs.links.link_is_a_row.Goals as goal
-
-pub returns : goal.returns
-returns c = row_of_link

@@ -1,5 +1,0 @@
-use Rattle.mm_machines.proofs.Lag.{shown_lag}
-use Rattle.mm_machines.proofs.links.shown_lag.Goals as goal
-
-pub returns : goal.returns
-returns c = shown_lag

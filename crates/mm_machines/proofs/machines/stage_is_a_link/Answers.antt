@@ -1,5 +1,0 @@
-use Rattle.mm_machines.proofs.StageLink.{stage_is_link}
-use Rattle.mm_machines.proofs.machines.stage_is_a_link.Goals as goal
-
-pub returns : goal.returns
-returns c = λ stage. stage_is_link stage.depth stage.shape stage.sides.commands_above stage.sides.commands_below stage.sides.answers_above stage.sides.answers_below stage.queue

@@ -1,5 +1,0 @@
-use Rattle.mm_machines.proofs.Stage.{taken_is}
-use Rattle.mm_machines.proofs.machines.transfers_of_beats.Goals as goal
-
-pub returns : goal.returns
-returns c = taken_is

@@ -1,5 +1,0 @@
-use Rattle.mm_machines.proofs.Flow.{answers_flow}
-use Rattle.mm_machines.proofs.progress.owed_words_flow.Goals as goal
-
-pub returns : goal.returns
-returns c = answers_flow

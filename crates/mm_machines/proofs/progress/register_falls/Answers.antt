@@ -1,5 +1,0 @@
-use Rattle.mm_machines.proofs.OnePlace.{register_falls}
-use Rattle.mm_machines.proofs.progress.register_falls.Goals as goal
-
-pub returns : goal.returns
-returns c = register_falls

@@ -1,5 +1,0 @@
-use Rattle.mm_machines.proofs.Gathered.{matched}
-use Rattle.mm_machines.proofs.settled.agents_take_by_turns.Goals as goal
-
-pub returns : goal.returns
-returns c = λ responses system run inside holds end agent wired legal there. matched responses system run inside holds end wired legal agent there

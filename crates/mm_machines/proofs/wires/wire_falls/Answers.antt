@@ -1,5 +1,0 @@
-use Rattle.mm_machines.proofs.WireRank.{wire_falls}
-use Rattle.mm_machines.proofs.wires.wire_falls.Goals as goal
-
-pub returns : goal.returns
-returns c = wire_falls

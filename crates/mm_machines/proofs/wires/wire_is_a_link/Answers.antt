@@ -1,5 +1,0 @@
-use Rattle.mm_machines.proofs.Wire.{wire_is_link}
-use Rattle.mm_machines.proofs.wires.wire_is_a_link.Goals as goal
-
-pub returns : goal.returns
-returns c = wire_is_link

@@ -1,5 +1,0 @@
-use Rattle.mm_machines.proofs.WireMoves.{wire_moves}
-use Rattle.mm_machines.proofs.wires.wire_keeps_moving.Goals as goal
-
-pub returns : goal.returns
-returns c = wire_moves

@@ -1,5 +1,0 @@
-use Rattle.mm_parts.proofs.JoinedBeats.{fits}
-use Rattle.mm_parts.proofs.joins.routes_show_fit_beats.Goals as goal
-
-pub returns : goal.returns
-returns c = fits

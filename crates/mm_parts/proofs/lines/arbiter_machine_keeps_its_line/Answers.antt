@@ -1,5 +1,0 @@
-use Rattle.mm_parts.proofs.ArbiterMachine.{arbiter_line}
-use Rattle.mm_parts.proofs.lines.arbiter_machine_keeps_its_line.Goals as goal
-
-pub returns : goal.returns
-returns c = arbiter_line

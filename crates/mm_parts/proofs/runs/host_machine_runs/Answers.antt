@@ -1,7 +1,0 @@
-use Rattle.std.proofs.Common.{refl}
-use Rattle.mm_parts.specs.HostRun.{host_registers}
-use Rattle.mm_parts.proofs.MachineRuns.{host_runs}
-use Rattle.mm_parts.proofs.runs.host_machine_runs.Goals as goal
-
-pub returns : goal.returns
-returns c = λ responses side inputs end. host_runs responses side inputs end (host_registers responses side inputs) refl (λ c. refl)

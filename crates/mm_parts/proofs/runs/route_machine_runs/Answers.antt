@@ -1,7 +1,0 @@
-use Rattle.std.proofs.Common.{refl}
-use Rattle.mm_parts.specs.RouteRun.{route_registers}
-use Rattle.mm_parts.proofs.MachineRuns.{route_runs}
-use Rattle.mm_parts.proofs.runs.route_machine_runs.Goals as goal
-
-pub returns : goal.returns
-returns c = λ responses system host room inputs end. route_runs responses system host room inputs end (route_registers responses system host inputs) refl (λ c. refl)
