@@ -56,7 +56,8 @@ pub(crate) fn beat_of(_builder: &Builder, bit: Net, word: Net, channel: Net, emp
     requires word { IsNet _builder.now word }
     requires channel { IsNet _builder.now channel }
     requires empty { IsNet _builder.now empty }
-    ensures same { result ≡ record { valid = bit; word = word; channel = channel; error = bit; first = bit; last = bit; empty = empty } }
+    ensures same { result
+        ≡ record { valid = bit; word = word; channel = channel; error = bit; first = bit; last = bit; empty = empty } }
     ensures nets { AreBeatNets _builder.now result }
 {
     BeatNets {

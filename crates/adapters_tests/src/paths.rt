@@ -6,12 +6,14 @@ use crate::builders::{BYTES, empty_builder};
 use iface_roles::StreamPort;
 use net_parts::{constant, level};
 use netlist::{Builder, Net, NetFault};
-use std::alloc::Global;
 use st_path::{SourceNets, emit_path};
+use std::alloc::Global;
 
 /// The nets of a source without channels, errors and packets.
 fn plain_source(valid: Net, word: Net) -> SourceNets
-    ensures { result ≡ record { valid = valid; word = word; channel = None; error = None; startofpacket = None; endofpacket = None; empty = None } }
+    ensures { result
+        ≡ record
+        { valid = valid; word = word; channel = None; error = None; startofpacket = None; endofpacket = None; empty = None } }
 {
     SourceNets {
         valid,
@@ -24,7 +26,8 @@ fn plain_source(valid: Net, word: Net) -> SourceNets
     }
 }
 
-/// From a source of ready latency 2, through a queue of three beats: the number of `dropped`, and that of the net behind the path.
+/// From a source of ready latency 2, through a queue of three beats: the number of `dropped`, and that of the net behind the
+/// path.
 fn emit_queued(builder: &mut Builder) -> Result<[u32; 2], NetFault> {
     let bit = level(builder, true)?;
     let word = constant(builder, 8, 0xa5)?;

@@ -39,7 +39,8 @@ agents_of = mm_ends End
 
 -- the entry of a connection in the map of its host
 abbrev pub entry_of : ℕ → Footprint → MapEntry
-entry_of number f = record { connection = number; first = f.base; last = f.base + f.bytes - 1; reads = f.reads; writes = f.writes }
+entry_of number f =
+    record { connection = number; first = f.base; last = f.base + f.bytes - 1; reads = f.reads; writes = f.writes }
 
 abbrev pub entry_at : EndId → ℕ → Option Footprint → Option MapEntry
 entry_at host number None = None
@@ -96,7 +97,8 @@ serves Access.Writes e = e.writes
 -- where an access goes: to the connection whose footprint holds the address, if its agent has this kind of transfer,
 -- and else to the default agent, `None`
 abbrev pub place_of : List MapEntry → Access → ℕ → Option ℕ
-place_of entries access address = option_and_then (λ e. if serves access e then Some e.connection else None) (find (holds address) entries)
+place_of entries access address =
+    option_and_then (λ e. if serves access e then Some e.connection else None) (find (holds address) entries)
 
 -- an access of the host goes to this connection: it is the host's, its footprint holds the address, and its agent has
 -- this kind of transfer

@@ -68,7 +68,8 @@ fn least_overlapped(system: &System, number: u32, footprint: Footprint) -> Optio
 fn broken_rule(map: &HostMap, footprint: Footprint) -> Option<u8>
     requires { IsFit footprint }
     ensures { result
-        ≡ first_true (is_misplaced footprint) (list_any (meets footprint.base (footprint.base + footprint.bytes - 1)) map.now) (ends_past_range footprint) }
+        ≡ first_true (is_misplaced footprint) (list_any (meets footprint.base (footprint.base + footprint.bytes - 1)) map.now)
+        (ends_past_range footprint) }
 {
     if footprint.is_misplaced() {
         return Some(1);

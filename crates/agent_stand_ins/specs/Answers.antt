@@ -81,7 +81,8 @@ waiting_after side latency cycle contents codes levels reads waiting =
 abbrev pub waiting_before : AgentSide → List AgentStatement → AgentView → ℕ → List Waiting
 waiting_before side script view zero = []
 waiting_before side script view (suc cycle) =
-    waiting_after side (latency_of script) cycle (contents_before side script view cycle) (code_at side script) (levels_at view.signals cycle) (takes_read side view cycle)
+    waiting_after side (latency_of script) cycle (contents_before side script view cycle) (code_at side script)
+    (levels_at view.signals cycle) (takes_read side view cycle)
     (waiting_before side script view cycle)
 
 -- ---- without it
@@ -91,7 +92,8 @@ abbrev pub word_asked : AgentSide → (ℕ → ℕ) → Levels → Bool → ℕ
 word_asked side contents levels reads = if reads then word_at side contents (byte_address side.shape levels.address) else 0
 
 abbrev pub word_asked_in : AgentSide → List AgentStatement → AgentView → ℕ → ℕ
-word_asked_in side script view cycle = word_asked side (contents_before side script view cycle) (levels_at view.signals cycle) (takes_read side view cycle)
+word_asked_in side script view cycle =
+    word_asked side (contents_before side script view cycle) (levels_at view.signals cycle) (takes_read side view cycle)
 
 -- the word of the read that was taken as many cycles before as the read latency says; 0 where none was
 abbrev pub word_behind : AgentSide → List AgentStatement → AgentView → ℕ → ℕ
@@ -103,7 +105,8 @@ abbrev pub code_asked : AgentSide → (ℕ → ℕ) → Levels → Bool → ℕ
 code_asked side codes levels reads = if reads then codes (byte_address side.shape levels.address) else 0
 
 abbrev pub code_asked_in : AgentSide → List AgentStatement → AgentView → ℕ → ℕ
-code_asked_in side script view cycle = code_asked side (code_at side script) (levels_at view.signals cycle) (takes_read side view cycle)
+code_asked_in side script view cycle =
+    code_asked side (code_at side script) (levels_at view.signals cycle) (takes_read side view cycle)
 
 abbrev pub code_behind : AgentSide → List AgentStatement → AgentView → ℕ → ℕ
 code_behind side script view cycle =

@@ -24,9 +24,11 @@ next_place : (from k : ℕ) → from + 1 + k ≡ from + suc k
 next_place from k = omega arith
 
 -- bytes write a number below the power of 256 for so many
-pub number_below : (bytes : ℕ → ℕ) (from count : ℕ) → ((k : ℕ) → k < count → bytes (from + k) < 256) → number_of bytes from count < 256 ^ count
+pub number_below : (bytes : ℕ → ℕ) (from count : ℕ) → ((k : ℕ) → k < count → bytes (from + k) < 256)
+    → number_of bytes from count < 256 ^ count
 number_below bytes from zero small = omega arith
 number_below bytes from (suc count) small =
     let first : bytes from < 256 = subst (λ n. bytes n < 256) (add-zero from) (small 0 (omega arith)) in
-    let later = number_below bytes (from + 1) count (λ k less. subst (λ n. bytes n < 256) (sym (next_place from k)) (small (suc k) (omega arith))) in
+    let later = number_below bytes (from + 1) count
+    (λ k less. subst (λ n. bytes n < 256) (sym (next_place from k)) (small (suc k) (omega arith))) in
     omega (arith, pow-succ' 256 count)

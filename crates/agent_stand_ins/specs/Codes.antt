@@ -14,7 +14,8 @@ codes_stated side [] address = []
 codes_stated side (Stall pattern ∷ later) address = codes_stated side later address
 codes_stated side (Latency cycles ∷ later) address = codes_stated side later address
 codes_stated side (Fill offset bytes ∷ later) address = codes_stated side later address
-codes_stated side (Code offset code ∷ later) address = if holds side address offset then code ∷ codes_stated side later address else codes_stated side later address
+codes_stated side (Code offset code ∷ later) address =
+    if holds side address offset then code ∷ codes_stated side later address else codes_stated side later address
 
 -- the last of some numbers, or else another one
 abbrev pub last_or : ℕ → List ℕ → ℕ

@@ -26,7 +26,8 @@ filled script = memory_after (λ _. 0) (flat_map fills script)
 abbrev pub contents_before : AgentSide → List AgentStatement → AgentView → ℕ → ℕ → ℕ
 contents_before side script view cycle =
     memory_after (filled script)
-    (flat_map (own_operations side.shape side.span) (flat_map (λ (taken : Transfer). taken.beats) (accepted side.shape view.signals (agent_accepts side view) cycle)))
+    (flat_map (own_operations side.shape side.span)
+    (flat_map (λ (taken : Transfer). taken.beats) (accepted side.shape view.signals (agent_accepts side view) cycle)))
 
 -- the number that these bytes write from a place on, the lowest first
 abbrev pub number_of : (ℕ → ℕ) → ℕ → ℕ → ℕ

@@ -6,7 +6,8 @@ use Rattle.agent_stand_ins.specs.Answers.{commands_among}
 -- from each word on there are no more than a longest burst for each command that ends
 abbrev pub AreGrouped : ℕ → List Waiting → Type 0
 AreGrouped longest [] = Unit {0}
-AreGrouped longest (first ∷ later) = (length (first ∷ later) ≤ longest * commands_among (first ∷ later)) × AreGrouped longest later
+AreGrouped longest (first ∷ later) =
+    (length (first ∷ later) ≤ longest * commands_among (first ∷ later)) × AreGrouped longest later
 
 -- the words that wait as contracts see them: how many words a command may have, and how many commands there may be
 pub record WaitingValue : Type 0 where

@@ -58,7 +58,8 @@ abbrev pub address_shown : AgentStandInValue → Levels → ℕ
 address_shown agent levels =
     let shape = (agent_side agent.port).shape in
     if is_raised levels.write then
-    (if nat_eq agent.burst.left 0 then byte_address shape levels.address else agent.burst.first) + (if nat_eq agent.burst.left 0 then 0 else agent.burst.done) * shape.word_bytes
+    (if nat_eq agent.burst.left 0 then byte_address shape levels.address else agent.burst.first)
+    + (if nat_eq agent.burst.left 0 then 0 else agent.burst.done) * shape.word_bytes
     else byte_address shape levels.address
 
 abbrev pub gives : AgentStandInValue → Bool
@@ -66,11 +67,13 @@ gives agent = agent.port.readdatavalid && is_due agent.cycle agent.waiting
 
 -- the word of the cycle, but for the one that is asked for in it
 abbrev pub word_shown : AgentStandInValue → ℕ
-word_shown agent = if agent.port.readdatavalid then word_due agent.cycle agent.waiting else (slice_index_or agent.delayed 0 no_answer).word
+word_shown agent =
+    if agent.port.readdatavalid then word_due agent.cycle agent.waiting else (slice_index_or agent.delayed 0 no_answer).word
 
 -- and its code
 abbrev pub code_shown : AgentStandInValue → ℕ
-code_shown agent = if agent.port.readdatavalid then code_due agent.cycle agent.waiting else (slice_index_or agent.delayed 0 no_answer).code
+code_shown agent =
+    if agent.port.readdatavalid then code_due agent.cycle agent.waiting else (slice_index_or agent.delayed 0 no_answer).code
 
 -- the word that is asked for in the cycle
 abbrev pub word_now : AgentStandInValue → Levels → ℕ
@@ -82,9 +85,12 @@ code_now agent levels = code_asked (agent_side agent.port) (codes_of agent) leve
 
 -- the word with its code, where levels ask for one or don't
 abbrev pub answer_asked : AgentStandInValue → Levels → Bool → Answer
-answer_asked agent levels asks = answer (word_asked (agent_side agent.port) (contents_of agent.memory) levels asks) (code_asked (agent_side agent.port) (codes_of agent) levels asks)
+answer_asked agent levels asks =
+    answer (word_asked (agent_side agent.port) (contents_of agent.memory) levels asks)
+    (code_asked (agent_side agent.port) (codes_of agent) levels asks)
 
--- what a cycle with these levels leaves of the words that wait or are under way, where they ask for words or don't. The rest stays
+-- what a cycle with these levels leaves of the words that wait or are under way, where they ask for words or don't. The rest
+-- stays
 pub record IsAnswered (agent : AgentStandInValue) (levels : Levels) (asks : Bool) (after : AgentStandInValue) : Type 0 where
   pub port : after.port ≡ agent.port
   pub stalls : after.stalls ≡ agent.stalls
@@ -95,7 +101,10 @@ pub record IsAnswered (agent : AgentStandInValue) (levels : Levels) (asks : Bool
   pub stood : after.stood ≡ agent.stood
   pub burst : after.burst ≡ agent.burst
   pub memory : after.memory ≡ agent.memory
-  pub waiting : IsTrue agent.port.readdatavalid → after.waiting ≡ waiting_after (agent_side agent.port) agent.latency agent.cycle (contents_of agent.memory) (codes_of agent) levels asks agent.waiting
+  pub waiting : IsTrue agent.port.readdatavalid
+      → after.waiting
+      ≡ waiting_after (agent_side agent.port) agent.latency agent.cycle (contents_of agent.memory)
+      (codes_of agent) levels asks agent.waiting
   pub delayed : IsFalse agent.port.readdatavalid → after.delayed ≡ drop 1 (agent.delayed ++ answer_asked agent levels asks ∷ [])
 
 -- what a cycle with these levels leaves
@@ -106,14 +115,21 @@ pub record IsBehind (agent : AgentStandInValue) (levels : Levels) (after : Agent
   pub coded : after.coded ≡ agent.coded
   pub cycle : after.cycle ≡ agent.cycle + 1
   pub cycles : after.cycles ≡ agent.cycles
-  pub stood : after.stood ≡ (if carries levels && not (nat_eq agent.stood (wait_of (agent_side agent.port) levels)) then agent.stood + 1 else 0)
+  pub stood : after.stood
+      ≡ (if carries levels && not (nat_eq agent.stood (wait_of (agent_side agent.port) levels)) then agent.stood + 1 else 0)
   pub burst : after.burst ≡ burst_after (agent_side agent.port).shape levels (accepts agent levels) agent.burst
   pub contents : contents_of after.memory
       ≡ (if accepts agent levels && is_raised levels.write
-      then memory_after (contents_of agent.memory) (flat_map (own_operations (agent_side agent.port).shape (agent_side agent.port).span) (write_transfer (agent_side agent.port).shape levels agent.burst).beats)
+      then memory_after (contents_of agent.memory)
+      (flat_map (own_operations (agent_side agent.port).shape (agent_side agent.port).span)
+      (write_transfer (agent_side agent.port).shape levels agent.burst).beats)
       else contents_of agent.memory)
-  pub waiting : IsTrue agent.port.readdatavalid → after.waiting ≡ waiting_after (agent_side agent.port) agent.latency agent.cycle (contents_of agent.memory) (codes_of agent) levels (reads agent levels) agent.waiting
-  pub delayed : IsFalse agent.port.readdatavalid → after.delayed ≡ drop 1 (agent.delayed ++ answer_asked agent levels (reads agent levels) ∷ [])
+  pub waiting : IsTrue agent.port.readdatavalid
+      → after.waiting
+      ≡ waiting_after (agent_side agent.port) agent.latency agent.cycle (contents_of agent.memory) (codes_of agent) levels
+      (reads agent levels) agent.waiting
+  pub delayed : IsFalse agent.port.readdatavalid
+      → after.delayed ≡ drop 1 (agent.delayed ++ answer_asked agent levels (reads agent levels) ∷ [])
 
 -- ---- a run
 
@@ -137,29 +153,39 @@ pub record StandsFor (script : List AgentStatement) (agent : AgentStandInValue) 
   pub latency : agent.latency ≡ latency_of script
   pub codes : codes_of agent ≡ code_at (agent_side agent.port) script
   pub stood : agent.stood ≡ stood_before (agent_side agent.port) view agent.cycle
-  pub burst : agent.burst ≡ burst_before (agent_side agent.port).shape view.signals (agent_accepts (agent_side agent.port) view) agent.cycle
+  pub burst : agent.burst
+      ≡ burst_before (agent_side agent.port).shape view.signals (agent_accepts (agent_side agent.port) view) agent.cycle
   pub contents : contents_of agent.memory ≡ contents_before (agent_side agent.port) script view agent.cycle
   pub waiting : IsTrue agent.port.readdatavalid → agent.waiting ≡ waiting_before (agent_side agent.port) script view agent.cycle
   pub delay : IsFalse agent.port.readdatavalid → length agent.delayed ≡ agent.port.read_latency
-  pub delayed : IsFalse agent.port.readdatavalid → (k : ℕ) → k < agent.port.read_latency → slice_index_or agent.delayed k no_answer ≡ answer_behind (agent_side agent.port) script view (agent.cycle + k)
+  pub delayed : IsFalse agent.port.readdatavalid → (k : ℕ) → k < agent.port.read_latency
+      → slice_index_or agent.delayed k no_answer ≡ answer_behind (agent_side agent.port) script view (agent.cycle + k)
 
--- what it shows is what the definition says of the cycle. At read latency 0 the word is the one that the cycle's own levels ask for, and so is its code
+-- what it shows is what the definition says of the cycle. At read latency 0 the word is the one that the cycle's own levels ask
+-- for, and so is its code
 pub record ShowsAsDefined (script : List AgentStatement) (agent : AgentStandInValue) (view : AgentView) : Type 0 where
   pub waitrequest : stalls_in agent.stalls agent.cycle ≡ stalls_in (stall_pattern script) agent.cycle
   pub readdatavalid : gives agent ≡ gives_in agent.port script view agent.cycle
   pub late : IsTrue agent.port.readdatavalid → word_shown agent ≡ word_in agent.port script view agent.cycle
-  pub fixed : IsFalse agent.port.readdatavalid → 1 ≤ agent.port.read_latency → word_shown agent ≡ word_in agent.port script view agent.cycle
-  pub at_once : IsFalse agent.port.readdatavalid → agent.port.read_latency ≡ 0 → view.waitrequest agent.cycle ≡ one_if (stalls_in agent.stalls agent.cycle) →
+  pub fixed : IsFalse agent.port.readdatavalid → 1 ≤ agent.port.read_latency
+      → word_shown agent ≡ word_in agent.port script view agent.cycle
+  pub at_once : IsFalse agent.port.readdatavalid → agent.port.read_latency ≡ 0
+      → view.waitrequest agent.cycle ≡ one_if (stalls_in agent.stalls agent.cycle) →
       word_now agent (levels_at view.signals agent.cycle) ≡ word_in agent.port script view agent.cycle
   pub late_code : IsTrue agent.port.readdatavalid → code_shown agent ≡ code_in agent.port script view agent.cycle
-  pub fixed_code : IsFalse agent.port.readdatavalid → 1 ≤ agent.port.read_latency → code_shown agent ≡ code_in agent.port script view agent.cycle
-  pub code_at_once : IsFalse agent.port.readdatavalid → agent.port.read_latency ≡ 0 → view.waitrequest agent.cycle ≡ one_if (stalls_in agent.stalls agent.cycle) →
+  pub fixed_code : IsFalse agent.port.readdatavalid → 1 ≤ agent.port.read_latency
+      → code_shown agent ≡ code_in agent.port script view agent.cycle
+  pub code_at_once : IsFalse agent.port.readdatavalid → agent.port.read_latency ≡ 0
+      → view.waitrequest agent.cycle ≡ one_if (stalls_in agent.stalls agent.cycle) →
       code_now agent (levels_at view.signals agent.cycle) ≡ code_in agent.port script view agent.cycle
 
 -- it takes what the agent of the run takes, and the words that it takes lie where it says
 pub record TakesAsDefined (agent : AgentStandInValue) (view : AgentView) : Type 0 where
   pub accepted : accepts agent (levels_at view.signals agent.cycle) ≡ agent_accepts (agent_side agent.port) view agent.cycle
-  pub address : (beat : Beat) → slice_get (transfer_at (agent_side agent.port).shape view.signals (agent_accepts (agent_side agent.port) view) agent.cycle).beats 0 ≡ Some beat →
+  pub address : (beat : Beat)
+      → slice_get
+      (transfer_at (agent_side agent.port).shape view.signals (agent_accepts (agent_side agent.port) view) agent.cycle).beats 0
+      ≡ Some beat →
       beat.address ≡ address_shown agent (levels_at view.signals agent.cycle)
 
 -- ---- what is kept
@@ -172,7 +198,8 @@ pub record IsBurstKept (port : AgentPort) (burst : WriteBurst) : Type 0 where
   pub whole : burst.first % port.word_bytes ≡ 0
   pub low : burst.first < 2 ^ 36
 
-pub record IsKept (port : AgentPort) (cycle cycles stood : ℕ) (burst : WriteBurst) (memory : MemoryValue) (waiting : WaitingValue) : Type 0 where
+pub record IsKept (port : AgentPort) (cycle cycles stood : ℕ) (burst : WriteBurst) (memory : MemoryValue)
+    (waiting : WaitingValue) : Type 0 where
   pub bounded : IsBoundedAgent port
   pub bytes : memory.word_bytes ≡ port.word_bytes
   pub within : cycle ≤ cycles

@@ -40,14 +40,16 @@ late_agent = record {
 abbrev pub fixed_agent : AgentPort
 fixed_agent = record late_agent { readdatavalid = false; waitrequest = false; read_latency = 1; read_wait = 1 }
 
--- 1234 stands at 2, and the word there has code 2; a word comes two cycles behind its read; every other cycle stalls, the first one too
+-- 1234 stands at 2, and the word there has code 2; a word comes two cycles behind its read; every other cycle stalls, the first
+-- one too
 abbrev pub late_script : List AgentStatement
 late_script = Fill 2 (52 ∷ 18 ∷ []) ∷ Code 3 2 ∷ Latency 2 ∷ Stall (record { stalls = true ∷ false ∷ [] }) ∷ []
 
 abbrev pub fixed_script : List AgentStatement
 fixed_script = Fill 2 (52 ∷ 18 ∷ []) ∷ Code 3 2 ∷ []
 
--- the word at 2 is read in the first two cycles, its low lane is written as cd in the next two, and it is read again in the next two
+-- the word at 2 is read in the first two cycles, its low lane is written as cd in the next two, and it is read again in the next
+-- two
 abbrev pub view_of : List AgentStatement → AgentView
 view_of script = record {
   signals = record {

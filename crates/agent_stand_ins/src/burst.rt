@@ -28,7 +28,9 @@ impl WriteBurst {
     pub(crate) fn address(&self, port: &AgentPort, levels: &CommandLevels) -> u64
         requires bounded { IsBoundedAgent port.now }
         requires kept { IsBurstKept port.now self.now }
-        ensures value { result ≡ (if nat_eq self.now.left 0 then byte_address (agent_side port.now).shape levels.now.address else self.now.first) + (if nat_eq self.now.left 0 then 0 else self.now.done) * port.now.word_bytes }
+        ensures value { result
+            ≡ (if nat_eq self.now.left 0 then byte_address (agent_side port.now).shape levels.now.address else self.now.first)
+            + (if nat_eq self.now.left 0 then 0 else self.now.done) * port.now.word_bytes }
         ensures whole { result % port.now.word_bytes ≡ 0 }
     {
         if self.left == 0 {
@@ -66,7 +68,10 @@ impl WriteBurst {
         requires kept { IsBurstKept port.now self.now }
         requires bytes { memory.old.word_bytes ≡ port.now.word_bytes }
         requires room { 0 < memory.old.room }
-        ensures contents { contents_of memory.new ≡ memory_after (contents_of memory.old) (flat_map (own_operations (agent_side port.now).shape (agent_side port.now).span) (write_transfer (agent_side port.now).shape (levels_of levels.now) (burst_of self.now)).beats) }
+        ensures contents { contents_of memory.new
+            ≡ memory_after (contents_of memory.old)
+            (flat_map (own_operations (agent_side port.now).shape (agent_side port.now).span)
+            (write_transfer (agent_side port.now).shape (levels_of levels.now) (burst_of self.now)).beats) }
         ensures word_bytes { memory.new.word_bytes ≡ memory.old.word_bytes }
         ensures room { memory.old.room ≤ memory.new.room + 1 }
     {

@@ -17,41 +17,59 @@ ghost use Rattle.histories.specs.History.{one_if};
 
 /// Whatever the module shows, a stand-in is a legal agent.
 pub fn stand_in_agents_are_legal()
-    ensures { (port : AgentPort) (script : List AgentStatement) (view : AgentView) (end : ℕ) → IsAgentStandIn port script view end → IsLegalAgent (agent_side port) view end }
+    ensures { (port : AgentPort) (script : List AgentStatement) (view : AgentView) (end : ℕ) → IsAgentStandIn port script view end
+        → IsLegalAgent (agent_side port) view end }
 {}
 
-/// Where a side keeps to the rules and to what the agent bears, no read is left without its words: before each cycle all words that were
+/// Where a side keeps to the rules and to what the agent bears, no read is left without its words: before each cycle all words
+/// that were
 /// asked are given or wait.
 pub fn borne_reads_are_answered()
-    ensures { (port : AgentPort) (script : List AgentStatement) (view : AgentView) (end : ℕ) → IsTrue port.readdatavalid → IsAgentStandIn port script view end
-        → AreLegal (agent_side port).shape view.signals (agent_accepts (agent_side port) view) end → IsWithinPendingBound (agent_side port) view end
-        → (c : ℕ) → c ≤ end → words_before view.readdatavalid c + length (waiting_before (agent_side port) script view c) ≡ words_asked (agent_side port).shape view.signals (agent_accepts (agent_side port) view) c }
+    ensures { (port : AgentPort) (script : List AgentStatement) (view : AgentView) (end : ℕ) → IsTrue port.readdatavalid
+        → IsAgentStandIn port script view end
+        → AreLegal (agent_side port).shape view.signals (agent_accepts (agent_side port) view) end
+        → IsWithinPendingBound (agent_side port) view end
+        → (c : ℕ) → c ≤ end
+        → words_before view.readdatavalid c + length (waiting_before (agent_side port) script view c)
+        ≡ words_asked (agent_side port).shape view.signals (agent_accepts (agent_side port) view) c }
 {}
 
-/// Under the same conditions the words that are given are, in order, what the reads found when they were taken: what the writes taken
+/// Under the same conditions the words that are given are, in order, what the reads found when they were taken: what the writes
+/// taken
 /// before them had left, each with the code of its place.
 pub fn words_come_in_order()
-    ensures { (port : AgentPort) (script : List AgentStatement) (view : AgentView) (end : ℕ) → IsTrue port.readdatavalid → IsAgentStandIn port script view end
-        → AreLegal (agent_side port).shape view.signals (agent_accepts (agent_side port) view) end → IsWithinPendingBound (agent_side port) view end
-        → (c : ℕ) → c ≤ end → words_given view c ++ map answer_of (waiting_before (agent_side port) script view c) ≡ words_found port script view c }
+    ensures { (port : AgentPort) (script : List AgentStatement) (view : AgentView) (end : ℕ) → IsTrue port.readdatavalid
+        → IsAgentStandIn port script view end
+        → AreLegal (agent_side port).shape view.signals (agent_accepts (agent_side port) view) end
+        → IsWithinPendingBound (agent_side port) view end
+        → (c : ℕ) → c ≤ end
+        → words_given view c ++ map answer_of (waiting_before (agent_side port) script view c) ≡ words_found port script view c }
 {}
 
 /// What a stand-in's `response` bears fits its port: a code from 0 to 3, and 0 where there is no such port.
 pub fn codes_fit_their_port()
-    ensures few { (port : AgentPort) (script : List AgentStatement) (view : AgentView) (c : ℕ) → IsAgentScript port script → code_in port script view c ≤ 3 }
-    ensures none { (port : AgentPort) (script : List AgentStatement) (view : AgentView) (c : ℕ) → IsAgentScript port script → IsFalse port.response → code_in port script view c ≡ 0 }
+    ensures few { (port : AgentPort) (script : List AgentStatement) (view : AgentView) (c : ℕ) → IsAgentScript port script
+        → code_in port script view c ≤ 3 }
+    ensures none { (port : AgentPort) (script : List AgentStatement) (view : AgentView) (c : ℕ) → IsAgentScript port script
+        → IsFalse port.response → code_in port script view c ≡ 0 }
 {}
 
 /// A stand-in that is made stands for every run before its first cycle; from cycle to cycle it stands for a run that shows what
 /// it shows, and it shows what the definition says.
 pub fn stand_ins_stand_for_runs()
-    ensures begins { (port : AgentPort) (script : List AgentStatement) (cycles : ℕ) (agent : AgentStandInValue) (view : AgentView) → IsFirst port script cycles agent → StandsFor script agent view }
-    ensures goes_on { (script : List AgentStatement) (agent after : AgentStandInValue) (view : AgentView) → StandsFor script agent view → view.waitrequest agent.cycle ≡ one_if (stalls_in agent.stalls agent.cycle) → IsBehind agent (levels_at view.signals agent.cycle) after → StandsFor script after view }
-    ensures takes { (script : List AgentStatement) (agent : AgentStandInValue) (view : AgentView) → StandsFor script agent view → view.waitrequest agent.cycle ≡ one_if (stalls_in agent.stalls agent.cycle) → TakesAsDefined agent view }
-    ensures shows { (script : List AgentStatement) (agent : AgentStandInValue) (view : AgentView) → StandsFor script agent view → ShowsAsDefined script agent view }
+    ensures begins { (port : AgentPort) (script : List AgentStatement) (cycles : ℕ) (agent : AgentStandInValue) (view : AgentView)
+        → IsFirst port script cycles agent → StandsFor script agent view }
+    ensures goes_on { (script : List AgentStatement) (agent after : AgentStandInValue) (view : AgentView)
+        → StandsFor script agent view → view.waitrequest agent.cycle ≡ one_if (stalls_in agent.stalls agent.cycle)
+        → IsBehind agent (levels_at view.signals agent.cycle) after → StandsFor script after view }
+    ensures takes { (script : List AgentStatement) (agent : AgentStandInValue) (view : AgentView) → StandsFor script agent view
+        → view.waitrequest agent.cycle ≡ one_if (stalls_in agent.stalls agent.cycle) → TakesAsDefined agent view }
+    ensures shows { (script : List AgentStatement) (agent : AgentStandInValue) (view : AgentView) → StandsFor script agent view
+        → ShowsAsDefined script agent view }
 {}
 
-/// What an agent with `readdatavalid` gives that stalls in every other cycle. The first read is taken in cycle 1, the write in cycle 3, the
+/// What an agent with `readdatavalid` gives that stalls in every other cycle. The first read is taken in cycle 1, the write in
+/// cycle 3, the
 /// second read in cycle 5.
 pub fn late_words()
     ensures none_yet { late_gives 2 ≡ false }

@@ -34,7 +34,8 @@ impl Model for Memory {
 
     ghost Value = { MemoryValue };
 
-    ghost view = { λ m. record { words = m.words.items; word_bytes = m.word_bytes; room = vec_capacity m.words - vec_len m.words } };
+    ghost view = { λ m. record
+        { words = m.words.items; word_bytes = m.word_bytes; room = vec_capacity m.words - vec_len m.words } };
 
     ghost invariant = { λ m. IsInOrder m.words.items m.word_bytes };
 }
@@ -59,7 +60,9 @@ fn byte_at(word: u128, lane: u8) -> u8
 fn written_lanes(stored: [u8; 16], word_bytes: u8, word: u128, enables: u16) -> [u8; 16]
     requires bytes { IsByteCount word_bytes }
     requires len { length stored ≡ 16 }
-    ensures { (memory : MemoryValue) (number : ℕ) → memory.word_bytes ≡ word_bytes → with_bytes memory number result ≡ memory_after (with_bytes memory number stored) (lane_writes word_bytes number word enables (numbers 0 word_bytes)) }
+    ensures { (memory : MemoryValue) (number : ℕ) → memory.word_bytes ≡ word_bytes
+        → with_bytes memory number result
+        ≡ memory_after (with_bytes memory number stored) (lane_writes word_bytes number word enables (numbers 0 word_bytes)) }
 {
     let mut bytes = stored;
     'lanes: for lane in 0..word_bytes {
@@ -97,7 +100,8 @@ impl Memory {
     fn find(&self, number: u32) -> Result<usize, usize>
         ensures within { IsSearchInRange result (length self.now.words) }
         ensures found { IfOk result (HoldsAt (λ word. word.number ≡ number) self.now.words) }
-        ensures missing { IfErr result (IsPartitionPoint (λ word. word.number < number) (λ word. number < word.number) self.now.words) }
+        ensures missing { IfErr result
+            (IsPartitionPoint (λ word. word.number < number) (λ word. number < word.number) self.now.words) }
     {
         self.words.binary_search_by_key(&number, |word| word.number)
     }
@@ -144,7 +148,9 @@ impl Memory {
     /// Writes the enabled lanes of the word with a number. There is room for it.
     pub(crate) fn write(&mut self, number: u32, word: u128, enables: u16)
         requires { 0 < self.old.room }
-        ensures contents { contents_of self.new ≡ memory_after (contents_of self.old) (lane_writes self.old.word_bytes number word enables (numbers 0 self.old.word_bytes)) }
+        ensures contents { contents_of self.new
+            ≡ memory_after (contents_of self.old)
+            (lane_writes self.old.word_bytes number word enables (numbers 0 self.old.word_bytes)) }
         ensures word_bytes { self.new.word_bytes ≡ self.old.word_bytes }
         ensures room { self.old.room ≤ self.new.room + 1 }
     {

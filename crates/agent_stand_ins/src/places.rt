@@ -42,7 +42,8 @@ pub(crate) fn word_number(port: &AgentPort, address: u64) -> u32
     requires bounded { IsBoundedAgent port.now }
     requires whole { address % port.now.word_bytes ≡ 0 }
     ensures number { result ≡ address % span_of port.now / port.now.word_bytes }
-    ensures places { (lane : ℕ) → lane < port.now.word_bytes → (address + lane) % span_of port.now ≡ result * port.now.word_bytes + lane }
+    ensures places { (lane : ℕ) → lane < port.now.word_bytes
+        → (address + lane) % span_of port.now ≡ result * port.now.word_bytes + lane }
 {
     ((address % span(port)) / u64::from(port.word_bytes)) as u32
 }

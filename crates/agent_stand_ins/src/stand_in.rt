@@ -52,7 +52,26 @@ impl<'a> Model for AgentStandIn<'a> {
 
     ghost Value = { AgentStandInValue };
 
-    ghost view = { λ s. record { port = s.port; stalls = s.stalls.now; latency = s.latency; coded = s.coded.now; cycle = s.cycle; cycles = s.cycles; stood = s.stood; burst = burst_of s.burst; memory = s.memory; waiting = s.waiting.waiting; delayed = s.delayed } };
+    ghost view = { λ s. record {
+      port =
+          s.port;
+      stalls =
+          s.stalls.now;
+      latency =
+          s.latency;
+      coded =
+          s.coded.now;
+      cycle =
+          s.cycle;
+      cycles =
+          s.cycles;
+      stood =
+          s.stood;
+      burst = burst_of s.burst;
+      memory = s.memory;
+      waiting = s.waiting.waiting;
+      delayed = s.delayed;
+    } };
 
     ghost invariant = { λ s. IsKept s.port s.cycle s.cycles s.stood s.burst s.memory s.waiting };
 }
@@ -139,7 +158,9 @@ fn pass_waiting(
     requires few { cycle < 65536 }
     requires longest { waiting.old.longest ≡ longest_burst (agent_side port.now).burst_bits }
     requires pending { waiting.old.pending ≡ (agent_side port.now).pending }
-    ensures waiting { waiting.new.waiting ≡ waiting_after (agent_side port.now) latency cycle (contents_of memory.now) (code_at (agent_side port.now) script.now) (levels_of levels.now) reads waiting.old.waiting }
+    ensures waiting { waiting.new.waiting
+        ≡ waiting_after (agent_side port.now) latency cycle (contents_of memory.now) (code_at (agent_side port.now) script.now)
+        (levels_of levels.now) reads waiting.old.waiting }
     ensures longest { waiting.new.longest ≡ waiting.old.longest }
     ensures pending { waiting.new.pending ≡ waiting.old.pending }
 {
@@ -152,7 +173,9 @@ fn pass_waiting(
 /// For how many cycles a beat has stood behind a cycle.
 fn stood_behind(port: &AgentPort, stood: u32, levels: &CommandLevels) -> u32
     requires { stood < 65536 }
-    ensures value { result ≡ (if carries (levels_of levels.now) && not (nat_eq stood (wait_of (agent_side port.now) (levels_of levels.now))) then stood + 1 else 0) }
+    ensures value { result
+        ≡ (if carries (levels_of levels.now) && not (nat_eq stood (wait_of (agent_side port.now) (levels_of levels.now)))
+        then stood + 1 else 0) }
     ensures few { result ≤ stood + 1 }
 {
     if carries(levels) && stood != wait_of(port, levels) {
@@ -185,7 +208,8 @@ fn first_memory(
 fn waiting_room(alloc: Global, port: &AgentPort) -> Result<WaitingWords, NoMemory>
     requires { IsBoundedAgent port.now }
     ensures waiting { IfOk result (λ words. words.waiting ≡ []) }
-    ensures longest { IfOk result (λ words. IsTrue port.now.readdatavalid → words.longest ≡ longest_burst (agent_side port.now).burst_bits) }
+    ensures longest { IfOk result (λ words. IsTrue port.now.readdatavalid
+        → words.longest ≡ longest_burst (agent_side port.now).burst_bits) }
     ensures pending { IfOk result (λ words. IsTrue port.now.readdatavalid → words.pending ≡ (agent_side port.now).pending) }
 {
     if port.readdatavalid {

@@ -65,7 +65,11 @@ fn push_words(
     requires bounded { IsBoundedAgent port.now }
     requires bytes { memory.now.word_bytes ≡ port.now.word_bytes }
     requires room { length words.old.items + levels.now.count ≤ words.old.capacity }
-    ensures { words.new ≡ buffer (words.old.items ++ asked_words (agent_side port.now) (contents_of memory.now) (code_at (agent_side port.now) script.now) due (levels_of levels.now)) words.old.capacity }
+    ensures { words.new
+        ≡ buffer
+        (words.old.items
+        ++ asked_words (agent_side port.now) (contents_of memory.now) (code_at (agent_side port.now) script.now) due
+        (levels_of levels.now)) words.old.capacity }
 {
     let first = byte_address(port, levels.address);
     'words: for number in 0..levels.count {
@@ -162,7 +166,10 @@ impl WaitingWords {
         requires bytes { memory.now.word_bytes ≡ port.now.word_bytes }
         requires few { commands_among self.old.waiting < self.old.pending }
         requires short { levels.now.count ≤ self.old.longest }
-        ensures waiting { self.new.waiting ≡ self.old.waiting ++ asked_words (agent_side port.now) (contents_of memory.now) (code_at (agent_side port.now) script.now) due (levels_of levels.now) }
+        ensures waiting { self.new.waiting
+            ≡ self.old.waiting
+            ++ asked_words (agent_side port.now) (contents_of memory.now) (code_at (agent_side port.now) script.now) due
+            (levels_of levels.now) }
         ensures longest { self.new.longest ≡ self.old.longest }
         ensures pending { self.new.pending ≡ self.old.pending }
     {

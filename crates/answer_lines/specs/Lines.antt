@@ -19,7 +19,8 @@ script_rule (script.Interface n) = codes "I" ++ decimal n
 
 abbrev pub script_line : Place → ScriptRule → List ℕ
 script_line place rule =
-    codes "script refused: file " ++ decimal place.file ++ codes " line " ++ decimal place.line ++ codes " byte " ++ decimal place.byte ++ codes " rule " ++ script_rule rule ++ codes "\n"
+    codes "script refused: file " ++ decimal place.file ++ codes " line " ++ decimal place.line ++ codes " byte "
+    ++ decimal place.byte ++ codes " rule " ++ script_rule rule ++ codes "\n"
 
 abbrev pub link_rule : LinkRule → List ℕ
 link_rule (link.Map n) = codes "A" ++ decimal n
@@ -46,7 +47,9 @@ step_rule (step.Scenario n) = codes "N" ++ decimal n
 step_rule (step.Waves n) = codes "X" ++ decimal n
 
 abbrev pub scenario_line : ℕ → ℕ → StepRule → List ℕ
-scenario_line file line rule = codes "scenario refused: file " ++ decimal file ++ codes " line " ++ decimal line ++ codes " rule " ++ step_rule rule ++ codes "\n"
+scenario_line file line rule =
+    codes "scenario refused: file " ++ decimal file ++ codes " line " ++ decimal line ++ codes " rule " ++ step_rule rule
+    ++ codes "\n"
 
 abbrev pub dump_line : ℕ → ℕ → List ℕ
 dump_line byte rule = codes "dump refused: byte " ++ decimal byte ++ codes " rule G" ++ decimal rule ++ codes "\n"
@@ -57,7 +60,8 @@ packet_line byte rule = codes "packet refused: byte " ++ decimal byte ++ codes "
 -- the line of an answer, and no byte for those that write none
 abbrev pub line_of : Exit → List ℕ
 line_of exit.Done = []
-line_of exit.Usage = codes "usage: generate|check SYSTEM COMPONENT.. | simulate SYSTEM SCENARIO COMPONENT.. | replay VERILOG WAVES | campaign NUMBER SYSTEM COMPONENT.. | workload NUMBER | dump VERILOG WAVES | undump DUMP | bridge NUMBER SYSTEM BYTES COMPONENT.. | mux|demux NUMBER NUMBER NUMBER | gather NUMBER NUMBER NUMBER NUMBER\n"
+line_of exit.Usage =
+    codes "usage: generate|check SYSTEM COMPONENT.. | simulate SYSTEM SCENARIO COMPONENT.. | replay VERILOG WAVES | campaign NUMBER SYSTEM COMPONENT.. | workload NUMBER | dump VERILOG WAVES | undump DUMP | bridge NUMBER SYSTEM BYTES COMPONENT.. | mux|demux NUMBER NUMBER NUMBER | gather NUMBER NUMBER NUMBER NUMBER\n"
 line_of (exit.ReadFault file) = codes "read fault: file " ++ decimal file ++ codes "\n"
 line_of exit.WriteFault = []
 line_of (exit.ScriptRefused place rule) = script_line place rule

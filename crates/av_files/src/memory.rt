@@ -111,7 +111,8 @@ impl Shelf for MemShelf {
         ensures count { IfBytes result (λ n. (1 ≤ n) × (n ≤ length into.old)) }
         ensures bytes { IfBytes result (λ n. GivesBytes (file_at self.old.files file) at n into.new) }
         ensures ends { OnEnd result (length (file_at self.old.files file) ≤ at) }
-        ensures rose { OnFailed result (Rose (failed_below self.old.failing self.old.calls) (failed_below self.new.failing self.new.calls)) }
+        ensures rose { OnFailed result
+            (Rose (failed_below self.old.failing self.old.calls) (failed_below self.new.failing self.new.calls)) }
         ensures failed { OnFailed result (self.new.failed ≡ file) }
         ensures grows { failed_below self.old.failing self.old.calls ≤ failed_below self.new.failing self.new.calls }
         ensures below { failed_below self.new.failing self.new.calls < 2 ^ 64 }
@@ -147,7 +148,8 @@ impl Model for MemSink {
 
     ghost Value = { Held };
 
-    ghost view = { λ s. record { bytes = s.bytes.items; room = s.room; failing = s.failing; calls = s.calls; faults = s.faults } };
+    ghost view = { λ s. record
+        { bytes = s.bytes.items; room = s.room; failing = s.failing; calls = s.calls; faults = s.faults } };
 
     ghost invariant = { λ s. (vec_len s.bytes ≤ s.room) × (s.room ≤ vec_capacity s.bytes) };
 }

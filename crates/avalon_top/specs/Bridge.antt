@@ -20,7 +20,8 @@ answer_of_bridge cycles fault.NoMemory = exit.NoMemory
 
 -- the answer that the files of a system and transactions call for, where nothing fails
 abbrev pub BridgeCallsFor : ℕ → List (List ℕ) → List ℕ → Exit → Type 0
-BridgeCallsFor cycles files bytes = DoneOrRefused (CanBridge files bytes cycles) (IsBridgeFault files bytes cycles) (answer_of_bridge cycles)
+BridgeCallsFor cycles files bytes =
+    DoneOrRefused (CanBridge files bytes cycles) (IsBridgeFault files bytes cycles) (answer_of_bridge cycles)
 
 -- a bridge has cycles as its words state them
 abbrev pub HasBridgeCycles : Task → Type 0

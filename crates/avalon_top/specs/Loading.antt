@@ -9,9 +9,11 @@ use Rattle.avalon_top.specs.Run.{Reads, most_bytes, IsReadFault, IsBytesLimit, C
 
 -- one file was not loaded
 abbrev pub StopsAtFile : Task → ℕ → Reads → Exit → Type 0
-StopsAtFile task file reads (exit.ReadFault f) = (f ≡ named_by task file) × Rose reads.before reads.after × (reads.failed ≡ named_by task file)
+StopsAtFile task file reads (exit.ReadFault f) =
+    (f ≡ named_by task file) × Rose reads.before reads.after × (reads.failed ≡ named_by task file)
 StopsAtFile task file reads (exit.Limit which count) =
-    (which ≡ 5) × (count ≡ most_bytes task file + 1) × WhereTold (reads.told (named_by task file)) (λ bytes. most_bytes task file < length bytes)
+    (which ≡ 5) × (count ≡ most_bytes task file + 1)
+    × WhereTold (reads.told (named_by task file)) (λ bytes. most_bytes task file < length bytes)
 StopsAtFile task file reads exit.NoMemory = Unit {0}
 StopsAtFile task file reads _ = ⊥
 

@@ -103,4 +103,6 @@ abbrev pub Ends : Outcome → Writes → Exit → Type 0
 Ends (Text bytes) writes e = EndsText (λ text. text ≡ bytes) writes e
 Ends (Trace prepared) writes e = EndsText (IsTrace prepared.plan prepared.scenario prepared.module) writes e
 Ends (Counted campaign) writes e = EndsText (IsTextOfModule campaign.plan campaign.number campaign.lanes.netlist) writes e
-Ends (Replies replies) writes e = (beats : ℕ) (words : List ℕ) → HasNoted beats words replies → EndsText (λ text. text ≡ sent replies.transfers beats words) writes e
+Ends (Replies replies) writes e =
+    (beats : ℕ) (words : List ℕ) → HasNoted beats words replies
+    → EndsText (λ text. text ≡ sent replies.transfers beats words) writes e

@@ -141,7 +141,8 @@ pub record IsResult (task : Task) (files : List (List ℕ)) (text : List ℕ) : 
 
 -- ---- what is seen of the outside
 
--- what is seen of the shelf in a run: the bytes that it tells of each file, its count of faults before and after, and the file of its last fault
+-- what is seen of the shelf in a run: the bytes that it tells of each file, its count of faults before and after, and the file of
+-- its last fault
 pub record Reads : Type 0 where
   pub told : ℕ → Option (List ℕ)
   pub before : ℕ
@@ -181,7 +182,8 @@ AreShort task files = (k : ℕ) (bytes : List ℕ) → slice_get files k ≡ Som
 
 -- files that were loaded, numbered from 1: each is what the shelf tells of it, where it tells it, and no longer than is read
 pub record AreLoaded (task : Task) (told : ℕ → Option (List ℕ)) (files : List (List ℕ)) : Type 0 where
-  pub each : (k : ℕ) (bytes : List ℕ) → slice_get files k ≡ Some bytes → WhereTold (told (named_by task (k + 1))) (λ is. bytes ≡ is)
+  pub each : (k : ℕ) (bytes : List ℕ) → slice_get files k ≡ Some bytes
+      → WhereTold (told (named_by task (k + 1))) (λ is. bytes ≡ is)
   pub short : AreShort task files
 
 -- all files of the words were loaded, each named by a word but the first
@@ -247,7 +249,8 @@ pub record IsWriteFault (task : Task) (words : ℕ) (told : ℕ → Option (List
 abbrev pub StopsTask : Task → ℕ → Reads → Exit → Type 0
 StopsTask task words reads (exit.ReadFault file) = IsReadFault task file words reads
 StopsTask task words reads (exit.Limit which count) =
-    IsFilesLimit which count words ⊎ (IsBytesLimit task which count words reads.told ⊎ IsCalledFor task words reads.told (exit.Limit which count))
+    IsFilesLimit which count words
+    ⊎ (IsBytesLimit task which count words reads.told ⊎ IsCalledFor task words reads.told (exit.Limit which count))
 StopsTask task words reads exit.NoMemory = words ≤ 65
 StopsTask task words reads exit.Done = ⊥
 StopsTask task words reads exit.Usage = ⊥
@@ -263,7 +266,8 @@ AnswersTask task words reads writes e = StopsTask task words reads e
 -- the same, for any words
 abbrev pub Answers : List (List ℕ) → Reads → Writes → Exit → Type 0
 Answers words reads writes exit.Usage = AsksForNothing words
-Answers words reads writes e = (task : Task) × AsksFor words task × AnswersTask task (file_words task (length words)) reads writes e
+Answers words reads writes e =
+    (task : Task) × AsksFor words task × AnswersTask task (file_words task (length words)) reads writes e
 
 -- an answer that writes its line: each but `Done` and `WriteFault`
 abbrev pub IsRefusal : Exit → Type 0
@@ -275,7 +279,8 @@ IsRefusal e = Unit {0}
 abbrev pub WritesLine : List ℕ → Writes → Type 0
 WritesLine line writes =
     (writes.holds ≡ with_more writes.held line)
-    ⊎ ((count : ℕ) × (count < length line) × (writes.holds ≡ with_more writes.held (take count line)) × Rose writes.before writes.after)
+    ⊎ ((count : ℕ) × (count < length line) × (writes.holds ≡ with_more writes.held (take count line))
+    × Rose writes.before writes.after)
 
 -- the words ask for the task, the shelf tells all their files, which are few and short, and no fault is counted
 pub record NothingFails (task : Task) (files words : List (List ℕ)) (reads : Reads) (writes : Writes) : Type 0 where
@@ -290,4 +295,5 @@ pub record NothingFails (task : Task) (files words : List (List ℕ)) (reads : R
 -- where nothing fails, the answer is the one that the files call for, or want of memory
 abbrev pub IsComplete : List (List ℕ) → Reads → Writes → Exit → Type 0
 IsComplete words reads writes answer =
-    (task : Task) (files : List (List ℕ)) → NothingFails task files words reads writes → (answer ≡ exit.NoMemory) ⊎ IsOnlyAnswer task files answer
+    (task : Task) (files : List (List ℕ)) → NothingFails task files words reads writes
+    → (answer ≡ exit.NoMemory) ⊎ IsOnlyAnswer task files answer

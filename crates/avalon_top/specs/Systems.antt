@@ -15,7 +15,8 @@ system_files files = remove files 1
 abbrev pub second_file : List (List ℕ) → List ℕ
 second_file files = slice_index_or files 1 []
 
--- so many words stand before the file of a system that aren't its words: a scenario or transactions before the component files, and a number
+-- so many words stand before the file of a system that aren't its words: a scenario or transactions before the component files,
+-- and a number
 -- before all
 abbrev pub words_before : Task → ℕ → ℕ
 words_before Generate file = 0

@@ -201,7 +201,8 @@ fn outcome_of(alloc: Global, task: Task, files: Vec<Bytes>) -> Result<Outcome, E
 /// All that comes before a result is written: what is to be written, or the refusal.
 fn decide<S: Shelf>(alloc: Global, words: &[String], shelf: &mut S) -> Result<Outcome, Exit>
     ensures stops { IfErr result (Stops (map string_bytes words.now) (reads_by S.told S.faults S.failed shelf.old shelf.new)) }
-    ensures outcome { IfOk result (IsOutcomeOf (map string_bytes words.now) (reads_by S.told S.faults S.failed shelf.old shelf.new)) }
+    ensures outcome { IfOk result
+        (IsOutcomeOf (map string_bytes words.now) (reads_by S.told S.faults S.failed shelf.old shelf.new)) }
     ensures grows { S.faults shelf.old ≤ S.faults shelf.new }
     ensures below { S.faults shelf.old < 2 ^ 64 → S.faults shelf.new < 2 ^ 64 }
     ensures told { (k : ℕ) → S.told shelf.new k ≡ S.told shelf.old k }
@@ -225,17 +226,24 @@ fn decide<S: Shelf>(alloc: Global, words: &[String], shelf: &mut S) -> Result<Ou
 ///
 /// The number of a file is the place of its word, counted from 0.
 pub fn run<S: Shelf, K: Sink>(alloc: Global, words: &[String], shelf: &mut S, sink: &mut K) -> Exit
-    // When each answer comes. At `Done` of `generate` the text of a module, and of no other, is written that serves each stream of
-    // the plan, and its hosts and agents, in every run. At `Done` of `replay` what is written stands at the outputs of the module of
-    // the text, in each cycle of the waves, and at `Done` of `dump` it is the dump of what stands at all of its ports. At `Done` of
+    // When each answer comes. At `Done` of `generate` the text of a module, and of no other, is written that serves each stream
+    // of
+    // the plan, and its hosts and agents, in every run. At `Done` of `replay` what is written stands at the outputs of the module
+    // of
+    // the text, in each cycle of the waves, and at `Done` of `dump` it is the dump of what stands at all of its ports. At `Done`
+    // of
     // `undump` it is the rows of the one dump whose text the file is. At `Done` of `simulate` it is the trace of a run of such a
-    // module with what the scenario states; at `Done` of `campaign` it tells what is counted in eight such runs, each with what is drawn
-    // for its lane; at `Done` of `workload` what is counted in one of the workload system of the number. At `Done` of `bridge` it is the
-    // replies to the transactions whose beats were accepted and words given in such a run, with these words. At `Done` of `mux`, `demux`
+    // module with what the scenario states; at `Done` of `campaign` it tells what is counted in eight such runs, each with what
+    // is drawn
+    // for its lane; at `Done` of `workload` what is counted in one of the workload system of the number. At `Done` of `bridge` it
+    // is the
+    // replies to the transactions whose beats were accepted and words given in such a run, with these words. At `Done` of `mux`,
+    // `demux`
     // and `gather` the text of a module is written that does so in every run.
     ensures answers { Answers (map string_bytes words.now)
         (record { told = S.told shelf.old; before = S.faults shelf.old; after = S.faults shelf.new; failed = S.failed shelf.new })
-        (record { held = K.held sink.old; holds = K.held sink.new; before = K.faults sink.old; after = K.faults sink.new }) result }
+        (record
+        { held = K.held sink.old; holds = K.held sink.new; before = K.faults sink.old; after = K.faults sink.new }) result }
 
     // A refusal writes its line and nothing of a result.
     ensures line { IsRefusal result → WritesLine (line_of result)
@@ -244,7 +252,8 @@ pub fn run<S: Shelf, K: Sink>(alloc: Global, words: &[String], shelf: &mut S, si
     // Where nothing fails, the answer is the one that the files call for, or memory was wanted.
     ensures complete { IsComplete (map string_bytes words.now)
         (record { told = S.told shelf.old; before = S.faults shelf.old; after = S.faults shelf.new; failed = S.failed shelf.new })
-        (record { held = K.held sink.old; holds = K.held sink.new; before = K.faults sink.old; after = K.faults sink.new }) result }
+        (record
+        { held = K.held sink.old; holds = K.held sink.new; before = K.faults sink.old; after = K.faults sink.new }) result }
 
     // What the shelf tells stays as it is. No count falls, or goes past its last value.
     ensures told { (k : ℕ) → S.told shelf.new k ≡ S.told shelf.old k }

@@ -14,7 +14,8 @@ use undumps::dumps_are_written_or_refused;
 
 /// The files of a task call for one answer and for no other.
 pub fn files_call_for_one_answer()
-    ensures { (task : Asked) (files : List (List ℕ)) → AreItsFiles task (length files) → (answer : Answer) × IsOnlyAnswer task files answer }
+    ensures { (task : Asked) (files : List (List ℕ)) → AreItsFiles task (length files)
+        → (answer : Answer) × IsOnlyAnswer task files answer }
 {
     accepted_or_refused();
     texts_are_replayed_or_refused();

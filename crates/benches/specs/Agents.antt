@@ -24,7 +24,8 @@ use Rattle.trace_lines.specs.declared.counts.Counts.{Counts}
 use Rattle.trace_lines.specs.Lines.{write_line, read_line}
 use Rattle.benches.specs.Outputs.{level_now, IsOutputIf}
 
--- an agent of a bench as contracts see it: the name that a trace tells, where its signals stand, which outputs command it, and what stands in for it
+-- an agent of a bench as contracts see it: the name that a trace tells, where its signals stand, which outputs command it, and
+-- what stands in for it
 pub record BenchAgentValue : Type 0 where
   pub name : List ℕ
   pub places : AgentPlaces
@@ -46,15 +47,18 @@ pub record IsAgentOf (system : SystemTable) (number : ℕ) (agent : BenchAgentVa
   pub ports : agent.ports ≡ agent_outputs system at.end
 
 -- it is, and stands before the first cycle of its script, with room for so many cycles
-pub record IsFirstAgent (system : SystemTable) (number : ℕ) (script : List AgentStatement) (cycles : ℕ) (agent : BenchAgentValue) : Type 0 where
+pub record IsFirstAgent (system : SystemTable) (number : ℕ) (script : List AgentStatement) (cycles : ℕ)
+    (agent : BenchAgentValue) : Type 0 where
   pub of : IsAgentOf system number agent
   pub first : IsFirst agent.stand_in.port script cycles agent.stand_in
   pub bytes : AllHoldBytes script
 
 -- these are the agents of a system, each before its first cycle
-pub record AreFirstAgents (system : SystemTable) (scripts : List (List AgentStatement)) (cycles : ℕ) (agents : List BenchAgentValue) : Type 0 where
+pub record AreFirstAgents (system : SystemTable) (scripts : List (List AgentStatement)) (cycles : ℕ)
+    (agents : List BenchAgentValue) : Type 0 where
   pub count : length agents ≡ length (agents_of system)
-  pub each : (a : ℕ) (agent : BenchAgentValue) (script : List AgentStatement) → slice_get agents a ≡ Some agent → slice_get scripts a ≡ Some script → IsFirstAgent system a script cycles agent
+  pub each : (a : ℕ) (agent : BenchAgentValue) (script : List AgentStatement) → slice_get agents a ≡ Some agent
+      → slice_get scripts a ≡ Some script → IsFirstAgent system a script cycles agent
 
 -- ---- one cycle
 
@@ -71,7 +75,14 @@ commanded agent sim = record {
 
 -- what it shows, with this word on `readdata` and its code on `response`
 abbrev pub levels_with : BenchAgentValue → CodedWord → AgentLevels
-levels_with agent answer = record { wait = stalls_in agent.stand_in.stalls agent.stand_in.cycle; valid = gives agent.stand_in; word = answer.word; code = answer.code }
+levels_with agent answer =
+    record {
+      wait =
+          stalls_in agent.stand_in.stalls agent.stand_in.cycle;
+      valid = gives agent.stand_in;
+      word = answer.word;
+      code = answer.code;
+    }
 
 -- the word of the cycle before its command is known, and its code
 abbrev pub first_word : BenchAgentValue → CodedWord
@@ -113,7 +124,8 @@ taken_line agent sim c levels =
     let host = level_now sim 0 agent.ports.grant in
     let offset = address_shown agent.stand_in levels % span_of agent.stand_in.port in
     let enables = word agent.stand_in.port.word_bytes levels.enables in
-    if is_raised levels.write then write_line c agent.name host offset enables (word (8 * agent.stand_in.port.word_bytes) levels.word)
+    if is_raised levels.write
+    then write_line c agent.name host offset enables (word (8 * agent.stand_in.port.word_bytes) levels.word)
     else read_line c agent.name host offset enables levels.count
 
 abbrev pub tells : BenchAgentValue → SimValue → ℕ → List (List ℕ)

@@ -19,7 +19,8 @@ use Rattle.trace_lines.specs.declared.counts.Counts.{Counts}
 use Rattle.trace_lines.specs.Lines.{get_line}
 use Rattle.benches.specs.Outputs.{level_now, IsOutputIf}
 
--- a host of a bench as contracts see it: the name that a trace tells, where its signals stand, which outputs answer it, and what stands in for it
+-- a host of a bench as contracts see it: the name that a trace tells, where its signals stand, which outputs answer it, and what
+-- stands in for it
 pub record BenchHostValue : Type 0 where
   pub name : List ℕ
   pub places : HostPlaces
@@ -43,7 +44,8 @@ pub record IsFirstHost (system : SystemTable) (number : ℕ) (script : List Host
 -- these are the hosts of a system, each before its first statement
 pub record AreFirstHosts (system : SystemTable) (scripts : List (List HostStatement)) (hosts : List BenchHostValue) : Type 0 where
   pub count : length hosts ≡ length (hosts_of system)
-  pub each : (h : ℕ) (host : BenchHostValue) (script : List HostStatement) → slice_get hosts h ≡ Some host → slice_get scripts h ≡ Some script → IsFirstHost system h script host
+  pub each : (h : ℕ) (host : BenchHostValue) (script : List HostStatement) → slice_get hosts h ≡ Some host
+      → slice_get scripts h ≡ Some script → IsFirstHost system h script host
 
 -- ---- one cycle
 
@@ -70,7 +72,8 @@ is_given host sim =
 
 -- the word that it is given
 abbrev pub word_given : BenchHostValue → SimValue → Option Word
-word_given host sim = if is_given host sim then Some (word (8 * host.stand_in.port.word_bytes) (level_now sim 0 host.ports.word)) else None
+word_given host sim =
+    if is_given host sim then Some (word (8 * host.stand_in.port.word_bytes) (level_now sim 0 host.ports.word)) else None
 
 -- the code beside it, where the host has `response`
 abbrev pub code_shown : BenchHostValue → SimValue → Option ℕ
@@ -82,7 +85,9 @@ is_write_taken host sim = is_raised (shown_by host).write && not (is_raised (lev
 
 -- the line that tells of a word
 abbrev pub tells : BenchHostValue → SimValue → ℕ → List (List ℕ)
-tells host sim c = only_if (is_given host sim) (get_line c host.name (word (8 * host.stand_in.port.word_bytes) (level_now sim 0 host.ports.word)) (code_shown host sim))
+tells host sim c =
+    only_if (is_given host sim)
+    (get_line c host.name (word (8 * host.stand_in.port.word_bytes) (level_now sim 0 host.ports.word)) (code_shown host sim))
 
 -- what it adds to the counts
 abbrev pub counts : BenchHostValue → SimValue → Counts
@@ -91,7 +96,8 @@ counts host sim = record { taken = 0; answered = one_if (is_given host sim); del
 -- how it stands behind the cycle
 abbrev pub behind : BenchHostValue → SimValue → BenchHostValue
 behind host sim = record host {
-  stand_in = record { port = host.stand_in.port; left = left_after host.stand_in.left (is_raised (level_now sim 0 host.ports.wait)) };
+  stand_in =
+      record { port = host.stand_in.port; left = left_after host.stand_in.left (is_raised (level_now sim 0 host.ports.wait)) };
 }
 
 -- a view of a host shows in a cycle what the bench shows and what the outputs answer

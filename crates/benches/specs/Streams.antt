@@ -30,8 +30,10 @@ use Rattle.trace_lines.specs.Lines.{sent_line, got_line, dropped_line}
 use Rattle.trace_lines.specs.Told.{StreamEnds}
 use Rattle.benches.specs.Outputs.{level_now, IsOutputIf}
 
--- a stream of a bench as contracts see it: the names that a trace tells, the records of its ends, where the signals of its source and the `ready` of its
--- sink stand, which outputs answer the source and which are given to the sink, what stands in for the source, the sink's pattern, and the cycle
+-- a stream of a bench as contracts see it: the names that a trace tells, the records of its ends, where the signals of its source
+-- and the `ready` of its
+-- sink stand, which outputs answer the source and which are given to the sink, what stands in for the source, the sink's pattern,
+-- and the cycle
 pub record BenchStreamValue : Type 0 where
   pub source_name : List ℕ
   pub sink_name : List ℕ
@@ -62,15 +64,18 @@ pub record IsStreamOf (system : SystemTable) (number : ℕ) (script : List Patte
   pub script_is : stream.script ≡ script
 
 -- it is, and stands before the first cycle and the first statement of its source
-pub record IsFirstStream (system : SystemTable) (number : ℕ) (statements : List SourceStatement) (script : List Pattern) (stream : BenchStreamValue) : Type 0 where
+pub record IsFirstStream (system : SystemTable) (number : ℕ) (statements : List SourceStatement) (script : List Pattern)
+    (stream : BenchStreamValue) : Type 0 where
   pub of : IsStreamOf system number script stream
   pub cycle : stream.cycle ≡ 0
   pub keeping : (view : EndView) → stream.keeping ≡ keeping_at stream.source statements view 0
 
 -- these are the streams of a system, each before its first cycle
-pub record AreFirstStreams (system : SystemTable) (sources : List (List SourceStatement)) (sinks : List (List Pattern)) (streams : List BenchStreamValue) : Type 0 where
+pub record AreFirstStreams (system : SystemTable) (sources : List (List SourceStatement)) (sinks : List (List Pattern))
+    (streams : List BenchStreamValue) : Type 0 where
   pub count : length streams ≡ length (stream_connections system)
-  pub each : (s : ℕ) (stream : BenchStreamValue) (statements : List SourceStatement) (script : List Pattern) → slice_get streams s ≡ Some stream
+  pub each : (s : ℕ) (stream : BenchStreamValue) (statements : List SourceStatement) (script : List Pattern)
+      → slice_get streams s ≡ Some stream
       → slice_get sources s ≡ Some statements → slice_get sinks s ≡ Some script → IsFirstStream system s statements script stream
 
 -- ---- one cycle

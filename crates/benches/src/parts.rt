@@ -1,4 +1,5 @@
-//! What the parts of a test bench share: what a component of a simulation does in each cycle, and all components of a kind together.
+//! What the parts of a test bench share: what a component of a simulation does in each cycle, and all components of a kind
+//! together.
 
 mod all;
 mod component;

@@ -23,7 +23,8 @@ EachLane P benches = (j : ℕ) (lane : LaneBench) → slice_get benches j ≡ So
 
 -- each lane's becomes another
 abbrev pub EachBecomes : (ℕ → LaneBench → LaneBench → Type 0) → List LaneBench → List LaneBench → Type 0
-EachBecomes R old new = (j : ℕ) (before after : LaneBench) → slice_get old j ≡ Some before → slice_get new j ≡ Some after → R j before after
+EachBecomes R old new =
+    (j : ℕ) (before after : LaneBench) → slice_get old j ≡ Some before → slice_get new j ≡ Some after → R j before after
 
 -- a lane's bench before the first cycle of its scenario
 pub record IsFirstBench (plan : PlanTable) (scenario : Scenario) (netlist : Netlist) (lane : LaneBench) : Type 0 where
@@ -32,18 +33,23 @@ pub record IsFirstBench (plan : PlanTable) (scenario : Scenario) (netlist : Netl
   pub counts : lane.counts ≡ no_counts
 
 -- these are those of scenarios
-pub record AreFirstBenches (plan : PlanTable) (scenarios : List Scenario) (netlist : Netlist) (benches : List LaneBench) : Type 0 where
+pub record AreFirstBenches (plan : PlanTable) (scenarios : List Scenario) (netlist : Netlist)
+    (benches : List LaneBench) : Type 0 where
   pub count : length benches ≡ length scenarios
-  pub each : (j : ℕ) (scenario : Scenario) (lane : LaneBench) → slice_get scenarios j ≡ Some scenario → slice_get benches j ≡ Some lane → IsFirstBench plan scenario netlist lane
+  pub each : (j : ℕ) (scenario : Scenario) (lane : LaneBench) → slice_get scenarios j ≡ Some scenario
+      → slice_get benches j ≡ Some lane → IsFirstBench plan scenario netlist lane
 
 -- what was done in a lane in the cycles so far is counted
-pub record IsLaneSoFar (plan : PlanTable) (scenario : Scenario) (cycles c : ℕ) (lanes : LanesValue) (j : ℕ) (lane : LaneBench) : Type 0 where
+pub record IsLaneSoFar (plan : PlanTable) (scenario : Scenario) (cycles c : ℕ) (lanes : LanesValue) (j : ℕ)
+    (lane : LaneBench) : Type 0 where
   pub cycles_are : scenario.cycles ≡ cycles
   pub so_far : CountsSoFar plan scenario lanes.netlist c (value_in lanes j lane) lane.counts
   pub room : HaveRoom (64 * (cycles - c)) lane.counts
 
 -- and so it is in all eight, each with its scenario
-pub record LanesSoFar (plan : PlanTable) (scenarios : List Scenario) (cycles c : ℕ) (lanes : LanesValue) (benches : List LaneBench) : Type 0 where
+pub record LanesSoFar (plan : PlanTable) (scenarios : List Scenario) (cycles c : ℕ) (lanes : LanesValue)
+    (benches : List LaneBench) : Type 0 where
   pub count : length benches ≡ 8
   pub scenario_count : length scenarios ≡ 8
-  pub each : (j : ℕ) (scenario : Scenario) (lane : LaneBench) → slice_get scenarios j ≡ Some scenario → slice_get benches j ≡ Some lane → IsLaneSoFar plan scenario cycles c lanes j lane
+  pub each : (j : ℕ) (scenario : Scenario) (lane : LaneBench) → slice_get scenarios j ≡ Some scenario
+      → slice_get benches j ≡ Some lane → IsLaneSoFar plan scenario cycles c lanes j lane

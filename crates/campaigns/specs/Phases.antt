@@ -26,20 +26,28 @@ pub record HasAnswered (sim : SimValue) (before after : LaneBench) : Type 0 wher
 pub record HasEnded (sim : SimValue) (before after : LaneBench) : Type 0 where
   pub counts : after.counts ≡ with_counts before.counts (counts_of (value_with sim before.bench))
   pub room : (more : ℕ) → HaveRoom (64 + more) before.counts → HaveRoom more after.counts
-  pub bench : (plan : PlanTable) (scenario : Scenario) (run : Run) (c : ℕ) (next : SimValue) → IsSetUp plan scenario sim.netlist → c < scenario.cycles → IsEvaluated plan scenario run c (value_with sim before.bench)
-      → IsEdge sim next → IsUnderWay plan scenario (run_with run c (value_with sim before.bench)) (suc c) (value_with next after.bench)
+  pub bench : (plan : PlanTable) (scenario : Scenario) (run : Run) (c : ℕ) (next : SimValue) → IsSetUp plan scenario sim.netlist
+      → c < scenario.cycles → IsEvaluated plan scenario run c (value_with sim before.bench)
+      → IsEdge sim next
+      → IsUnderWay plan scenario (run_with run c (value_with sim before.bench)) (suc c) (value_with next after.bench)
 
 -- a bench that was under way has its cycle evaluated before the commands were known
 abbrev pub IsShownFrom : BenchValue → BenchValue → Type 0
-IsShownFrom before after = (plan : PlanTable) (scenario : Scenario) (run : Run) (c : ℕ) → IsSetUp plan scenario before.sim.netlist → IsUnderWay plan scenario run c before
+IsShownFrom before after =
+    (plan : PlanTable) (scenario : Scenario) (run : Run) (c : ℕ) → IsSetUp plan scenario before.sim.netlist
+    → IsUnderWay plan scenario run c before
     → IsShown plan scenario run c first_words after
 
 -- one that had has it evaluated
 abbrev pub IsAnsweredFrom : BenchValue → BenchValue → Type 0
-IsAnsweredFrom before after = (plan : PlanTable) (scenario : Scenario) (run : Run) (c : ℕ) → IsSetUp plan scenario before.sim.netlist → c < scenario.cycles → IsShown plan scenario run c first_words before
+IsAnsweredFrom before after =
+    (plan : PlanTable) (scenario : Scenario) (run : Run) (c : ℕ) → IsSetUp plan scenario before.sim.netlist → c < scenario.cycles
+    → IsShown plan scenario run c first_words before
     → IsEvaluated plan scenario run c after
 
 -- one that was under way has it evaluated
 abbrev pub IsEvaluatedFrom : BenchValue → BenchValue → Type 0
-IsEvaluatedFrom before after = (plan : PlanTable) (scenario : Scenario) (run : Run) (c : ℕ) → IsSetUp plan scenario before.sim.netlist → c < scenario.cycles → IsUnderWay plan scenario run c before
+IsEvaluatedFrom before after =
+    (plan : PlanTable) (scenario : Scenario) (run : Run) (c : ℕ) → IsSetUp plan scenario before.sim.netlist → c < scenario.cycles
+    → IsUnderWay plan scenario run c before
     → IsEvaluated plan scenario run c after

@@ -28,7 +28,8 @@ pub(crate) fn show_all(benches: &mut [LaneBench])
 
 /// Whether an agent of some lane gives words in the very cycle that asks.
 pub(crate) fn any_gives_at_once(benches: &[LaneBench]) -> bool
-    ensures { IsFalse result → (j : ℕ) (lane : LaneBench) → slice_get benches.now j ≡ Some lane → (a : ℕ) (agent : BenchAgentValue) → slice_get lane.bench.agents.items a ≡ Some agent → IsFalse (gives_at_once agent) }
+    ensures { IsFalse result → (j : ℕ) (lane : LaneBench) → slice_get benches.now j ≡ Some lane
+        → (a : ℕ) (agent : BenchAgentValue) → slice_get lane.bench.agents.items a ≡ Some agent → IsFalse (gives_at_once agent) }
 {
     'lanes: for lane in benches {
         if lane.bench.gives_at_once() {

@@ -46,7 +46,8 @@ fn first_benches<'a>(
 ) -> Result<Vec<LaneBench<'a>>, NoMemory>
     requires module { IsInterconnect plan.now «module».now }
     requires ports { AreTold plan.now.system ports.now }
-    requires scenarios { (j : ℕ) (scenario : Stated) → slice_get scenarios.now j ≡ Some scenario → IsScenario plan.now.system scenario }
+    requires scenarios { (j : ℕ) (scenario : Stated) → slice_get scenarios.now j ≡ Some scenario
+        → IsScenario plan.now.system scenario }
     ensures { IfOk result (λ benches. AreFirstBenches plan.now scenarios.now «module».now benches.items) }
 {
     let mut benches = Vec::new(alloc);
@@ -82,7 +83,8 @@ fn run_lanes(
     requires inputs { length inputs.old ≡ length (input_widths lanes.old.netlist.ports) }
     requires first { (plan : PlanTable) × (scenarios : List Stated) × LanesSoFar plan scenarios cycles 0 lanes.old benches.old }
     ensures netlist { lanes.new.netlist ≡ lanes.old.netlist }
-    ensures counted { (plan : PlanTable) (scenarios : List Stated) → LanesSoFar plan scenarios cycles 0 lanes.old benches.old → AreCountedRuns plan scenarios lanes.new result }
+    ensures counted { (plan : PlanTable) (scenarios : List Stated) → LanesSoFar plan scenarios cycles 0 lanes.old benches.old
+        → AreCountedRuns plan scenarios lanes.new result }
 {
     counts_go_on();
     'cycles: for _ in 0..cycles {
@@ -91,7 +93,8 @@ fn run_lanes(
     counts_in(benches)
 }
 
-/// Runs eight scenarios of so many cycles in the lanes of a plan's module, each in its lane from its first cycle on, and counts what is done.
+/// Runs eight scenarios of so many cycles in the lanes of a plan's module, each in its lane from its first cycle on, and counts
+/// what is done.
 /// All memory is taken before the first cycle.
 pub fn count_lanes(
     alloc: Global,
@@ -105,7 +108,8 @@ pub fn count_lanes(
     requires unstepped { (j : ℕ) → j < 8 → (run : Run) → StandsFor (lane_of lanes.old j) run 0 }
     requires ports { AreTold plan.now.system ports.now }
     requires count { length scenarios.now ≡ 8 }
-    requires scenarios { (j : ℕ) (scenario : Stated) → slice_get scenarios.now j ≡ Some scenario → IsScenario plan.now.system scenario }
+    requires scenarios { (j : ℕ) (scenario : Stated) → slice_get scenarios.now j ≡ Some scenario
+        → IsScenario plan.now.system scenario }
     requires cycles { (j : ℕ) (scenario : Stated) → slice_get scenarios.now j ≡ Some scenario → scenario.cycles ≡ cycles }
     ensures netlist { lanes.new.netlist ≡ lanes.old.netlist }
     ensures counted { IfOk result (AreCountedRuns plan.now scenarios.now lanes.new) }

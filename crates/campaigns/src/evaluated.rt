@@ -24,7 +24,8 @@ fn show(lanes: &mut Lanes, benches: &mut [LaneBench], inputs: &mut [LaneVal])
     ensures inputs { length inputs.new ≡ length inputs.old }
     ensures netlist { lanes.new.netlist ≡ lanes.old.netlist }
     ensures stepped { lanes.new.stepped ≡ true }
-    ensures each { EachBecomes (λ j before after. IsShownFrom (value_in lanes.old j before) (value_in lanes.new j after)) benches.old benches.new }
+    ensures each { EachBecomes (λ j before after. IsShownFrom (value_in lanes.old j before)
+        (value_in lanes.new j after)) benches.old benches.new }
     ensures counts { EachBecomes (λ j before after. after.counts ≡ before.counts) benches.old benches.new }
 {
     first_steps_are_shown();
@@ -41,7 +42,8 @@ fn answer(lanes: &mut Lanes, benches: &mut [LaneBench], inputs: &mut [LaneVal])
     ensures inputs { length inputs.new ≡ length inputs.old }
     ensures netlist { lanes.new.netlist ≡ lanes.old.netlist }
     ensures stepped { lanes.new.stepped ≡ true }
-    ensures each { EachBecomes (λ j before after. IsAnsweredFrom (value_in lanes.old j before) (value_in lanes.new j after)) benches.old benches.new }
+    ensures each { EachBecomes (λ j before after. IsAnsweredFrom (value_in lanes.old j before)
+        (value_in lanes.new j after)) benches.old benches.new }
     ensures counts { EachBecomes (λ j before after. after.counts ≡ before.counts) benches.old benches.new }
 {
     answers_are_evaluated();
@@ -58,7 +60,8 @@ fn evaluate(lanes: &mut Lanes, benches: &mut [LaneBench], inputs: &mut [LaneVal]
     ensures inputs { length inputs.new ≡ length inputs.old }
     ensures netlist { lanes.new.netlist ≡ lanes.old.netlist }
     ensures stepped { lanes.new.stepped ≡ true }
-    ensures each { EachBecomes (λ j before after. IsEvaluatedFrom (value_in lanes.old j before) (value_in lanes.new j after)) benches.old benches.new }
+    ensures each { EachBecomes (λ j before after. IsEvaluatedFrom (value_in lanes.old j before)
+        (value_in lanes.new j after)) benches.old benches.new }
     ensures counts { EachBecomes (λ j before after. after.counts ≡ before.counts) benches.old benches.new }
 {
     answers_are_evaluated();
@@ -71,10 +74,13 @@ fn evaluate(lanes: &mut Lanes, benches: &mut [LaneBench], inputs: &mut [LaneVal]
 /// Runs all lanes for a cycle, and counts what is done in it.
 pub(crate) fn run_cycle(lanes: &mut Lanes, benches: &mut [LaneBench], inputs: &mut [LaneVal])
     requires inputs { length inputs.old ≡ length (input_widths lanes.old.netlist.ports) }
-    requires so_far { (plan : PlanTable) × (scenarios : List Scenario) × (cycles : ℕ) × (c : ℕ) × (c < cycles) × LanesSoFar plan scenarios cycles c lanes.old benches.old }
+    requires so_far { (plan : PlanTable) × (scenarios : List Scenario) × (cycles : ℕ) × (c : ℕ) × (c < cycles)
+        × LanesSoFar plan scenarios cycles c lanes.old benches.old }
     ensures inputs { length inputs.new ≡ length inputs.old }
     ensures netlist { lanes.new.netlist ≡ lanes.old.netlist }
-    ensures more { (plan : PlanTable) (scenarios : List Scenario) (cycles c : ℕ) → c < cycles → LanesSoFar plan scenarios cycles c lanes.old benches.old → LanesSoFar plan scenarios cycles (c + 1) lanes.new benches.new }
+    ensures more { (plan : PlanTable) (scenarios : List Scenario) (cycles c : ℕ) → c < cycles
+        → LanesSoFar plan scenarios cycles c lanes.old benches.old
+        → LanesSoFar plan scenarios cycles (c + 1) lanes.new benches.new }
 {
     counts_go_on();
     evaluate(lanes, benches, inputs);

@@ -16,7 +16,8 @@ use std::alloc::Global;
 /// A value for each input that the benches set.
 pub(crate) fn first_inputs(alloc: Global, benches: &[LaneBench]) -> Result<Vec<LaneVal>, NoMemory>
     requires { length benches.now ≡ 8 }
-    ensures { IfOk result (λ inputs. (lane : LaneBench) → slice_get benches.now 0 ≡ Some lane → length inputs.items ≡ length lane.bench.row) }
+    ensures { IfOk result (λ inputs. (lane : LaneBench) → slice_get benches.now 0 ≡ Some lane
+        → length inputs.items ≡ length lane.bench.row) }
 {
     let mut inputs = Vec::new(alloc);
     let nothing = LaneVal::splat(Val::new(1, 0).unwrap());
@@ -27,7 +28,8 @@ pub(crate) fn first_inputs(alloc: Global, benches: &[LaneBench]) -> Result<Vec<L
 /// What the benches set at a place among the inputs.
 fn inputs_at(benches: &[LaneBench], place: usize) -> LaneVal
     requires count { length benches.now ≡ 8 }
-    requires rows { (widths : List ℕ) × (place < length widths) × EachLane (λ j lane. (length lane.bench.row ≡ length widths) × (widths_of lane.bench.row ≡ widths)) benches.now }
+    requires rows { (widths : List ℕ) × (place < length widths)
+        × EachLane (λ j lane. (length lane.bench.row ≡ length widths) × (widths_of lane.bench.row ≡ widths)) benches.now }
     ensures { EachLane (λ j lane. value_at result j ≡ slice_index_or lane.bench.row place (word 0 0)) benches.now }
 {
     let mut values = [benches[0].input(place); 8];
@@ -40,7 +42,8 @@ fn inputs_at(benches: &[LaneBench], place: usize) -> LaneVal
 /// Takes what the benches set at all places.
 fn take_rows(benches: &[LaneBench], inputs: &mut [LaneVal])
     requires count { length benches.now ≡ 8 }
-    requires rows { (widths : List ℕ) × (length inputs.old ≡ length widths) × EachLane (λ j lane. widths_of lane.bench.row ≡ widths) benches.now }
+    requires rows { (widths : List ℕ) × (length inputs.old ≡ length widths)
+        × EachLane (λ j lane. widths_of lane.bench.row ≡ widths) benches.now }
     ensures count { length inputs.new ≡ length inputs.old }
     ensures rows { EachLane (λ j lane. lane_words j inputs.new ≡ lane.bench.row) benches.now }
 {

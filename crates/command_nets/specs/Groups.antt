@@ -15,11 +15,28 @@ use Rattle.command_nets.specs.Nets.{group_of, widths_of, AreCommandNets, AreAnsw
 
 -- no beat, and all signals low
 abbrev pub nothing_shown : Raw
-nothing_shown = record { levels = record { read = 0; write = 0; address = 0; word = 0; enables = 0; count = 0 }; more = 0; tag = 0 }
+nothing_shown =
+    record { levels = record { read = 0; write = 0; address = 0; word = 0; enables = 0; count = 0 }; more = 0; tag = 0 }
 
 -- the same signals, but neither a read nor a write
 abbrev pub hidden : Raw → Raw
-hidden raw = record { levels = record { read = 0; write = 0; address = raw.levels.address; word = raw.levels.word; enables = raw.levels.enables; count = raw.levels.count }; more = raw.more; tag = raw.tag }
+hidden raw =
+    record {
+      levels =
+          record {
+            read =
+                0;
+            write =
+                0;
+            address = raw.levels.address;
+            word = raw.levels.word;
+            enables = raw.levels.enables;
+            count = raw.levels.count;
+          };
+      more =
+          raw.more;
+      tag = raw.tag;
+    }
 
 -- a beat is shown
 abbrev pub is_shown : Raw → Bool
@@ -35,16 +52,20 @@ IsOfCommand nets = InGroup (group_of nets)
 
 -- in each run they begin low
 abbrev pub StartsEmpty : Netlist → CommandNets → Type 0
-StartsEmpty netlist nets = (run : Run) (cycles : ℕ) → IsRun netlist run cycles → 0 < cycles → raw_in (cycle_of run 0) nets ≡ nothing_shown
+StartsEmpty netlist nets =
+    (run : Run) (cycles : ℕ) → IsRun netlist run cycles → 0 < cycles → raw_in (cycle_of run 0) nets ≡ nothing_shown
 
 -- in each run they show what the other nets showed in the cycle before
 abbrev pub TakeNextCommand : Netlist → CommandNets → CommandNets → Type 0
-TakeNextCommand netlist nets next = (run : Run) (cycles : ℕ) → IsRun netlist run cycles → (c : ℕ) → c + 1 < cycles → raw_in (cycle_of run (c + 1)) nets ≡ raw_in (cycle_of run c) next
+TakeNextCommand netlist nets next =
+    (run : Run) (cycles : ℕ) → IsRun netlist run cycles → (c : ℕ) → c + 1 < cycles
+    → raw_in (cycle_of run (c + 1)) nets ≡ raw_in (cycle_of run c) next
 
 -- in each run the net begins at 0, and shows what another showed in the cycle before
 pub record IsDelayed (netlist : Netlist) (from net : NetValue) : Type 0 where
   pub starts : (run : Run) (cycles : ℕ) → IsRun netlist run cycles → 0 < cycles → run.net 0 net.number ≡ 0
-  pub next : (run : Run) (cycles : ℕ) → IsRun netlist run cycles → (c : ℕ) → c + 1 < cycles → run.net (c + 1) net.number ≡ run.net c from.number
+  pub next : (run : Run) (cycles : ℕ) → IsRun netlist run cycles → (c : ℕ) → c + 1 < cycles
+      → run.net (c + 1) net.number ≡ run.net c from.number
 
 -- the same for an answer
 pub record IsDelayedAnswer (netlist : Netlist) (from answer : AnswerNets) : Type 0 where
@@ -85,23 +106,47 @@ command_lasts a b nets e h = record {
   tag = e.nets nets.tag.number nets.tag.width h.tag;
 }
 
-pub answer_lasts : (a b : Netlist) (nets : AnswerNets) (bits : ℕ) → Extends a b → AreAnswerNets a nets bits → AreAnswerNets b nets bits
-answer_lasts a b nets bits e h = record { valid = net_lasts a b nets.valid 1 e h.valid; word = net_lasts a b nets.word bits e h.word; code = net_lasts a b nets.code 2 e h.code }
+pub answer_lasts : (a b : Netlist) (nets : AnswerNets) (bits : ℕ) → Extends a b → AreAnswerNets a nets bits
+    → AreAnswerNets b nets bits
+answer_lasts a b nets bits e h =
+    record {
+      valid =
+          net_lasts a b nets.valid 1 e h.valid;
+      word =
+          net_lasts a b nets.word bits e h.word;
+      code = net_lasts a b nets.code 2 e h.code;
+    }
 
-pub waiting_lasts : (a b : Netlist) (nets : CommandNets) → ((n : ℕ) → IsOfCommand nets n → IsWaiting a n → IsWaiting b n) → AreWaiting a (group_of nets) → AreWaiting b (group_of nets)
+pub waiting_lasts : (a b : Netlist) (nets : CommandNets) → ((n : ℕ) → IsOfCommand nets n → IsWaiting a n → IsWaiting b n)
+    → AreWaiting a (group_of nets) → AreWaiting b (group_of nets)
 waiting_lasts a b nets wait h = record { start = h.start; numbers = h.numbers; wait = λ n o. wait n o (h.wait n o) }
 
 delay_lasts : (a b : Netlist) (from net : NetValue) → Extends a b → IsDelayed a from net → IsDelayed b from net
-delay_lasts a b from net e h = record { starts = λ run cycles r. h.starts run cycles (e.runs run cycles r); next = λ run cycles r. h.next run cycles (e.runs run cycles r) }
+delay_lasts a b from net e h =
+    record {
+      starts =
+          λ run cycles r. h.starts run cycles (e.runs run cycles r);
+      next = λ run cycles r. h.next run cycles (e.runs run cycles r);
+    }
 
-pub delayed_lasts : (a b : Netlist) (from answer : AnswerNets) → Extends a b → IsDelayedAnswer a from answer → IsDelayedAnswer b from answer
-delayed_lasts a b from answer e h = record { valid = delay_lasts a b from.valid answer.valid e h.valid; word = delay_lasts a b from.word answer.word e h.word; code = delay_lasts a b from.code answer.code e h.code }
+pub delayed_lasts : (a b : Netlist) (from answer : AnswerNets) → Extends a b → IsDelayedAnswer a from answer
+    → IsDelayedAnswer b from answer
+delayed_lasts a b from answer e h =
+    record {
+      valid =
+          delay_lasts a b from.valid answer.valid e h.valid;
+      word =
+          delay_lasts a b from.word answer.word e h.word;
+      code = delay_lasts a b from.code answer.code e h.code;
+    }
 
 -- the nets of a command as those of a group
 pub nets_of_command : (netlist : Netlist) (nets : CommandNets) → AreCommandNets netlist nets → AreNets netlist (group_of nets)
-nets_of_command netlist nets h = (h.read.is_net, (h.write.is_net, (h.address, (h.word, (h.enables, (h.count, (h.more.is_net, (h.tag, tt))))))))
+nets_of_command netlist nets h =
+    (h.read.is_net, (h.write.is_net, (h.address, (h.word, (h.enables, (h.count, (h.more.is_net, (h.tag, tt))))))))
 
-pub command_of_nets : (netlist : Netlist) (nets like : CommandNets) → AreNets netlist (group_of nets) → HaveSameWidths nets like → like.read.width ≡ 1 → like.write.width ≡ 1 → like.more.width ≡ 1 → AreCommandNets netlist nets
+pub command_of_nets : (netlist : Netlist) (nets like : CommandNets) → AreNets netlist (group_of nets) → HaveSameWidths nets like
+    → like.read.width ≡ 1 → like.write.width ≡ 1 → like.more.width ≡ 1 → AreCommandNets netlist nets
 command_of_nets netlist nets like h same r w m = record {
   read = record { is_net = h.0; has_width = cc };
   write = record { is_net = h.1.0; has_width = cc };
@@ -119,15 +164,19 @@ widths_alike one other same = cc
 -- a choice by a bit that isn't 0 is one by a bit that is high
 pub chosen_raised : {X : Type 0} (bit : ℕ) (x y : X) → (if bit == 0 then y else x) ≡ (if is_raised bit then x else y)
 chosen_raised zero x y = refl
-chosen_raised (suc bit) x y = let high : is_raised (suc bit) ≡ true = lt-ltb 0 (suc bit) (omega arith) in let some : (suc bit == 0) ≡ false = ne_eqb (suc bit) 0 (omega arith) in rw (high, some) refl
+chosen_raised (suc bit) x y =
+    let high : is_raised (suc bit) ≡ true = lt-ltb 0 (suc bit) (omega arith) in
+    let some : (suc bit == 0) ≡ false = ne_eqb (suc bit) 0 (omega arith) in rw (high, some) refl
 
 pub raw_chosen : (bit : Bool) (cycle : Cycle) (nets one other : CommandNets) →
-    values_of cycle (group_of nets) ≡ (if bit then values_of cycle (group_of other) else values_of cycle (group_of one)) → raw_in cycle nets ≡ (if bit then raw_in cycle other else raw_in cycle one)
+    values_of cycle (group_of nets) ≡ (if bit then values_of cycle (group_of other) else values_of cycle (group_of one))
+    → raw_in cycle nets ≡ (if bit then raw_in cycle other else raw_in cycle one)
 raw_chosen true cycle nets one other e = ap raw_of e
 raw_chosen false cycle nets one other e = ap raw_of e
 
 -- nets that are the same number by number show the same
-pub same_shown : (nets : CommandNets) (one other : Cycle) → ((n : ℕ) → IsOfCommand nets n → one.net n ≡ other.net n) → raw_in one nets ≡ raw_in other nets
+pub same_shown : (nets : CommandNets) (one other : Cycle) → ((n : ℕ) → IsOfCommand nets n → one.net n ≡ other.net n)
+    → raw_in one nets ≡ raw_in other nets
 same_shown nets one other h =
     let e0 = h nets.read.number (inl refl) in
     let e1 = h nets.write.number (inr (inl refl)) in
@@ -140,8 +189,10 @@ same_shown nets one other h =
     rw (e0, e1, e2, e3, e4, e5, e6, e7) refl
 
 -- a beat of which read and write are shown while a bit is high
-pub raw_while : (t : Bool) (x raw : Raw) → x.levels.read ≡ (if t then raw.levels.read else 0) → x.levels.write ≡ (if t then raw.levels.write else 0) →
-    x.levels.address ≡ raw.levels.address → x.levels.word ≡ raw.levels.word → x.levels.enables ≡ raw.levels.enables → x.levels.count ≡ raw.levels.count → x.more ≡ raw.more → x.tag ≡ raw.tag →
+pub raw_while : (t : Bool) (x raw : Raw) → x.levels.read ≡ (if t then raw.levels.read else 0)
+    → x.levels.write ≡ (if t then raw.levels.write else 0) →
+    x.levels.address ≡ raw.levels.address → x.levels.word ≡ raw.levels.word → x.levels.enables ≡ raw.levels.enables
+    → x.levels.count ≡ raw.levels.count → x.more ≡ raw.more → x.tag ≡ raw.tag →
     x ≡ (if t then raw else hidden raw)
 raw_while true x raw e0 e1 e2 e3 e4 e5 e6 e7 = rw (e0, e1, e2, e3, e4, e5, e6, e7) refl
 raw_while false x raw e0 e1 e2 e3 e4 e5 e6 e7 = rw (e0, e1, e2, e3, e4, e5, e6, e7) refl

@@ -24,7 +24,15 @@ pub record Widths : Type 0 where
   pub tag : ℕ
 
 abbrev pub widths_of : CommandNets → Widths
-widths_of nets = record { address = nets.address.width; word = nets.word.width; enables = nets.enables.width; count = nets.count.width; tag = nets.tag.width }
+widths_of nets =
+    record {
+      address =
+          nets.address.width;
+      word = nets.word.width;
+      enables = nets.enables.width;
+      count = nets.count.width;
+      tag = nets.tag.width;
+    }
 
 -- the nets of a command are nets of this netlist
 pub record AreCommandNets (netlist : Netlist) (nets : CommandNets) : Type 0 where

@@ -24,17 +24,21 @@ all_ones bits = 2 ^ bits - 1
 
 -- a read is shown while this bit is low
 abbrev pub ShowsUnless : Netlist → NetValue → NetValue → NetValue → Type 0
-ShowsUnless netlist shut read shown = Always netlist (λ cycle. is_raised (cycle.net shown.number) ≡ (is_raised (cycle.net read.number) && not (is_raised (cycle.net shut.number))))
+ShowsUnless netlist shut read shown =
+    Always netlist (λ cycle. is_raised (cycle.net shown.number)
+    ≡ (is_raised (cycle.net read.number) && not (is_raised (cycle.net shut.number))))
 
 abbrev pub SameLevel : Option NetValue → Cycle → Cycle → Type 0
 SameLevel net one other = IfSome net (λ n. one.net n.number ≡ other.net n.number)
 
 -- ---- laws. No contract reads a proof of these
 
-pub has_lasts : (old new : Netlist) (there : Bool) (bits : ℕ) (net : Option NetValue) → HasNet old there bits net → Extends old new → HasNet new there bits net
+pub has_lasts : (old new : Netlist) (there : Bool) (bits : ℕ) (net : Option NetValue) → HasNet old there bits net
+    → Extends old new → HasNet new there bits net
 has_lasts old new there bits None h e = h
 has_lasts old new there bits (Some net) h e = (h.0, net_lasts old new net bits e h.1)
 
-pub given : (netlist : Netlist) (there : Bool) (net : NetValue) → IsBit netlist net → HasNet netlist there 1 (if there then Some net else None)
+pub given : (netlist : Netlist) (there : Bool) (net : NetValue) → IsBit netlist net
+    → HasNet netlist there 1 (if there then Some net else None)
 given netlist true net h = (refl, h)
 given netlist false net h = refl

@@ -14,8 +14,10 @@ pub fn both(builder: &mut Builder, a: Net, b: Net) -> Result<Net, NetFault>
     requires a { IsBit builder.old a }
     requires b { IsBit builder.old b }
     ensures net { IfOk result (λ net. IsBit builder.new net) }
-    ensures value { IfOk result (λ net. Always builder.new (λ cycle. is_raised (cycle.net net.number) ≡ (is_raised (cycle.net a.number) && is_raised (cycle.net b.number)))) }
-    ensures level { IfOk result (λ net. Always builder.new (λ cycle. cycle.net net.number ≡ (if is_raised (cycle.net a.number) then cycle.net b.number else 0))) }
+    ensures value { IfOk result (λ net. Always builder.new (λ cycle. is_raised (cycle.net net.number)
+        ≡ (is_raised (cycle.net a.number) && is_raised (cycle.net b.number)))) }
+    ensures level { IfOk result (λ net. Always builder.new (λ cycle. cycle.net net.number
+        ≡ (if is_raised (cycle.net a.number) then cycle.net b.number else 0))) }
     ensures adds { AddsNets 1 builder.old builder.new }
     ensures full { result ≡ Err NetFault.TooManyNets → 2 ^ 20 < length builder.old.lines + 1 }
 {
@@ -28,7 +30,8 @@ pub fn either(builder: &mut Builder, a: Net, b: Net) -> Result<Net, NetFault>
     requires a { IsBit builder.old a }
     requires b { IsBit builder.old b }
     ensures net { IfOk result (λ net. IsBit builder.new net) }
-    ensures value { IfOk result (λ net. Always builder.new (λ cycle. is_raised (cycle.net net.number) ≡ (is_raised (cycle.net a.number) || is_raised (cycle.net b.number)))) }
+    ensures value { IfOk result (λ net. Always builder.new (λ cycle. is_raised (cycle.net net.number)
+        ≡ (is_raised (cycle.net a.number) || is_raised (cycle.net b.number)))) }
     ensures adds { AddsNets 1 builder.old builder.new }
     ensures full { result ≡ Err NetFault.TooManyNets → 2 ^ 20 < length builder.old.lines + 1 }
 {
@@ -40,7 +43,8 @@ pub fn either(builder: &mut Builder, a: Net, b: Net) -> Result<Net, NetFault>
 pub fn turned(builder: &mut Builder, a: Net) -> Result<Net, NetFault>
     requires a { IsBit builder.old a }
     ensures net { IfOk result (λ net. IsBit builder.new net) }
-    ensures value { IfOk result (λ net. Always builder.new (λ cycle. is_raised (cycle.net net.number) ≡ not (is_raised (cycle.net a.number)))) }
+    ensures value { IfOk result (λ net. Always builder.new (λ cycle. is_raised (cycle.net net.number)
+        ≡ not (is_raised (cycle.net a.number)))) }
     ensures adds { AddsNets 1 builder.old builder.new }
     ensures full { result ≡ Err NetFault.TooManyNets → 2 ^ 20 < length builder.old.lines + 1 }
 {
@@ -53,7 +57,8 @@ pub fn unless(builder: &mut Builder, a: Net, b: Net) -> Result<Net, NetFault>
     requires a { IsBit builder.old a }
     requires b { IsBit builder.old b }
     ensures net { IfOk result (λ net. IsBit builder.new net) }
-    ensures value { IfOk result (λ net. Always builder.new (λ cycle. is_raised (cycle.net net.number) ≡ (is_raised (cycle.net a.number) && not (is_raised (cycle.net b.number))))) }
+    ensures value { IfOk result (λ net. Always builder.new (λ cycle. is_raised (cycle.net net.number)
+        ≡ (is_raised (cycle.net a.number) && not (is_raised (cycle.net b.number))))) }
     ensures adds { AddsNets 2 builder.old builder.new }
     ensures full { result ≡ Err NetFault.TooManyNets → 2 ^ 20 < length builder.old.lines + 2 }
 {

@@ -46,7 +46,8 @@ pub fn choose_command(
     requires widths { HaveSameWidths one.now other.now }
     ensures command { IfOk result (λ made. AreCommandNets builder.new made) }
     ensures widths { IfOk result (λ made. HaveSameWidths made one.now) }
-    ensures value { IfOk result (λ made. Always builder.new (λ cycle. raw_in cycle made ≡ (if is_raised (cycle.net bit.number) then raw_in cycle one.now else raw_in cycle other.now))) }
+    ensures value { IfOk result (λ made. Always builder.new (λ cycle. raw_in cycle made
+        ≡ (if is_raised (cycle.net bit.number) then raw_in cycle one.now else raw_in cycle other.now))) }
     ensures adds { AddsNets 8 builder.old builder.new }
     ensures full { result ≡ Err NetFault.TooManyNets → 2 ^ 20 < length builder.old.lines + 8 }
 {
@@ -73,7 +74,8 @@ pub fn set_next_command(builder: &mut Builder, registers: &CommandNets, next: &C
 pub fn shown(builder: &mut Builder, command: &CommandNets) -> Result<Net, NetFault>
     requires { AreCommandNets builder.old command.now }
     ensures net { IfOk result (λ n. IsBit builder.new n) }
-    ensures value { IfOk result (λ n. Always builder.new (λ cycle. is_raised (cycle.net n.number) ≡ is_shown (raw_in cycle command.now))) }
+    ensures value { IfOk result (λ n. Always builder.new (λ cycle. is_raised (cycle.net n.number)
+        ≡ is_shown (raw_in cycle command.now))) }
     ensures adds { AddsNets 1 builder.old builder.new }
     ensures full { result ≡ Err NetFault.TooManyNets → 2 ^ 20 < length builder.old.lines + 1 }
 {
@@ -91,7 +93,8 @@ pub fn shown_while(
     requires command { AreCommandNets builder.old command.now }
     ensures command { IfOk result (λ made. AreCommandNets builder.new made) }
     ensures widths { IfOk result (λ made. HaveSameWidths made command.now) }
-    ensures value { IfOk result (λ made. Always builder.new (λ cycle. raw_in cycle made ≡ (if is_raised (cycle.net bit.number) then raw_in cycle command.now else hidden (raw_in cycle command.now)))) }
+    ensures value { IfOk result (λ made. Always builder.new (λ cycle. raw_in cycle made
+        ≡ (if is_raised (cycle.net bit.number) then raw_in cycle command.now else hidden (raw_in cycle command.now)))) }
     ensures adds { AddsNets 2 builder.old builder.new }
     ensures full { result ≡ Err NetFault.TooManyNets → 2 ^ 20 < length builder.old.lines + 2 }
 {

@@ -92,11 +92,13 @@ module_checks draft words =
 
 unfoldable pub module_effect : DraftedComponent → List Word → DraftedComponent
 module_effect draft words =
-    if names_type words then record draft { type_name = Some (record { text = text_at words 2; place = place_at words 2 }) } else draft
+    if names_type words then record draft { type_name = Some (record { text = text_at words 2; place = place_at words 2 }) }
+    else draft
 
 -- the interface of this name
 abbrev pub held_named : List DeclaredInterface → List ℕ → Option Held
-held_named interfaces name = option_map (λ declared. declared.interface) (find (λ declared. bytes_eq name declared.name) interfaces)
+held_named interfaces name =
+    option_map (λ declared. declared.interface) (find (λ declared. bytes_eq name declared.name) interfaces)
 
 -- the interfaces, once the one of this name is changed
 abbrev pub changed : List DeclaredInterface → List ℕ → (DeclaredInterface → DeclaredInterface) → List DeclaredInterface
@@ -122,7 +124,8 @@ declared_as words sort = record { name = text_at words 1; place = place_at words
 
 unfoldable pub interface_effect : DraftedComponent → List Word → DraftedComponent
 interface_effect draft words =
-    option_map_or (λ sort. record draft { interfaces = draft.interfaces ++ declared_as words sort ∷ [] }) (kind_and_side words) draft
+    option_map_or (λ sort. record draft { interfaces = draft.interfaces ++ declared_as words sort ∷ [] })
+    (kind_and_side words) draft
 
 -- the number that a value stands for, as a property asks for it; for the name of a clock, or none, it means nothing
 unfoldable pub value_of : Values → List ℕ → Option ℕ
@@ -172,7 +175,8 @@ property_checks draft words =
 -- an interface whose property is set: the last setting counts
 unfoldable pub set_to_number : DeclaredInterface → PropertyId → List ℕ → ℕ → DeclaredInterface
 set_to_number declared id text number =
-    record declared { clock = (if is_kept id then declared.clock else text); interface = with_setting declared.interface id number }
+    record declared
+    { clock = (if is_kept id then declared.clock else text); interface = with_setting declared.interface id number }
 
 unfoldable pub set_as : DeclaredInterface → Property → List ℕ → DeclaredInterface
 set_as declared (Known id) text = option_map_or (set_to_number declared id text) (value_of (property_row id).values text) declared
@@ -182,7 +186,10 @@ set_as declared PassedOver text = declared
 unfoldable pub property_effect : DraftedComponent → List Word → DraftedComponent
 property_effect draft words =
     record draft {
-      interfaces = changed draft.interfaces (text_at words 1) (λ declared. set_as declared (property_named declared.interface.kind (text_at words 2)) (text_at words 3));
+      interfaces =
+          changed draft.interfaces
+          (text_at words 1) (λ declared. set_as declared (property_named declared.interface.kind (text_at words 2))
+          (text_at words 3));
     }
 
 -- the interface has the role already
@@ -271,7 +278,8 @@ component_after draft words =
 -- the refusal of the first command that is refused, each judged by what those before it state
 abbrev pub first_component_refusal : DraftedComponent → List (List Word) → Option Refusal
 first_component_refusal draft [] = None
-first_component_refusal draft (words ∷ rest) = option_or (component_refusal draft words) (first_component_refusal (component_after draft words) rest)
+first_component_refusal draft (words ∷ rest) =
+    option_or (component_refusal draft words) (first_component_refusal (component_after draft words) rest)
 
 -- what all the commands state
 abbrev pub component_after_all : DraftedComponent → List (List Word) → DraftedComponent
@@ -294,7 +302,8 @@ breaks_rule interfaces declared rule = breaks declared.interface rule || (rule =
 -- the least I rule that an interface breaks, at its name
 unfoldable pub interface_refusal : List DeclaredInterface → DeclaredInterface → Option Refusal
 interface_refusal interfaces declared =
-    option_map (λ rule. record { place = declared.place; rule = Interface rule }) (find (breaks_rule interfaces declared) (range_with_len 1 14))
+    option_map (λ rule. record { place = declared.place; rule = Interface rule })
+    (find (breaks_rule interfaces declared) (range_with_len 1 14))
 
 unfoldable pub interface_table : DeclaredInterface → InterfaceTable
 interface_table declared =
@@ -324,4 +333,5 @@ ended end draft = ended_as end draft.type_name draft.interfaces
 -- the component that a script states, or what refuses it
 unfoldable pub component_of : Script → Result ComponentTable Refusal
 component_of script =
-    judged (first_component_refusal empty_component_draft script.commands) (ended script.end (component_after_all empty_component_draft script.commands))
+    judged (first_component_refusal empty_component_draft script.commands)
+    (ended script.end (component_after_all empty_component_draft script.commands))

@@ -7,7 +7,8 @@ use Rattle.netlist.specs.declared.line.Line.{Line}
 use Rattle.netlist.specs.Netlists.{Netlist, IsValue, IsModule, input_net}
 use Rattle.netlist.specs.Runs.{Cycle, IsValuation}
 
--- its module, the value of each net, the words of the memories, one memory after another, and whether the present cycle was evaluated
+-- its module, the value of each net, the words of the memories, one memory after another, and whether the present cycle was
+-- evaluated
 pub record SimValue : Type 0 where
   pub netlist : Netlist
   pub nets : List Word
@@ -55,12 +56,14 @@ given_to netlist inputs k = bits_at inputs (input_net netlist.ports k)
 -- each net has a value of its width
 pub record AreNets (lines : List Line) (nets : List Word) : Type 0 where
   pub count : length nets ≡ length lines
-  pub fit : (n : ℕ) (line : Line) (value : Word) → slice_get lines n ≡ Some line → slice_get nets n ≡ Some value → IsValue value line.width
+  pub fit : (n : ℕ) (line : Line) (value : Word) → slice_get lines n ≡ Some line → slice_get nets n ≡ Some value
+      → IsValue value line.width
 
 -- each memory has its words, of its width
 pub record AreWords (memories : List Memory) (words : List Word) : Type 0 where
   pub count : length words ≡ place_of memories (length memories)
-  pub fit : (m : ℕ) (memory : Memory) → slice_get memories m ≡ Some memory → (address : ℕ) (value : Word) → address < size_of memory
+  pub fit : (m : ℕ) (memory : Memory) → slice_get memories m ≡ Some memory → (address : ℕ) (value : Word)
+      → address < size_of memory
       → slice_get words (place_of memories m + address) ≡ Some value → IsValue value memory.width
 
 -- where the words of each memory begin

@@ -7,7 +7,9 @@ use Rattle.cycle_sim.specs.Sims.{SimValue, present}
 
 -- each word of each memory is 0
 abbrev pub IsCleared : Netlist → Cycle → Type 0
-IsCleared netlist cycle = (m : ℕ) (memory : Memory) → slice_get netlist.memories m ≡ Some memory → (address : ℕ) → address < 2 ^ memory.address_bits → cycle.cell m address ≡ 0
+IsCleared netlist cycle =
+    (m : ℕ) (memory : Memory) → slice_get netlist.memories m ≡ Some memory → (address : ℕ) → address < 2 ^ memory.address_bits
+    → cycle.cell m address ≡ 0
 
 -- a cycle that a run of a new simulator may begin with: registers at their reset values, memories cleared
 pub record IsFirst (netlist : Netlist) (cycle : Cycle) : Type 0 where
@@ -19,7 +21,8 @@ pub record IsClearedRun (netlist : Netlist) (run : Run) (cycles : ℕ) : Type 0 
   pub is_run : IsRun netlist run cycles
   pub cleared : 0 < cycles → IsCleared netlist (cycle_of run 0)
 
--- The simulator took so many edges of the clock, and the cycles between them were those of this run: what registers and memories hold now is
+-- The simulator took so many edges of the clock, and the cycles between them were those of this run: what registers and memories
+-- hold now is
 -- what a cycle may begin with after them.
 pub record StandsFor (sim : SimValue) (run : Run) (cycles : ℕ) : Type 0 where
   pub passed : IsClearedRun sim.netlist run cycles

@@ -53,8 +53,10 @@ impl Cells {
         requires words { AreWords «module».now.memories self.old.words.items }
         ensures same { self.new.places.items ≡ self.old.places.items }
         ensures words { AreWords «module».now.memories self.new.words.items }
-        ensures written { (m : ℕ) (memory : Memory) → slice_get «module».now.memories m ≡ Some memory → (address : ℕ) → address < 2 ^ memory.address_bits
-            → IfSome memory.write (λ write. bits_at self.new.words.items (place_of «module».now.memories m + address) ≡ word_after (cycle_with «module».now nets.now self.old.words.items) write m address) }
+        ensures written { (m : ℕ) (memory : Memory) → slice_get «module».now.memories m ≡ Some memory → (address : ℕ)
+            → address < 2 ^ memory.address_bits
+            → IfSome memory.write (λ write. bits_at self.new.words.items (place_of «module».now.memories m + address)
+            ≡ word_after (cycle_with «module».now nets.now self.old.words.items) write m address) }
     {
         for m in 0..module.memory_count() {
             let memory = module.memory(m);

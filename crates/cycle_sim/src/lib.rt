@@ -1,4 +1,5 @@
-//! A plain simulator of a module: one cycle at a time. Nets are evaluated in the order of the list, block by block, where one that they read has changed.
+//! A plain simulator of a module: one cycle at a time. Nets are evaluated in the order of the list, block by block, where one
+//! that they read has changed.
 #![tactic(auto)]
 
 mod cells;

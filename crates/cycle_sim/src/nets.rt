@@ -38,7 +38,8 @@ pub(crate) fn are_inputs(ports: &[PortLine], inputs: &[Val]) -> bool
 /// What each net has before the first cycle: a register its reset value, the others 0.
 pub(crate) fn first_nets(alloc: Global, module: &Module) -> Result<Vec<Val>, NoMemory>
     ensures nets { IfOk result (λ nets. AreNets «module».now.lines nets.items) }
-    ensures starts { IfOk result (λ nets. (n : ℕ) (line : Line) → slice_get «module».now.lines n ≡ Some line → IfSome (reset_of line.equation) (λ x. bits_at nets.items n ≡ x)) }
+    ensures starts { IfOk result (λ nets. (n : ℕ) (line : Line) → slice_get «module».now.lines n ≡ Some line
+        → IfSome (reset_of line.equation) (λ x. bits_at nets.items n ≡ x)) }
 {
     module.well_made();
     let mut nets = Vec::new(alloc);
@@ -54,7 +55,8 @@ fn first_value(module: &Module, net: u32) -> Val
     requires module { IsModule «module».now }
     requires net_is { net < length «module».now.lines }
     ensures width { (line : Line) → slice_get «module».now.lines net ≡ Some line → result.width ≡ line.width }
-    ensures reset { (line : Line) → slice_get «module».now.lines net ≡ Some line → IfSome (reset_of line.equation) (λ x. result.bits ≡ x) }
+    ensures reset { (line : Line) → slice_get «module».now.lines net ≡ Some line
+        → IfSome (reset_of line.equation) (λ x. result.bits ≡ x) }
 {
     match module.equation(net) {
         Equation::Reg { reset, .. } => reset,
@@ -69,7 +71,8 @@ fn value_in(module: &Module, cells: &Cells, nets: &[Val], net: u32) -> Val
     requires words { AreWords «module».now.memories cells.now.words.items }
     requires nets { AreNets «module».now.lines nets.now }
     requires net_is { net < length «module».now.lines }
-    ensures { (line : Line) → slice_get «module».now.lines net ≡ Some line → IsGiven «module».now cells.now.words.items nets.now net line result }
+    ensures { (line : Line) → slice_get «module».now.lines net ≡ Some line
+        → IsGiven «module».now cells.now.words.items nets.now net line result }
 {
     match module.equation(net) {
         Equation::Input { .. } => nets[net as usize],
@@ -109,9 +112,12 @@ fn take_inputs(
     requires stale { length stale.old ≡ block_count «module».now }
     ensures nets { AreNets «module».now.lines nets.new }
     ensures stay { StayStale stale.old stale.new }
-    ensures settled { (words : List Word) → AreSettled «module».now nets.old words stale.old 0 → AreSettled «module».now nets.new words stale.new 0 }
-    ensures inputs { (k w : ℕ) → IsInputPort «module».now.ports k w → bits_at nets.new (input_net «module».now.ports k) ≡ given_to «module».now inputs.now k }
-    ensures registers { (n : ℕ) (line : Line) → slice_get «module».now.lines n ≡ Some line → is_register line.equation ≡ true → bits_at nets.new n ≡ bits_at nets.old n }
+    ensures settled { (words : List Word) → AreSettled «module».now nets.old words stale.old 0
+        → AreSettled «module».now nets.new words stale.new 0 }
+    ensures inputs { (k w : ℕ) → IsInputPort «module».now.ports k w
+        → bits_at nets.new (input_net «module».now.ports k) ≡ given_to «module».now inputs.now k }
+    ensures registers { (n : ℕ) (line : Line) → slice_get «module».now.lines n ≡ Some line → is_register line.equation ≡ true
+        → bits_at nets.new n ≡ bits_at nets.old n }
 {
     for (net, value) in inputs.iter().enumerate() {
         prove!(value.width() == module.width(net as u32));
@@ -167,8 +173,10 @@ pub(crate) fn evaluate(
     ensures nets { AreNets «module».now.lines nets.new }
     ensures settled { AreSettled «module».now nets.new cells.now.words.items stale.new 0 }
     ensures valuation { IsValuation «module».now (cycle_with «module».now nets.new cells.now.words.items) }
-    ensures inputs { (k w : ℕ) → IsInputPort «module».now.ports k w → bits_at nets.new (input_net «module».now.ports k) ≡ given_to «module».now inputs.now k }
-    ensures registers { (n : ℕ) (line : Line) → slice_get «module».now.lines n ≡ Some line → is_register line.equation ≡ true → bits_at nets.new n ≡ bits_at nets.old n }
+    ensures inputs { (k w : ℕ) → IsInputPort «module».now.ports k w
+        → bits_at nets.new (input_net «module».now.ports k) ≡ given_to «module».now inputs.now k }
+    ensures registers { (n : ℕ) (line : Line) → slice_get «module».now.lines n ≡ Some line → is_register line.equation ≡ true
+        → bits_at nets.new n ≡ bits_at nets.old n }
 {
     take_inputs(module, readers, inputs, nets, stale);
     for block in 0..block_count(module) {
@@ -194,9 +202,12 @@ pub(crate) fn take_next(
     requires nets { AreNets «module».now.lines nets.old }
     requires stale { length stale.old ≡ block_count «module».now }
     ensures nets { AreNets «module».now.lines nets.new }
-    ensures taken { (n : ℕ) (line : Line) → slice_get «module».now.lines n ≡ Some line → IfSome (next_of line) (λ m. bits_at nets.new n ≡ bits_at nets.old m) }
-    ensures others { (n : ℕ) (line : Line) → slice_get «module».now.lines n ≡ Some line → is_register line.equation ≡ false → bits_at nets.new n ≡ bits_at nets.old n }
-    ensures settled { (words : List Word) → AreSettled «module».now nets.old words stale.old 0 → AreSettled «module».now nets.new words stale.new 0 }
+    ensures taken { (n : ℕ) (line : Line) → slice_get «module».now.lines n ≡ Some line
+        → IfSome (next_of line) (λ m. bits_at nets.new n ≡ bits_at nets.old m) }
+    ensures others { (n : ℕ) (line : Line) → slice_get «module».now.lines n ≡ Some line → is_register line.equation ≡ false
+        → bits_at nets.new n ≡ bits_at nets.old n }
+    ensures settled { (words : List Word) → AreSettled «module».now nets.old words stale.old 0
+        → AreSettled «module».now nets.new words stale.new 0 }
 {
     let count = gather(module, registers, nets, changes);
     for place in 0..count {

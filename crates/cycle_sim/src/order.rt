@@ -18,7 +18,8 @@ pub(crate) struct Change {
     pub(crate) value: Val,
 }
 
-/// Gathers what the registers take whose next net has another value than they: how many they are. They stand at the head of the list.
+/// Gathers what the registers take whose next net has another value than they: how many they are. They stand at the head of the
+/// list.
 pub(crate) fn gather(
     module: &Module,
     registers: &[Register],
@@ -30,8 +31,10 @@ pub(crate) fn gather(
     requires nets { AreNets «module».now.lines nets.now }
     requires changes { length changes.old ≡ length registers.now }
     ensures count { result ≤ length changes.new }
-    ensures each { (j : ℕ) (change : Change) → j < result → slice_get changes.new j ≡ Some change → IsChangeOf registers.now nets.now change }
-    ensures others { (j : ℕ) (register : Register) → slice_get registers.now j ≡ Some register → IsChanged changes.new result register.net ⊎ (bits_at nets.now register.net ≡ bits_at nets.now register.next) }
+    ensures each { (j : ℕ) (change : Change) → j < result → slice_get changes.new j ≡ Some change
+        → IsChangeOf registers.now nets.now change }
+    ensures others { (j : ℕ) (register : Register) → slice_get registers.now j ≡ Some register
+        → IsChanged changes.new result register.net ⊎ (bits_at nets.now register.net ≡ bits_at nets.now register.next) }
 {
     let mut count = 0;
     for register in registers {

@@ -41,7 +41,9 @@ pub(crate) fn mark_written(module: &Module, readers: &Readers, nets: &[Val], sta
     requires nets { AreNets «module».now.lines nets.now }
     requires stale { length stale.old ≡ block_count «module».now }
     ensures stay { StayStale stale.old stale.new }
-    ensures stale { (m : ℕ) (memory : Memory) → slice_get «module».now.memories m ≡ Some memory → IfSome memory.write (λ write. bits_at nets.now write.enable ≡ 1 → AreStale stale.new (list_at readers.now.of_memories m)) }
+    ensures stale { (m : ℕ) (memory : Memory) → slice_get «module».now.memories m ≡ Some memory
+        → IfSome memory.write (λ write. bits_at nets.now write.enable ≡ 1
+        → AreStale stale.new (list_at readers.now.of_memories m)) }
 {
     for m in 0..module.memory_count() {
         if nets[module.memory(m).enable as usize].bits() == 1 {

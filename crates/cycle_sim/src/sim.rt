@@ -41,9 +41,11 @@ impl Model for Sim {
 
     ghost view = { λ s. record { netlist = s.module; nets = s.nets.items; words = s.cells.words.items; stepped = s.stepped } };
 
-    ghost invariant = { λ s. IsSim (record { netlist = s.module; nets = s.nets.items; words = s.cells.words.items; stepped = s.stepped })
+    ghost invariant = { λ s. IsSim
+        (record { netlist = s.module; nets = s.nets.items; words = s.cells.words.items; stepped = s.stepped })
         × ArePlaces s.module.memories s.cells.places.items × AreReaders s.module s.readers.of_nets s.readers.of_memories
-        × AreSettled s.module s.nets.items s.cells.words.items s.stale.items 0 × AreRegisters s.module.lines s.registers.items × (length s.changes.items ≡ length s.registers.items) };
+        × AreSettled s.module s.nets.items s.cells.words.items s.stale.items 0 × AreRegisters s.module.lines s.registers.items
+        × (length s.changes.items ≡ length s.registers.items) };
 }
 
 impl Sim {
@@ -100,16 +102,19 @@ impl Sim {
         ensures netlist { self.new.netlist ≡ self.old.netlist }
         ensures stepped { self.new.stepped ≡ true }
         ensures valuation { IsValuation self.new.netlist (present self.new) }
-        ensures inputs { (k w : ℕ) → IsInputPort self.new.netlist.ports k w → (present self.new).input k ≡ given_to self.new.netlist inputs.now k }
+        ensures inputs { (k w : ℕ) → IsInputPort self.new.netlist.ports k w
+            → (present self.new).input k ≡ given_to self.new.netlist inputs.now k }
         ensures state { SameState self.new.netlist (present self.old) (present self.new) }
 
         // No other values of the nets obey the module with these inputs and this state.
-        ensures only { (other : Cycle) → IsValuation self.new.netlist other → SameInputs self.new.netlist other (present self.new) → SameState self.new.netlist other (present self.new)
+        ensures only { (other : Cycle) → IsValuation self.new.netlist other → SameInputs self.new.netlist other (present self.new)
+            → SameState self.new.netlist other (present self.new)
             → SameNets self.new.netlist other (present self.new) }
 
         // It stands where it stood, and the run with this cycle is one cycle longer.
         ensures stands { (run : Run) (cycles : ℕ) → StandsFor self.old run cycles → StandsFor self.new run cycles }
-        ensures run { (run : Run) (cycles : ℕ) → StandsFor self.old run cycles → IsClearedRun self.new.netlist (with_cycle run cycles (present self.new)) (cycles + 1) }
+        ensures run { (run : Run) (cycles : ℕ) → StandsFor self.old run cycles
+            → IsClearedRun self.new.netlist (with_cycle run cycles (present self.new)) (cycles + 1) }
     {
         agree();
         evaluate(
@@ -129,7 +134,8 @@ impl Sim {
         ensures netlist { self.new.netlist ≡ self.old.netlist }
         ensures stepped { self.new.stepped ≡ false }
         ensures steps { Steps self.new.netlist (present self.old) (present self.new) }
-        ensures stands { (run : Run) (cycles : ℕ) → StandsFor self.old run cycles → StandsFor self.new (with_cycle run cycles (present self.old)) (cycles + 1) }
+        ensures stands { (run : Run) (cycles : ℕ) → StandsFor self.old run cycles
+            → StandsFor self.new (with_cycle run cycles (present self.old)) (cycles + 1) }
     {
         self.cells.write(&self.module, self.nets.as_slice());
         mark_written(

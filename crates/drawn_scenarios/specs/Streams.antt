@@ -18,7 +18,8 @@ channel_of source = if nat_lt 0 source.channel_bits then draw (source.max_channe
 
 -- with packets each beat is one
 abbrev pub beat_with : StreamPort → ℕ → ℕ → SourceBeat
-beat_with source word channel = record { word = word; channel = channel; error = 0; first = source.packets; last = source.packets; empty = 0 }
+beat_with source word channel =
+    record { word = word; channel = channel; error = 0; first = source.packets; last = source.packets; empty = 0 }
 
 unfoldable pub source_statement : StreamPort → Draws SourceStatement
 source_statement source = do

@@ -139,7 +139,11 @@ fn host_script(
 }
 
 /// Those links that are the host's.
-fn links_among(alloc: Global, links: &[MemoryConnection], host: u8) -> Result<List<MemoryConnection>, NoMemory>
+fn links_among(
+    alloc: Global,
+    links: &[MemoryConnection],
+    host: u8,
+) -> Result<List<MemoryConnection>, NoMemory>
     ensures { IfOk result (λ own. own ≡ links_among host links.now) }
 {
     let mut own = List::new(alloc);

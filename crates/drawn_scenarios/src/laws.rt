@@ -17,7 +17,8 @@ use link_rules::{links_keep_rules, memory_connections_are_numbered, streams_are_
 
 /// Each host of a plan reaches all that its agents take.
 pub(crate) fn links_are_reached()
-    ensures { (plan : PlanTable) → IsPlan plan → (host k : ℕ) (link : MemoryConnection) → slice_get (links_of plan.system host) k ≡ Some link → IsReached link }
+    ensures { (plan : PlanTable) → IsPlan plan → (host k : ℕ) (link : MemoryConnection)
+        → slice_get (links_of plan.system host) k ≡ Some link → IsReached link }
 {
     proper_records_are_bounded();
     memory_connections_are_numbered();
@@ -25,7 +26,8 @@ pub(crate) fn links_are_reached()
 
 /// Each host of a plan has a link.
 pub(crate) fn hosts_have_connections()
-    ensures { (plan : PlanTable) → IsPlan plan → (host : ℕ) → host < length (hosts_of plan.system) → 0 < length (links_of plan.system host) }
+    ensures { (plan : PlanTable) → IsPlan plan → (host : ℕ) → host < length (hosts_of plan.system)
+        → 0 < length (links_of plan.system host) }
 {
     ends_are_joined();
     ends_have_one_number();
@@ -34,7 +36,8 @@ pub(crate) fn hosts_have_connections()
 
 /// A beat of each source of a plan has room in a word.
 pub(crate) fn sources_are_drawable()
-    ensures { (plan : PlanTable) → IsPlan plan → (k : ℕ) (link : StreamConnection) → slice_get (stream_connections plan.system) k ≡ Some link → IsDrawable link.source }
+    ensures { (plan : PlanTable) → IsPlan plan → (k : ℕ) (link : StreamConnection)
+        → slice_get (stream_connections plan.system) k ≡ Some link → IsDrawable link.source }
 {
     proper_records_are_bounded();
     streams_are_numbered();
@@ -43,7 +46,8 @@ pub(crate) fn sources_are_drawable()
 
 /// Each scenario that is drawn for a plan fits it.
 pub fn drawn_scenarios_fit()
-    ensures { (plan : PlanTable) → IsPlan plan → (number lane cycles : ℕ) → 1 ≤ cycles → cycles ≤ 65536 → IsScenario plan.system (drawn_scenario plan number lane cycles) }
+    ensures { (plan : PlanTable) → IsPlan plan → (number lane cycles : ℕ) → 1 ≤ cycles → cycles ≤ 65536
+        → IsScenario plan.system (drawn_scenario plan number lane cycles) }
 {
     links_are_reached();
     sources_are_drawable();

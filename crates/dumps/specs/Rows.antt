@@ -24,7 +24,9 @@ run_rows netlist run (suc cycles) = run_rows netlist run cycles ++ port_row netl
 abbrev pub dump_of : Netlist → Run → ℕ → DumpValue
 dump_of netlist run cycles = record { name = netlist.name; ports = map port_of netlist.ports; rows = run_rows netlist run cycles }
 
--- A run of a module on these rows of inputs: it begins with the reset values and with memories of 0, and its inputs in each cycle are the values of the row, one for each input port in header order.
+-- A run of a module on these rows of inputs: it begins with the reset values and with memories of 0, and its inputs in each cycle
+-- are the values of the row, one for each input port in header order.
 pub record IsRunOn (netlist : Netlist) (rows : List (List Word)) (run : Run) : Type 0 where
   pub is_run : IsClearedRun netlist run (length rows)
-  pub inputs : (c : ℕ) (row : List Word) → slice_get rows c ≡ Some row → (k w : ℕ) → IsInputPort netlist.ports k w → run.input c k ≡ given_to netlist row k
+  pub inputs : (c : ℕ) (row : List Word) → slice_get rows c ≡ Some row → (k w : ℕ) → IsInputPort netlist.ports k w
+      → run.input c k ≡ given_to netlist row k

@@ -10,7 +10,8 @@ use cycle_sim::one_run;
 
 /// All runs of a module on the same rows have one dump.
 pub fn runs_have_one_dump()
-    ensures { (netlist : Netlist) → IsModule netlist → (rows : List (List Word)) (one other : Run) → IsRunOn netlist rows one → IsRunOn netlist rows other
+    ensures { (netlist : Netlist) → IsModule netlist → (rows : List (List Word)) (one other : Run) → IsRunOn netlist rows one
+        → IsRunOn netlist rows other
         → dump_of netlist one (length rows) ≡ dump_of netlist other (length rows) }
 {
     one_run();

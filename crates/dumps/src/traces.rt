@@ -28,7 +28,8 @@ fn blank_row(alloc: Global, count: usize) -> Result<Vec<Val>, NoMemory>
 pub fn dump_run(alloc: Global, sim: &mut Sim, waves: &Waves) -> Result<Bytes, NoMemory>
     requires widths { waves.now.widths ≡ input_widths sim.old.netlist.ports }
     requires new { (run : Run) → StandsFor sim.old run 0 }
-    ensures { IfOk result (λ bytes. (run : Run) × IsRunOn sim.old.netlist waves.now.rows run × (bytes ≡ dump_text (dump_of sim.old.netlist run (length waves.now.rows)))) }
+    ensures { IfOk result (λ bytes. (run : Run) × IsRunOn sim.old.netlist waves.now.rows run
+        × (bytes ≡ dump_text (dump_of sim.old.netlist run (length waves.now.rows)))) }
 {
     rows_are_joined();
     let mut dumper = Dumper::new(alloc, sim.module())?;

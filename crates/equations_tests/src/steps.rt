@@ -68,7 +68,8 @@ const OPERATORS: [(&str, Bits); 10] = [
     ("n2 ? n0 : n1", Bits::Whole),
 ];
 
-/// A module of three inputs, each of them a net, whose fourth net has this right side. Of each width the highest bit is told; the third input has one bit.
+/// A module of three inputs, each of them a net, whose fourth net has this right side. Of each width the highest bit is told; the
+/// third input has one bit.
 fn operator_module(
     alloc: Global,
     high: (u8, u8),

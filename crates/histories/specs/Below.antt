@@ -17,6 +17,7 @@ each_below P (suc n) c each below =
     ]
 
 -- P holds of each cycle up to `last` and each host below `hosts`
-pub each_cycle_host : (P : ℕ → ℕ → Type 0) (last hosts c host : ℕ) → OfEach (λ c. OfEach (P c) hosts) (suc last) → c ≤ last → host < hosts → P c host
+pub each_cycle_host : (P : ℕ → ℕ → Type 0) (last hosts c host : ℕ) → OfEach (λ c. OfEach (P c) hosts) (suc last) → c ≤ last
+    → host < hosts → P c host
 each_cycle_host P last hosts c host each below in_range =
     each_below (P c) hosts host (each_below (λ c. OfEach (P c) hosts) (suc last) c each (suc-le-suc_iff.1 below)) in_range

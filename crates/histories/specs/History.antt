@@ -69,5 +69,6 @@ unreached (size ∷ sizes) reached = (if nat_lt reached size then 1 else 0) + un
 -- where no room is left
 pub data AreWithin : List ℕ → List ℕ → Type 0 where
   all_placed : {upper : List ℕ} → AreWithin [] upper
-  placed : {size room : ℕ} {lower upper : List ℕ} → size ≤ room → AreWithin lower ((room - size) ∷ upper) → AreWithin (size ∷ lower) (room ∷ upper)
+  placed : {size room : ℕ} {lower upper : List ℕ} → size ≤ room → AreWithin lower ((room - size) ∷ upper)
+      → AreWithin (size ∷ lower) (room ∷ upper)
   next_room : {lower upper : List ℕ} → AreWithin lower upper → AreWithin lower (0 ∷ upper)

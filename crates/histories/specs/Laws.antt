@@ -14,7 +14,8 @@ prefix_refl xs = record { rest = []; joins = append-nil xs }
 
 -- a prefix of a prefix is one
 pub prefix_trans : {A : Type 0} {xs ys zs : List A} → IsPrefix xs ys → IsPrefix ys zs → IsPrefix xs zs
-prefix_trans {A} {xs} p q = record { rest = p.rest ++ q.rest; joins = sym (append_assoc xs p.rest q.rest) ∙ ap (λ l. l ++ q.rest) p.joins ∙ q.joins }
+prefix_trans {A} {xs} p q =
+    record { rest = p.rest ++ q.rest; joins = sym (append_assoc xs p.rest q.rest) ∙ ap (λ l. l ++ q.rest) p.joins ∙ q.joins }
 
 -- a history grows by what a cycle adds
 pub before_extends : {A : Type 0} (adds : ℕ → List A) (c : ℕ) → IsPrefix (before adds c) (before adds (suc c))
@@ -31,23 +32,28 @@ before_prefix adds c (suc d) h =
     ]
 
 pub prefix_filter : {A : Type 0} (test : A → Bool) {xs ys : List A} → IsPrefix xs ys → IsPrefix (filter test xs) (filter test ys)
-prefix_filter test {xs} p = record { rest = filter test p.rest; joins = sym (filter-append test xs p.rest) ∙ ap (filter test) p.joins }
+prefix_filter test {xs} p =
+    record { rest = filter test p.rest; joins = sym (filter-append test xs p.rest) ∙ ap (filter test) p.joins }
 
 pub prefix_flat_map : {A B : Type 0} (f : A → List B) {xs ys : List A} → IsPrefix xs ys → IsPrefix (flat_map f xs) (flat_map f ys)
-prefix_flat_map f {xs} p = record { rest = flat_map f p.rest; joins = sym (flat_map-append f xs p.rest) ∙ ap (flat_map f) p.joins }
+prefix_flat_map f {xs} p =
+    record { rest = flat_map f p.rest; joins = sym (flat_map-append f xs p.rest) ∙ ap (flat_map f) p.joins }
 
 pub prefix_map : {A B : Type 0} (f : A → B) {xs ys : List A} → IsPrefix xs ys → IsPrefix (map f xs) (map f ys)
 prefix_map f {xs} p = record { rest = map f p.rest; joins = sym (map-append f xs p.rest) ∙ ap (map f) p.joins }
 
 -- a prefix is no longer than the whole
 pub prefix_length : {A : Type 0} {xs ys : List A} → IsPrefix xs ys → length xs ≤ length ys
-prefix_length {A} {xs} {ys} p = subst (λ n. length xs ≤ n) (sym (length-append xs p.rest) ∙ ap length p.joins) (le-add_right (length xs) (length p.rest))
+prefix_length {A} {xs} {ys} p =
+    subst (λ n. length xs ≤ n) (sym (length-append xs p.rest) ∙ ap length p.joins) (le-add_right (length xs) (length p.rest))
 
 left_less : (n m s : ℕ) → n ≤ m → n - s ≤ m - s
 left_less n m s h =
     elim (cases_lt n s) [
       | inl less ↦ subst (λ k. k ≤ m - s) (sym (sub-eq-zero_of_le (le_of_lt less))) (zero-le)
-      | inr more ↦ (add-le-add_iff_right s).0 (subst (λ k. k ≤ m - s + s) (sym (sub-add_cancel more)) (subst (λ k. n ≤ k) (sym (sub-add_cancel (le_trans more h))) h))
+      | inr more ↦
+          (add-le-add_iff_right s).0
+          (subst (λ k. k ≤ m - s + s) (sym (sub-add_cancel more)) (subst (λ k. n ≤ k) (sym (sub-add_cancel (le_trans more h))) h))
     ]
 
 -- counting one where a test holds
@@ -71,16 +77,20 @@ one_is_small false = le-add_right 0 1
 -- no more are unreached than there are
 pub unreached_length : (sizes : List ℕ) (n : ℕ) → unreached sizes n ≤ length sizes
 unreached_length [] n = le_refl 0
-unreached_length (size ∷ sizes) n = subst (λ k. unreached (size ∷ sizes) n ≤ k) (one-add (length sizes)) (add-le-add (one_is_small (nat_lt n size)) (unreached_length sizes (n - size)))
+unreached_length (size ∷ sizes) n =
+    subst (λ k. unreached (size ∷ sizes) n ≤ k) (one-add (length sizes))
+    (add-le-add (one_is_small (nat_lt n size)) (unreached_length sizes (n - size)))
 
 -- one step, by what is shown and accepted. `stood` is that an item stood when the cycle began
 step : {A : Type 0} (s a stood : Bool) (firsts takens : List A) (old new : A) →
     (a ≡ true → s ≡ true) → (stood ≡ true → (s ≡ true) × (old ≡ new)) →
     firsts ≡ takens ++ only_if stood old →
     firsts ++ only_if (s && not stood) new ≡ (takens ++ only_if a new) ++ only_if (s && not a) new
-step true true true firsts takens old new shows same h = append-nil _ ∙ h ∙ ap (λ x. takens ++ x ∷ []) (same refl).1 ∙ sym (append-nil _)
+step true true true firsts takens old new shows same h =
+    append-nil _ ∙ h ∙ ap (λ x. takens ++ x ∷ []) (same refl).1 ∙ sym (append-nil _)
 step true true false firsts takens old new shows same h = ap (λ l. l ++ new ∷ []) (h ∙ append-nil _) ∙ sym (append-nil _)
-step true false true firsts takens old new shows same h = append-nil _ ∙ h ∙ ap (λ x. takens ++ x ∷ []) (same refl).1 ∙ ap (λ l. l ++ new ∷ []) (sym (append-nil takens))
+step true false true firsts takens old new shows same h =
+    append-nil _ ∙ h ∙ ap (λ x. takens ++ x ∷ []) (same refl).1 ∙ ap (λ l. l ++ new ∷ []) (sym (append-nil takens))
 step true false false firsts takens old new shows same h = ap (λ l. l ++ new ∷ []) h
 step false true stood firsts takens old new shows same h = absurd (false≢true (shows refl))
 step false false true firsts takens old new shows same h = absurd (false≢true (same refl).0)
@@ -93,16 +103,21 @@ only_first false true x shows = absurd (false≢true (shows refl))
 only_first false false x shows = refl
 
 -- what was shown is what was accepted, and the item that stands
-pub shown_is_accepted_and_standing : {A : Type 0} (shown accepts : ℕ → Bool) (item : ℕ → A) (end c : ℕ) → KeepsItems shown accepts item end → c ≤ end →
+pub shown_is_accepted_and_standing : {A : Type 0} (shown accepts : ℕ → Bool) (item : ℕ → A) (end c : ℕ)
+    → KeepsItems shown accepts item end → c ≤ end →
     first_shown shown accepts item c ≡ all_accepted accepts item c ++ standing shown accepts item c
 shown_is_accepted_and_standing shown accepts item end zero keeps h = refl
 shown_is_accepted_and_standing shown accepts item end (suc zero) keeps h =
     only_first (shown 0) (accepts 0) (item 0) (keeps.accepted 0)
 shown_is_accepted_and_standing shown accepts item end (suc (suc c)) keeps h =
-    step (shown (suc c)) (accepts (suc c)) (stands_on shown accepts c) (first_shown shown accepts item (suc c)) (all_accepted accepts item (suc c)) (item c) (item (suc c))
-    (keeps.accepted (suc c)) (keeps.held c h) (shown_is_accepted_and_standing shown accepts item end (suc c) keeps (le_of_suc-le h))
+    step (shown (suc c)) (accepts (suc c)) (stands_on shown accepts c) (first_shown shown accepts item (suc c))
+    (all_accepted accepts item (suc c)) (item c) (item (suc c))
+    (keeps.accepted (suc c)) (keeps.held c h)
+    (shown_is_accepted_and_standing shown accepts item end (suc c) keeps (le_of_suc-le h))
 
 -- so what was accepted is a prefix of what was shown
-pub accepted_prefix : {A : Type 0} (shown accepts : ℕ → Bool) (item : ℕ → A) (end c : ℕ) → KeepsItems shown accepts item end → c ≤ end →
+pub accepted_prefix : {A : Type 0} (shown accepts : ℕ → Bool) (item : ℕ → A) (end c : ℕ) → KeepsItems shown accepts item end
+    → c ≤ end →
     IsPrefix (all_accepted accepts item c) (first_shown shown accepts item c)
-accepted_prefix shown accepts item end c keeps h = record { rest = standing shown accepts item c; joins = sym (shown_is_accepted_and_standing shown accepts item end c keeps h) }
+accepted_prefix shown accepts item end c keeps h =
+    record { rest = standing shown accepts item c; joins = sym (shown_is_accepted_and_standing shown accepts item end c keeps h) }

@@ -17,7 +17,8 @@ pub fn prefixes_nest<T>()
 
 /// What was accepted is what was shown, but for the item that stands.
 pub fn accepted_is_shown<T>()
-    ensures { (shown accepts : ℕ → Bool) (item : ℕ → T) (end c : ℕ) → KeepsItems shown accepts item end → c ≤ end → first_shown shown accepts item c ≡ all_accepted accepts item c ++ standing shown accepts item c }
+    ensures { (shown accepts : ℕ → Bool) (item : ℕ → T) (end c : ℕ) → KeepsItems shown accepts item end → c ≤ end
+        → first_shown shown accepts item c ≡ all_accepted accepts item c ++ standing shown accepts item c }
 {}
 
 /// Fewer groups are unreached as more is reached, and never more than there are.

@@ -12,7 +12,8 @@ ghost use Rattle.host_stand_ins.specs.Worked.{shown_at, nothing, write_of, read_
 
 /// Whatever the module answers, a stand-in is a legal host.
 pub fn stand_in_hosts_are_legal()
-    ensures { (port : HostPort) (script : List HostStatement) (view : HostView) (end : ℕ) → IsHostScript port script → IsHostStandIn port script view end → IsLegalHost (host_side port) view end }
+    ensures { (port : HostPort) (script : List HostStatement) (view : HostView) (end : ℕ) → IsHostScript port script
+        → IsHostStandIn port script view end → IsLegalHost (host_side port) view end }
 {}
 
 /// What a host shows over some cycles: it rests, writes a burst of two words, whose first waits for a cycle, and reads two.

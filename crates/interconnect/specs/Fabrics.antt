@@ -20,7 +20,8 @@ memory_nets system = fabric_nets (length (hosts_of system)) (length (agents_of s
 
 -- and the most memories
 abbrev pub system_memories : SystemTable → ℕ
-system_memories system = fabric_memories (length (hosts_of system)) (length (agents_of system)) (length (memory_connections system))
+system_memories system =
+    fabric_memories (length (hosts_of system)) (length (agents_of system)) (length (memory_connections system))
 
 -- a part for each host and each agent, by their numbers
 pub record ArePartsOf (system : SystemTable) (parts : FabricParts) : Type 0 where

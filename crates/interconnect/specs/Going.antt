@@ -19,4 +19,5 @@ pub record GoesOnLegally (plan : PlanTable) (netlist : Netlist) (run : Run) (cyc
 -- each run of the module whose hosts and agents are legal is the beginning of longer ones
 abbrev pub LegalRunsGoOn : PlanTable → Netlist → Type 0
 LegalRunsGoOn plan netlist =
-    (run : Run) (cycles more : ℕ) → IsRun netlist run cycles → IsLegalRun (memory_system plan) (module_run plan netlist run) cycles → GoesOnLegally plan netlist run cycles more
+    (run : Run) (cycles more : ℕ) → IsRun netlist run cycles
+    → IsLegalRun (memory_system plan) (module_run plan netlist run) cycles → GoesOnLegally plan netlist run cycles more

@@ -17,9 +17,13 @@ pub record IsInterconnect (plan : PlanTable) (netlist : Netlist) : Type 0 where
   pub ports : netlist.ports ≡ ports_of plan.system
   pub few : length netlist.lines ≤ weight_of plan.system
   -- a stream that is a wire, whose net for `dropped` follows those of the inputs, in the order of the wires
-  pub wired : (number : ℕ) (connection : Connection) (source : StreamPort) (sink : StreamPort) → IsStream plan.system number connection source sink
+  pub wired : (number : ℕ) (connection : Connection) (source : StreamPort) (sink : StreamPort)
+      → IsStream plan.system number connection source sink
       → IsTrue (is_wire_stream (declared source) (declared sink) connection.fifo)
-      → IsWired netlist (name_at plan.system connection.start) (name_at plan.system connection.end) (declared source) (input_count netlist.ports + wires_before plan.system number)
-  pub streams : (number : ℕ) (connection : Connection) (source : StreamPort) (sink : StreamPort) → IsStream plan.system number connection source sink
-      → ServesStream netlist (name_at plan.system connection.start) (name_at plan.system connection.end) (declared source) (declared sink) connection.fifo
+      → IsWired netlist (name_at plan.system connection.start) (name_at plan.system connection.end) (declared source)
+      (input_count netlist.ports + wires_before plan.system number)
+  pub streams : (number : ℕ) (connection : Connection) (source : StreamPort) (sink : StreamPort)
+      → IsStream plan.system number connection source sink
+      → ServesStream netlist (name_at plan.system connection.start) (name_at plan.system connection.end) (declared source)
+      (declared sink) connection.fifo
   pub memory : ServesMemory plan netlist

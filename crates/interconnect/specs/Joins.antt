@@ -62,7 +62,8 @@ abbrev pub source_roles : List PortRole
 source_roles = role.Ready ∷ []
 
 abbrev pub sink_roles : List PortRole
-sink_roles = role.Valid ∷ role.Data ∷ role.Channel ∷ role.Error ∷ role.StartOfPacket ∷ role.EndOfPacket ∷ role.Empty ∷ role.Dropped ∷ []
+sink_roles =
+    role.Valid ∷ role.Data ∷ role.Channel ∷ role.Error ∷ role.StartOfPacket ∷ role.EndOfPacket ∷ role.Empty ∷ role.Dropped ∷ []
 
 -- the net that drives the output of a role
 abbrev pub net_for : PathNets → PortRole → NetValue
@@ -87,14 +88,16 @@ sink_outputs made = outputs_by (net_for made) sink_roles
 
 -- the low net of a stream that is a wire; its connection has number `place`
 abbrev pub low_at : SystemTable → ℕ → ℕ → Option NetValue
-low_at system number place = if is_wire_at system place then Some (net_of (input_count (ports_of system) + wires_before system number) 1) else None
+low_at system number place =
+    if is_wire_at system place then Some (net_of (input_count (ports_of system) + wires_before system number) 1) else None
 
 -- the net is the low net of the stream of this number
 abbrev pub IsLowOf : SystemTable → ℕ → Option NetValue → Type 0
 IsLowOf system number low = (place : ℕ) → slice_get (streams_of system) number ≡ Some place → low ≡ low_at system number place
 
 -- what stands between the ends of a stream was added
-pub record AddsStream (system : SystemTable) (link : StreamConnection) (low : Option NetValue) (old new : Netlist) (made : PathNets) : Type 0 where
+pub record AddsStream (system : SystemTable) (link : StreamConnection) (low : Option NetValue) (old new : Netlist)
+    (made : PathNets) : Type 0 where
   pub from : SourceNets
   pub ready : Option NetValue
   pub from_are : AreInputs system link.source_end (declared link.source) from
@@ -107,7 +110,8 @@ pub record AddsStream (system : SystemTable) (link : StreamConnection) (low : Op
   pub wire : IfSome low (λ net. made ≡ wire_nets from ready net)
 
 -- a stream whose outputs are driven by what serves it
-pub record IsJoinedStream (system : SystemTable) (netlist : Netlist) (number place : ℕ) (connection : Connection) (source : StreamPort) (sink : StreamPort) : Type 0 where
+pub record IsJoinedStream (system : SystemTable) (netlist : Netlist) (number place : ℕ) (connection : Connection)
+    (source : StreamPort) (sink : StreamPort) : Type 0 where
   pub from : SourceNets
   pub ready : Option NetValue
   pub made : PathNets
@@ -137,12 +141,14 @@ AddsLow false old new low = (new ≡ old) × (low ≡ None)
 -- the low nets stand behind those of the inputs, in the order of the wires
 abbrev pub HasLows : SystemTable → Netlist → Type 0
 HasLows system netlist =
-    (n : ℕ) → n < wires_before system (length (streams_of system)) → slice_get netlist.lines (input_count (ports_of system) + n) ≡ Some low_line
+    (n : ℕ) → n < wires_before system (length (streams_of system))
+    → slice_get netlist.lines (input_count (ports_of system) + n) ≡ Some low_line
 
 -- the low nets of the first streams
 pub record AreLows (system : SystemTable) (number : ℕ) (lows : List (Option NetValue)) : Type 0 where
   pub count : length lows ≡ number
-  pub each : (n place : ℕ) → n < number → slice_get (streams_of system) n ≡ Some place → slice_get lows n ≡ Some (low_at system n place)
+  pub each : (n place : ℕ) → n < number → slice_get (streams_of system) n ≡ Some place
+      → slice_get lows n ≡ Some (low_at system n place)
 
 -- the header with the low nets, and no output driven
 pub record IsBegun (system : SystemTable) (netlist : Netlist) : Type 0 where
@@ -161,8 +167,10 @@ pub record IsBegun (system : SystemTable) (netlist : Netlist) : Type 0 where
 pub record IsFree (plan : PlanTable) (streams : ℕ) (port : ℕ) : Type 0 where
   pub of_hosts : IsNoPortOfEach plan.system (hosts_of plan.system) port
   pub of_agents : IsNoPortOfEach plan.system (agents_of plan.system) port
-  pub of_sources : (n : ℕ) (connection : Connection) (source : StreamPort) (sink : StreamPort) → n < streams → IsStream plan.system n connection source sink → IsNoPortOf plan.system connection.start port
-  pub of_sinks : (n : ℕ) (connection : Connection) (source : StreamPort) (sink : StreamPort) → n < streams → IsStream plan.system n connection source sink → IsNoPortOf plan.system connection.end port
+  pub of_sources : (n : ℕ) (connection : Connection) (source : StreamPort) (sink : StreamPort) → n < streams
+      → IsStream plan.system n connection source sink → IsNoPortOf plan.system connection.start port
+  pub of_sinks : (n : ℕ) (connection : Connection) (source : StreamPort) (sink : StreamPort) → n < streams
+      → IsStream plan.system n connection source sink → IsNoPortOf plan.system connection.end port
 
 -- hosts and agents are joined, and the streams below this number; no other port is driven
 pub record IsJoinedUpTo (plan : PlanTable) (streams : ℕ) (netlist : Netlist) : Type 0 where
@@ -170,10 +178,12 @@ pub record IsJoinedUpTo (plan : PlanTable) (streams : ℕ) (netlist : Netlist) :
   pub ports : netlist.ports ≡ ports_of plan.system
   pub lows : HasLows plan.system netlist
   pub memory : 0 < length (hosts_of plan.system) → HasFabric plan netlist
-  pub joined : (n place : ℕ) (connection : Connection) (source : StreamPort) (sink : StreamPort) → n < streams → slice_get (streams_of plan.system) n ≡ Some place
+  pub joined : (n place : ℕ) (connection : Connection) (source : StreamPort) (sink : StreamPort) → n < streams
+      → slice_get (streams_of plan.system) n ≡ Some place
       → IsStream plan.system n connection source sink → IsJoinedStream plan.system netlist n place connection source sink
   pub rest : (port : ℕ) → IsFree plan streams port → driver_of netlist port ≡ None
   pub clocked : IsClocked netlist
   pub written : IsWritten netlist
-  pub few : length netlist.lines ≤ input_count (ports_of plan.system) + length (streams_of plan.system) + memory_nets plan.system + streams * most_nets
+  pub few : length netlist.lines
+      ≤ input_count (ports_of plan.system) + length (streams_of plan.system) + memory_nets plan.system + streams * most_nets
   pub few_memories : length netlist.memories ≤ system_memories plan.system + streams * most_memories

@@ -29,7 +29,8 @@ use Rattle.port_tables.specs.Ports.{EndName, port_name, name_at}
 abbrev pub level : Netlist → Run → EndName → ℕ → List ℕ → ℕ → ℕ
 level netlist run name absent role = signal_or absent (signal netlist run (port_name name role))
 
--- the command signals at an end with words of so many bytes; without byteenable all lanes are enabled, and without burstcount a command is of one beat
+-- the command signals at an end with words of so many bytes; without byteenable all lanes are enabled, and without burstcount a
+-- command is of one beat
 abbrev pub command_signals : Netlist → Run → ℕ → EndName → CommandSignals
 command_signals netlist run bytes name =
     record {
@@ -65,11 +66,13 @@ agent_view netlist run bytes name =
 -- what a run shows at the hosts and agents of a plan, found by the names of their ports; past their numbers nothing
 abbrev pub host_in : PlanTable → Netlist → Run → ℕ → HostView
 host_in plan netlist run h =
-    option_map_or (λ (end : EndId). host_view netlist run ((memory_system plan).host h).word_bytes (name_at plan.system end)) (slice_get (hosts_of plan.system) h) silent_host
+    option_map_or (λ (end : EndId). host_view netlist run ((memory_system plan).host h).word_bytes (name_at plan.system end))
+    (slice_get (hosts_of plan.system) h) silent_host
 
 abbrev pub agent_in : PlanTable → Netlist → Run → ℕ → AgentView
 agent_in plan netlist run a =
-    option_map_or (λ (end : EndId). agent_view netlist run ((memory_system plan).agent a).word_bytes (name_at plan.system end)) (slice_get (agents_of plan.system) a) silent_agent
+    option_map_or (λ (end : EndId). agent_view netlist run ((memory_system plan).agent a).word_bytes (name_at plan.system end))
+    (slice_get (agents_of plan.system) a) silent_agent
 
 abbrev pub module_run : PlanTable → Netlist → Run → MemoryRun
 module_run plan netlist run = record { at_host = host_in plan netlist run; at_agent = agent_in plan netlist run }
@@ -77,29 +80,41 @@ module_run plan netlist run = record { at_host = host_in plan netlist run; at_ag
 -- with registers and memories as in `state` the module can show this moment
 abbrev pub CanShow : PlanTable → Netlist → Cycle → Moment → Type 0
 CanShow plan netlist state moment =
-    (cycle : Cycle) × IsValuation netlist cycle × SameState netlist state cycle × (moment ≡ moment_in (module_run plan netlist (standing_still cycle)) 0)
+    (cycle : Cycle) × IsValuation netlist cycle × SameState netlist state cycle
+    × (moment ≡ moment_in (module_run plan netlist (standing_still cycle)) 0)
 
 -- ---- what every run does
 
--- In every run of the module whose hosts and agents are legal, the module keeps its own side of the rules at them all, the granted order, the
--- return of words in command order, and the lag; a wanted agent is served within its window, and where nothing but the module can hold a host's oldest
--- command up, the command itself moves on within its window; among hosts like their agent, which is prompt, a beat is accepted soon; hosts that ask have their shares; every byte that a host is given from an agent that acts
--- as memory is what the writes before its read have left; each word of an agent that a read touches, of a host whose word is no larger, is read once;
+-- In every run of the module whose hosts and agents are legal, the module keeps its own side of the rules at them all, the
+-- granted order, the
+-- return of words in command order, and the lag; a wanted agent is served within its window, and where nothing but the module can
+-- hold a host's oldest
+-- command up, the command itself moves on within its window; among hosts like their agent, which is prompt, a beat is accepted
+-- soon; hosts that ask have their shares; every byte that a host is given from an agent that acts
+-- as memory is what the writes before its read have left; each word of an agent that a read touches, of a host whose word is no
+-- larger, is read once;
 -- and no command depends on the word that comes in its cycle, nor on its code
 pub record ServesMemory (plan : PlanTable) (netlist : Netlist) : Type 0 where
   pub kept : IsMemoryPlan (memory_system plan)
-  pub safe : (run : Run) (cycles : ℕ) → IsRun netlist run cycles → IsLegalRun (memory_system plan) (module_run plan netlist run) cycles
+  pub safe : (run : Run) (cycles : ℕ) → IsRun netlist run cycles
+      → IsLegalRun (memory_system plan) (module_run plan netlist run) cycles
       → IsSafe AreCodes (memory_system plan) (module_run plan netlist run) cycles
-  pub awake : (run : Run) (cycles : ℕ) → IsRun netlist run cycles → IsLegalRun (memory_system plan) (module_run plan netlist run) cycles
+  pub awake : (run : Run) (cycles : ℕ) → IsRun netlist run cycles
+      → IsLegalRun (memory_system plan) (module_run plan netlist run) cycles
       → NeverIdles (memory_system plan) (module_run plan netlist run) cycles
-  pub moves : (run : Run) (cycles : ℕ) → IsRun netlist run cycles → IsLegalRun (memory_system plan) (module_run plan netlist run) cycles
+  pub moves : (run : Run) (cycles : ℕ) → IsRun netlist run cycles
+      → IsLegalRun (memory_system plan) (module_run plan netlist run) cycles
       → NoHostHangs (host_window (memory_system plan)) (memory_system plan) (module_run plan netlist run) cycles
-  pub accepts : (run : Run) (cycles : ℕ) → IsRun netlist run (cycles + 2) → IsLegalRun (memory_system plan) (module_run plan netlist run) (cycles + 2)
+  pub accepts : (run : Run) (cycles : ℕ) → IsRun netlist run (cycles + 2)
+      → IsLegalRun (memory_system plan) (module_run plan netlist run) (cycles + 2)
       → AcceptsSoon (prompt_window (memory_system plan)) (memory_system plan) (module_run plan netlist run) cycles
-  pub fair : (run : Run) (cycles : ℕ) → IsRun netlist run cycles → IsLegalRun (memory_system plan) (module_run plan netlist run) cycles
+  pub fair : (run : Run) (cycles : ℕ) → IsRun netlist run cycles
+      → IsLegalRun (memory_system plan) (module_run plan netlist run) cycles
       → IsFair (memory_system plan) (module_run plan netlist run) cycles
-  pub reads_back : (run : Run) (cycles host agent : ℕ) (contents : ℕ → ℕ) → host < (memory_system plan).hosts → agent < (memory_system plan).agents
-      → IsRun netlist run cycles → IsLegalRun (memory_system plan) (module_run plan netlist run) cycles → ActsAsMemory (memory_system plan) (module_run plan netlist run) contents agent cycles
+  pub reads_back : (run : Run) (cycles host agent : ℕ) (contents : ℕ → ℕ) → host < (memory_system plan).hosts
+      → agent < (memory_system plan).agents
+      → IsRun netlist run cycles → IsLegalRun (memory_system plan) (module_run plan netlist run) cycles
+      → ActsAsMemory (memory_system plan) (module_run plan netlist run) contents agent cycles
       → ReadsFromMemory (memory_system plan) (module_run plan netlist run) host agent contents cycles
   pub packed : (run : Run) (cycles host agent : ℕ) → host < (memory_system plan).hosts → agent < (memory_system plan).agents
       → IsRun netlist run cycles → IsLegalRun (memory_system plan) (module_run plan netlist run) cycles

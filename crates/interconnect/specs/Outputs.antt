@@ -36,7 +36,8 @@ outputs_by net roles = map (λ role. output_of role (net role)) roles
 
 -- no two are of one role
 abbrev pub HaveOwnRoles : List Output → Type 0
-HaveOwnRoles outputs = (m n : ℕ) (a b : Output) → slice_get outputs m ≡ Some a → slice_get outputs n ≡ Some b → a.role ≡ b.role → m ≡ n
+HaveOwnRoles outputs =
+    (m n : ℕ) (a b : Output) → slice_get outputs m ≡ Some a → slice_get outputs n ≡ Some b → a.role ≡ b.role → m ≡ n
 
 -- ---- drivers
 

@@ -20,7 +20,8 @@ use Rattle.port_tables.specs.declared.roles.RolePort.{RolePort}
 use Rattle.port_tables.specs.Ports.{role_word, is_forward, has_bits, stream_ports, EndName, port_name}
 
 -- the stream of this number, its connection and its two ends
-pub record IsStream (system : SystemTable) (number : ℕ) (connection : Connection) (source : StreamPort) (sink : StreamPort) : Type 0 where
+pub record IsStream (system : SystemTable) (number : ℕ) (connection : Connection) (source : StreamPort)
+    (sink : StreamPort) : Type 0 where
   pub place : ℕ
   pub place_is : slice_get (streams_of system) number ≡ Some place
   pub connection_is : slice_get system.connections place ≡ Some connection
@@ -45,12 +46,16 @@ end_signals netlist run name =
 abbrev pub dropped_signal : Netlist → Run → EndName → ℕ → ℕ
 dropped_signal netlist run name = signal_or 0 (signal netlist run (port_name name (codes "dropped")))
 
--- in every run of the module whose source is legal, the stream is served: the sink is given a prefix of the source's symbols, at most the stated
--- number behind, by the rules of ready, and `dropped` is high exactly where a beat doesn't reach it; and it never idles beyond its window
+-- in every run of the module whose source is legal, the stream is served: the sink is given a prefix of the source's symbols, at
+-- most the stated
+-- number behind, by the rules of ready, and `dropped` is high exactly where a beat doesn't reach it; and it never idles beyond
+-- its window
 abbrev pub ServesStream : Netlist → EndName → EndName → Declared → Declared → ℕ → Type 0
 ServesStream netlist from to source sink fifo =
-    (run : Run) (cycles : ℕ) → IsRun netlist run cycles → IsLegalSource (side_of source) (view_of (end_signals netlist run from)) cycles
-    → IsServedAwake (stream_of source sink fifo) (run_of (end_signals netlist run from) (end_signals netlist run to) (dropped_signal netlist run to)) cycles
+    (run : Run) (cycles : ℕ) → IsRun netlist run cycles
+    → IsLegalSource (side_of source) (view_of (end_signals netlist run from)) cycles
+    → IsServedAwake (stream_of source sink fifo)
+    (run_of (end_signals netlist run from) (end_signals netlist run to) (dropped_signal netlist run to)) cycles
 
 -- the output port of the first name is driven by the net of the input port of the second
 pub record IsDrivenBy (netlist : Netlist) (output input : List ℕ) : Type 0 where
@@ -73,9 +78,11 @@ IsJoined netlist from to role = IsJoinedBy (is_forward role) netlist from to (ro
 abbrev pub low_line : Line
 low_line = line_of 1 (Constant (word 1 0))
 
--- the stream is a wire: each output is driven by the input of the same role at the other end, and `dropped` by net `low`, which is always low
+-- the stream is a wire: each output is driven by the input of the same role at the other end, and `dropped` by net `low`, which
+-- is always low
 pub record IsWired (netlist : Netlist) (from to : EndName) (declared : Declared) (low : ℕ) : Type 0 where
-  pub joined : (k : ℕ) (port : RolePort) → slice_get (filter has_bits (stream_ports declared)) k ≡ Some port → IsJoined netlist from to port.role
+  pub joined : (k : ℕ) (port : RolePort) → slice_get (filter has_bits (stream_ports declared)) k ≡ Some port
+      → IsJoined netlist from to port.role
   pub dropped_port : ℕ
   pub dropped_is : port_named netlist.ports (port_name to (codes "dropped")) ≡ Some dropped_port
   pub dropped : driver_of netlist dropped_port ≡ Some low

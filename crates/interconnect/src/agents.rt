@@ -109,7 +109,8 @@ pub(crate) fn drive_agents(builder: &mut Builder, plan: &Plan, ports: &PortMap, 
     ensures same { HasSameNets builder.old builder.new }
     ensures extends { Extends builder.old builder.new }
     ensures driven { AreEachDriven plan.now.system agent_outputs (agents_of plan.now.system) parts.now builder.new }
-    ensures others { (k : ℕ) → IsNoPortOfEach plan.now.system (agents_of plan.now.system) k → driver_of builder.new k ≡ driver_of builder.old k }
+    ensures others { (k : ℕ) → IsNoPortOfEach plan.now.system (agents_of plan.now.system) k
+        → driver_of builder.new k ≡ driver_of builder.old k }
 {
     ports_are_known(plan);
     netlist::keeps();

@@ -25,7 +25,8 @@ pub(crate) fn input_of(
     requires end { IsAnEnd plan.now.system end }
     requires input { (width : ℕ) × IsInputIf plan.now.system end role width }
     ensures net { (width : ℕ) → IsInputIf plan.now.system end role width → result ≡ input_at plan.now.system end role width }
-    ensures is { (width : ℕ) → IsInputIf plan.now.system end role width → IfSome result (λ net. IsNetOfWidth builder.now net width) }
+    ensures is { (width : ℕ) → IsInputIf plan.now.system end role width
+        → IfSome result (λ net. IsNetOfWidth builder.now net width) }
 {
     match ports.port_at(plan, end, role) {
         Some(port) => Some(builder.input(port)),

@@ -43,22 +43,31 @@ item_at cycle mems place = map (λ (mem : MemValue). cycle.cell mem.number place
 abbrev pub TakesItems : Netlist → List MemValue → NetValue → NetValue → List NetValue → Type 0
 TakesItems netlist mems comes place item =
     EachStep netlist (λ run c. (k : ℕ) → k < 2 ^ place.width
-    → item_at (cycle_of run (c + 1)) mems k ≡ (if (run.net c comes.number == 1) && (run.net c place.number == k) then values_of (cycle_of run c) item else item_at (cycle_of run c) mems k))
+    → item_at (cycle_of run (c + 1)) mems k
+    ≡ (if (run.net c comes.number == 1) && (run.net c place.number == k) then values_of (cycle_of run c) item
+    else item_at (cycle_of run c) mems k))
 
 -- ---- laws. No contract reads a proof of these
 
-pub mems_last : (old new : Netlist) (address_bits : ℕ) (mems : List MemValue) → AreMems old address_bits mems → Extends old new → AreMems new address_bits mems
+pub mems_last : (old new : Netlist) (address_bits : ℕ) (mems : List MemValue) → AreMems old address_bits mems → Extends old new
+    → AreMems new address_bits mems
 mems_last old new address_bits [] h e = tt
-mems_last old new address_bits (mem ∷ mems) h e = (record { is_mem = e.memories mem h.0.is_mem; has_address = h.0.has_address }, mems_last old new address_bits mems h.1 e)
+mems_last old new address_bits (mem ∷ mems) h e =
+    (record { is_mem = e.memories mem h.0.is_mem; has_address = h.0.has_address }, mems_last old new address_bits mems h.1 e)
 
 -- a memory's number
-pub mems_in_row : (from : ℕ) (mems : List MemValue) → AreMemsFrom from mems → (m : ℕ) → InMems mems m → IsInRow from (length mems) m
+pub mems_in_row : (from : ℕ) (mems : List MemValue) → AreMemsFrom from mems → (m : ℕ) → InMems mems m
+    → IsInRow from (length mems) m
 mems_in_row from [] h m o = absurd o
-mems_in_row from (mem ∷ mems) h m (inl e) = record { least = (let at = h.0 in omega (arith, at, e)); below = (let at = h.0 in omega (arith, at, e)) }
-mems_in_row from (mem ∷ mems) h m (inr o) = let rest = mems_in_row (from + 1) mems h.1 m o in record { least = (let low = rest.least in omega arith); below = (let high = rest.below in omega arith) }
+mems_in_row from (mem ∷ mems) h m (inl e) =
+    record { least = (let at = h.0 in omega (arith, at, e)); below = (let at = h.0 in omega (arith, at, e)) }
+mems_in_row from (mem ∷ mems) h m (inr o) =
+    let rest = mems_in_row (from + 1) mems h.1 m o in
+    record { least = (let low = rest.least in omega arith); below = (let high = rest.below in omega arith) }
 
 -- one of these numbers is that of a memory of the netlist
-pub mem_of_number : (netlist : Netlist) (address_bits : ℕ) (mems : List MemValue) → AreMems netlist address_bits mems → (m : ℕ) → InMems mems m → (mem : MemValue) × (m ≡ mem.number) × IsMemOf netlist address_bits mem
+pub mem_of_number : (netlist : Netlist) (address_bits : ℕ) (mems : List MemValue) → AreMems netlist address_bits mems → (m : ℕ)
+    → InMems mems m → (mem : MemValue) × (m ≡ mem.number) × IsMemOf netlist address_bits mem
 mem_of_number netlist address_bits [] h m o = absurd o
 mem_of_number netlist address_bits (mem ∷ mems) h m (inl e) = (mem, e, h.0)
 mem_of_number netlist address_bits (mem ∷ mems) h m (inr o) = mem_of_number netlist address_bits mems h.1 m o

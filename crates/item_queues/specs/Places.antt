@@ -16,7 +16,8 @@ pub record IsPlaceFrom (netlist : Netlist) (like : List NetValue) (from : ℕ) (
 -- those of a row of places, whose numbers go on from place to place
 abbrev pub ArePlacesFrom : Netlist → List NetValue → ℕ → List (List NetValue) → Type 0
 ArePlacesFrom netlist like from [] = Unit {0}
-ArePlacesFrom netlist like from (place ∷ row) = IsPlaceFrom netlist like from place × ArePlacesFrom netlist like (from + length place) row
+ArePlacesFrom netlist like from (place ∷ row) =
+    IsPlaceFrom netlist like from place × ArePlacesFrom netlist like (from + length place) row
 
 -- from some number on
 pub record ArePlaces (netlist : Netlist) (like : List NetValue) (row : List (List NetValue)) : Type 0 where
@@ -40,7 +41,9 @@ shifted coming (item ∷ items) = coming ∷ shifted item items
 -- in each run the places shift where the bit is high, and else keep their items
 abbrev pub ShiftsOn : Netlist → NetValue → List NetValue → List (List NetValue) → Type 0
 ShiftsOn netlist comes below row =
-    EachStep netlist (λ run c. values_in (cycle_of run (c + 1)) row ≡ (if run.net c comes.number == 1 then shifted (values_of (cycle_of run c) below) (values_in (cycle_of run c) row) else values_in (cycle_of run c) row))
+    EachStep netlist (λ run c. values_in (cycle_of run (c + 1)) row
+    ≡ (if run.net c comes.number == 1 then shifted (values_of (cycle_of run c) below) (values_in (cycle_of run c) row)
+    else values_in (cycle_of run c) row))
 
 -- the item in a place, counted from the first one on; behind the last place it is the first one's
 abbrev pub item_in : List (List ℕ) → ℕ → List ℕ
@@ -54,9 +57,15 @@ newest_last item (suc count) = item count ∷ newest_last item count
 
 -- ---- what stands lasts. No contract reads a proof of these
 
-pub places_last : (old new : Netlist) (like : List NetValue) (from : ℕ) (row : List (List NetValue)) → ArePlacesFrom old like from row → Extends old new → ArePlacesFrom new like from row
+pub places_last : (old new : Netlist) (like : List NetValue) (from : ℕ) (row : List (List NetValue))
+    → ArePlacesFrom old like from row → Extends old new → ArePlacesFrom new like from row
 places_last old new like from [] h e = tt
-places_last old new like from (place ∷ row) h e = (record { nets = nets_last old new place e h.0.nets; widths = h.0.widths; numbers = h.0.numbers }, places_last old new like (from + length place) row h.1 e)
+places_last old new like from (place ∷ row) h e = (
+  record { nets = nets_last old new place e h.0.nets; widths = h.0.widths; numbers = h.0.numbers },
+  places_last old new like
+      (from + length place) row h.1 e,
+)
 
-pub row_lasts : (old new : Netlist) (like : List NetValue) (row : List (List NetValue)) → ArePlaces old like row → Extends old new → ArePlaces new like row
+pub row_lasts : (old new : Netlist) (like : List NetValue) (row : List (List NetValue)) → ArePlaces old like row → Extends old new
+    → ArePlaces new like row
 row_lasts old new like row h e = record { start = h.start; from_start = places_last old new like h.start row h.from_start e }

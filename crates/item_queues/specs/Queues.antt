@@ -17,7 +17,8 @@ owns queue n = (n ≡ queue.count.number) ⊎ owns_in queue.bound queue.storage 
 abbrev pub owns_memories : {N : ℕ} → ItemQueue N → ℕ → Type 0
 owns_memories queue m = owns_memories_in queue.storage m
 
--- the nets of a queue of items like this one: a count no wider than it takes to reach the bound, and registers or memories for so many items
+-- the nets of a queue of items like this one: a count no wider than it takes to reach the bound, and registers or memories for so
+-- many items
 pub record IsQueueMade {N : ℕ} (netlist : Netlist) (like : List NetValue) (queue : ItemQueue N) : Type 0 where
   pub some : 1 ≤ queue.bound
   pub count_net : IsNet netlist queue.count
@@ -51,11 +52,15 @@ pub record MayMove {N : ℕ} (queue : ItemQueue N) (comes goes : NetValue) (cycl
   pub some : (cycle.net goes.number == 1) ≡ true → (0 < cycle.net queue.count.number) ⊎ ((cycle.net comes.number == 1) ≡ true)
 
 -- the item that comes is the newest one, and the oldest one goes
-pub record HasMoved {N : ℕ} (queue : ItemQueue N) (item : List NetValue) (comes goes : NetValue) (before after : Cycle) : Type 0 where
+pub record HasMoved {N : ℕ} (queue : ItemQueue N) (item : List NetValue) (comes goes : NetValue)
+    (before after : Cycle) : Type 0 where
   pub in_order : IsInOrder queue after
-  pub held : held_in after queue ≡ drop (one_if (before.net goes.number == 1)) (held_in before queue ++ only_if (before.net comes.number == 1) (values_of before item))
+  pub held : held_in after queue
+      ≡ drop (one_if (before.net goes.number == 1))
+      (held_in before queue ++ only_if (before.net comes.number == 1) (values_of before item))
 
 -- in each run the queue moves from cycle to cycle
 abbrev pub StepsQueue : {N : ℕ} → Netlist → ItemQueue N → List NetValue → NetValue → NetValue → Type 0
 StepsQueue netlist queue item comes goes =
-    EachStep netlist (λ run c. MayMove queue comes goes (cycle_of run c) → HasMoved queue item comes goes (cycle_of run c) (cycle_of run (c + 1)))
+    EachStep netlist (λ run c. MayMove queue comes goes (cycle_of run c)
+    → HasMoved queue item comes goes (cycle_of run c) (cycle_of run (c + 1)))

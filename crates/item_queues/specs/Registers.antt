@@ -27,7 +27,8 @@ pub record PointersGoOn (netlist : Netlist) (pointers : Pointers) (comes goes : 
 
 -- ---- what stands lasts. No contract reads these proofs; answers cite them
 
-pub pointers_last : (old new : Netlist) (pointers : Pointers) → ArePointers old pointers → Extends old new → ArePointers new pointers
+pub pointers_last : (old new : Netlist) (pointers : Pointers) → ArePointers old pointers → Extends old new
+    → ArePointers new pointers
 pointers_last old new pointers h e = record {
   first_net = e.nets _ _ h.first_net;
   next_net = net_lasts old new pointers.next pointers.first.width e h.next_net;
@@ -36,7 +37,8 @@ pointers_last old new pointers h e = record {
   before_next = h.before_next;
 }
 
-pub going_lasts : (old new : Netlist) (pointers : Pointers) (comes goes : NetValue) → PointersGoOn old pointers comes goes → Extends old new → PointersGoOn new pointers comes goes
+pub going_lasts : (old new : Netlist) (pointers : Pointers) (comes goes : NetValue) → PointersGoOn old pointers comes goes
+    → Extends old new → PointersGoOn new pointers comes goes
 going_lasts old new pointers comes goes h e = record {
   first = λ run cycles r. h.first run cycles (e.runs run cycles r);
   next = λ run cycles r. h.next run cycles (e.runs run cycles r);

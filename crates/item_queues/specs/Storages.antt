@@ -36,12 +36,14 @@ IsStorage netlist like bound (InMemories stored) = IsStored netlist like bound s
 -- so many items that are held, oldest first
 abbrev pub held_of : {N : ℕ} → Cycle → ℕ → ℕ → Storage N → List (List ℕ)
 held_of cycle bound count (InRegisters places) = newest_last (item_in (values_in cycle (take bound places))) count
-held_of cycle bound count (InMemories stored) = items_from (item_at cycle stored.memories) (2 ^ stored.pointers.first.width) (cycle.net stored.pointers.first.number) count
+held_of cycle bound count (InMemories stored) =
+    items_from (item_at cycle stored.memories) (2 ^ stored.pointers.first.width) (cycle.net stored.pointers.first.number) count
 
 -- in memories the next place is the one behind the items
 abbrev pub IsPlaced : {N : ℕ} → Cycle → ℕ → Storage N → Type 0
 IsPlaced cycle count (InRegisters places) = Unit {0}
-IsPlaced cycle count (InMemories stored) = cycle.net stored.pointers.next.number ≡ (cycle.net stored.pointers.first.number + count) % 2 ^ stored.pointers.first.width
+IsPlaced cycle count (InMemories stored) =
+    cycle.net stored.pointers.next.number ≡ (cycle.net stored.pointers.first.number + count) % 2 ^ stored.pointers.first.width
 
 -- from cycle to cycle an item that comes is taken
 abbrev pub StorageGoesOn : {N : ℕ} → Netlist → ℕ → Storage N → List NetValue → NetValue → NetValue → Type 0
@@ -55,10 +57,14 @@ shown_oldest (item ∷ items) coming = 1 ∷ item
 
 -- ---- what stands lasts. No contract reads a proof of these
 
-pub storage_lasts : {N : ℕ} (old new : Netlist) (like : List NetValue) (bound : ℕ) (storage : Storage N) → IsStorage old like bound storage → Extends old new → IsStorage new like bound storage
-storage_lasts old new like bound (InRegisters places) h e = record { few = h.few; count_is = h.count_is; places = row_lasts old new like (take bound places) h.places e }
+pub storage_lasts : {N : ℕ} (old new : Netlist) (like : List NetValue) (bound : ℕ) (storage : Storage N)
+    → IsStorage old like bound storage → Extends old new → IsStorage new like bound storage
+storage_lasts old new like bound (InRegisters places) h e =
+    record { few = h.few; count_is = h.count_is; places = row_lasts old new like (take bound places) h.places e }
 storage_lasts old new like bound (InMemories stored) h e = stored_lasts old new like bound stored h e
 
-pub storage_on_lasts : {N : ℕ} (old new : Netlist) (bound : ℕ) (storage : Storage N) (item : List NetValue) (comes goes : NetValue) → StorageGoesOn old bound storage item comes goes → Extends old new → StorageGoesOn new bound storage item comes goes
+pub storage_on_lasts : {N : ℕ} (old new : Netlist) (bound : ℕ) (storage : Storage N) (item : List NetValue)
+    (comes goes : NetValue)
+    → StorageGoesOn old bound storage item comes goes → Extends old new → StorageGoesOn new bound storage item comes goes
 storage_on_lasts old new bound (InRegisters places) item comes goes h e = λ run cycles r. h run cycles (e.runs run cycles r)
 storage_on_lasts old new bound (InMemories stored) item comes goes h e = stored_on_lasts old new stored item comes goes h e

@@ -18,13 +18,15 @@ pub record IsStored {N : ℕ} (netlist : Netlist) (like : List NetValue) (bound 
   pub widths : mem_widths stored.memories ≡ group_widths like
 
 -- an item that comes goes to the next place, and the pointers go on
-pub record StoredGoesOn {N : ℕ} (netlist : Netlist) (stored : StoredItems N) (item : List NetValue) (comes goes : NetValue) : Type 0 where
+pub record StoredGoesOn {N : ℕ} (netlist : Netlist) (stored : StoredItems N) (item : List NetValue)
+    (comes goes : NetValue) : Type 0 where
   pub pointers : PointersGoOn netlist stored.pointers comes goes
   pub writes : TakesItems netlist stored.memories comes stored.pointers.next item
 
 -- ---- what stands lasts. No contract reads a proof of these
 
-pub stored_lasts : {N : ℕ} (old new : Netlist) (like : List NetValue) (bound : ℕ) (stored : StoredItems N) → IsStored old like bound stored → Extends old new → IsStored new like bound stored
+pub stored_lasts : {N : ℕ} (old new : Netlist) (like : List NetValue) (bound : ℕ) (stored : StoredItems N)
+    → IsStored old like bound stored → Extends old new → IsStored new like bound stored
 stored_lasts old new like bound stored h e = record {
   pointers = pointers_last old new stored.pointers h.pointers e;
   depth = h.depth;
@@ -34,7 +36,8 @@ stored_lasts old new like bound stored h e = record {
   widths = h.widths;
 }
 
-pub stored_on_lasts : {N : ℕ} (old new : Netlist) (stored : StoredItems N) (item : List NetValue) (comes goes : NetValue) → StoredGoesOn old stored item comes goes → Extends old new → StoredGoesOn new stored item comes goes
+pub stored_on_lasts : {N : ℕ} (old new : Netlist) (stored : StoredItems N) (item : List NetValue) (comes goes : NetValue)
+    → StoredGoesOn old stored item comes goes → Extends old new → StoredGoesOn new stored item comes goes
 stored_on_lasts old new stored item comes goes h e = record {
   pointers = going_lasts old new stored.pointers comes goes h.pointers e;
   writes = λ run cycles r. h.writes run cycles (e.runs run cycles r);

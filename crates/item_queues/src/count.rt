@@ -67,7 +67,8 @@ fn next_count(builder: &mut Builder, count: Net, comes: Net, goes: Net) -> Resul
     requires comes { IsBit builder.old comes }
     requires goes { IsBit builder.old goes }
     ensures net { IfOk result (λ next. IsNetOfWidth builder.new next count.width) }
-    ensures value { IfOk result (λ next. Always builder.new (λ cycle. IsNextCount count.width (cycle.net count.number) (cycle.net comes.number) (cycle.net goes.number) (cycle.net next.number))) }
+    ensures value { IfOk result (λ next. Always builder.new (λ cycle. IsNextCount count.width (cycle.net count.number)
+        (cycle.net comes.number) (cycle.net goes.number) (cycle.net next.number))) }
     ensures adds { AddsNets 6 builder.old builder.new }
     ensures full { result ≡ Err NetFault.TooManyNets → 2 ^ 20 < length builder.old.lines + 6 }
 {

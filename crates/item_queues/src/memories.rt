@@ -44,7 +44,8 @@ pub(crate) fn make_memories<const N: usize>(
     ensures mems { IfOk result (λ made. AreMems builder.new address_bits made) }
     ensures numbers { IfOk result (λ made. AreMemsFrom (length builder.old.memories) made) }
     ensures widths { IfOk result (λ made. mem_widths made ≡ group_widths like.now) }
-    ensures owned { IfOk result (λ made. (m : ℕ) → InMems made m → (length builder.old.memories ≤ m) × (m < length builder.new.memories)) }
+    ensures owned { IfOk result (λ made. (m : ℕ) → InMems made m
+        → (length builder.old.memories ≤ m) × (m < length builder.new.memories)) }
     ensures grows { GrowsInMemory 0 N builder.old builder.new }
     ensures lines { builder.new.lines ≡ builder.old.lines }
     ensures still_wait_for_write { StillWaitForWrite builder.old builder.new }
@@ -72,7 +73,8 @@ pub(crate) fn read_item<const N: usize>(
     requires widths { mem_widths memories.now ≡ group_widths like.now }
     ensures nets { IfOk result (λ made. AreNets builder.new made) }
     ensures widths { IfOk result (λ made. group_widths made ≡ group_widths like.now) }
-    ensures value { IfOk result (λ made. Always builder.new (λ cycle. values_of cycle made ≡ item_at cycle memories.now (cycle.net place.number))) }
+    ensures value { IfOk result (λ made. Always builder.new (λ cycle. values_of cycle made
+        ≡ item_at cycle memories.now (cycle.net place.number))) }
     ensures adds { AddsNets N builder.old builder.new }
     ensures full { result ≡ Err NetFault.TooManyNets → 2 ^ 20 < length builder.old.lines + N }
 {

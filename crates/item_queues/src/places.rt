@@ -54,7 +54,8 @@ fn choose_counted<const N: usize>(
     requires widths { group_widths place.now ≡ group_widths other.now }
     ensures nets { IfOk result (λ made. AreNets builder.new made) }
     ensures widths { IfOk result (λ made. group_widths made ≡ group_widths place.now) }
-    ensures value { IfOk result (λ made. Always builder.new (λ cycle. values_of cycle made ≡ (if cycle.net count.number == number then values_of cycle place.now else values_of cycle other.now))) }
+    ensures value { IfOk result (λ made. Always builder.new (λ cycle. values_of cycle made
+        ≡ (if cycle.net count.number == number then values_of cycle place.now else values_of cycle other.now))) }
     ensures adds { AddsNets (N + 2) builder.old builder.new }
     ensures full { result ≡ Err NetFault.TooManyNets → 2 ^ 20 < length builder.old.lines + (N + 2) }
 {
@@ -79,7 +80,8 @@ pub(crate) fn choose_held<const N: usize>(
     requires rest { ArePlaces builder.old first.now rest.now }
     ensures nets { IfOk result (λ made. AreNets builder.new made) }
     ensures widths { IfOk result (λ made. group_widths made ≡ group_widths first.now) }
-    ensures value { IfOk result (λ made. Always builder.new (λ cycle. 1 ≤ cycle.net count.number → values_of cycle made ≡ item_in (values_in cycle (first.now ∷ rest.now)) (cycle.net count.number - 1))) }
+    ensures value { IfOk result (λ made. Always builder.new (λ cycle. 1 ≤ cycle.net count.number
+        → values_of cycle made ≡ item_in (values_in cycle (first.now ∷ rest.now)) (cycle.net count.number - 1))) }
     ensures adds { AddsNets ((N + 2) * length rest.now) builder.old builder.new }
     ensures full { result ≡ Err NetFault.TooManyNets → 2 ^ 20 < length builder.old.lines + (N + 2) * length rest.now }
 {
@@ -116,7 +118,8 @@ fn shift_place<const N: usize>(
     Ok(())
 }
 
-/// Gives the places their next nets: where the bit is high the item below comes into the first of them, and each other place takes
+/// Gives the places their next nets: where the bit is high the item below comes into the first of them, and each other place
+/// takes
 /// the item of the one before it.
 pub(crate) fn shift_places<const N: usize>(
     builder: &mut Builder,

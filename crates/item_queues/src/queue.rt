@@ -45,7 +45,8 @@ pub fn hold_items<const N: usize>(
     ensures count { IfOk result (λ queue. queue.count ≡ count) }
     ensures starts { IfOk result (λ queue. StartsEmpty builder.new queue) }
     ensures owned { IfOk result (λ queue. AreMadeBetween (owns_in queue.bound queue.storage) builder.old builder.new) }
-    ensures owned_memories { IfOk result (λ queue. (m : ℕ) → owns_memories queue m → (length builder.old.memories ≤ m) × (m < length builder.new.memories)) }
+    ensures owned_memories { IfOk result (λ queue. (m : ℕ) → owns_memories queue m
+        → (length builder.old.memories ≤ m) × (m < length builder.new.memories)) }
     ensures grows { GrowsInMemory (3 * N) N builder.old builder.new }
     ensures still_wait { StillWait builder.old builder.new }
     ensures own_wait { IfOk result (λ queue. (n : ℕ) → owns_in queue.bound queue.storage n → IsWaiting builder.new n) }
@@ -53,7 +54,8 @@ pub fn hold_items<const N: usize>(
     ensures still_wait_for_write { StillWaitForWrite builder.old builder.new }
     ensures own_wait_for_write { IfOk result (λ queue. (m : ℕ) → owns_memories queue m → WaitsForWrite builder.new m) }
     ensures newly_written { IfOk result (λ queue. WriteWaitsBeside (owns_memories queue) builder.old builder.new) }
-    ensures full { result ≡ Err NetFault.TooManyNets → (2 ^ 20 < length builder.old.lines + 3 * N) ⊎ (2 ^ 16 < length builder.old.memories + N) }
+    ensures full { result ≡ Err NetFault.TooManyNets
+        → (2 ^ 20 < length builder.old.lines + 3 * N) ⊎ (2 ^ 16 < length builder.old.memories + N) }
 {
     let storage = make_storage(builder, like, bound)?;
     Ok(ItemQueue {
@@ -77,7 +79,8 @@ pub fn make_queue<const N: usize>(
     ensures bound { IfOk result (λ queue. queue.bound ≡ bound) }
     ensures starts { IfOk result (λ queue. StartsEmpty builder.new queue) }
     ensures owned { IfOk result (λ queue. AreMadeBetween (owns queue) builder.old builder.new) }
-    ensures owned_memories { IfOk result (λ queue. (m : ℕ) → owns_memories queue m → (length builder.old.memories ≤ m) × (m < length builder.new.memories)) }
+    ensures owned_memories { IfOk result (λ queue. (m : ℕ) → owns_memories queue m
+        → (length builder.old.memories ≤ m) × (m < length builder.new.memories)) }
     ensures grows { GrowsInMemory (3 * N + 1) N builder.old builder.new }
     ensures still_wait { StillWait builder.old builder.new }
     ensures own_wait { IfOk result (λ queue. (n : ℕ) → owns queue n → IsWaiting builder.new n) }
@@ -85,7 +88,8 @@ pub fn make_queue<const N: usize>(
     ensures still_wait_for_write { StillWaitForWrite builder.old builder.new }
     ensures own_wait_for_write { IfOk result (λ queue. (m : ℕ) → owns_memories queue m → WaitsForWrite builder.new m) }
     ensures newly_written { IfOk result (λ queue. WriteWaitsBeside (owns_memories queue) builder.old builder.new) }
-    ensures full { result ≡ Err NetFault.TooManyNets → (2 ^ 20 < length builder.old.lines + (3 * N + 1)) ⊎ (2 ^ 16 < length builder.old.memories + N) }
+    ensures full { result ≡ Err NetFault.TooManyNets
+        → (2 ^ 20 < length builder.old.lines + (3 * N + 1)) ⊎ (2 ^ 16 < length builder.old.memories + N) }
 {
     let count = hold_count(builder, bound)?;
     hold_items(builder, like, bound, count)
@@ -103,7 +107,8 @@ pub fn show_oldest<const N: usize>(
     requires coming { ArePlaceNets builder.old coming.now }
     ensures place { IfOk result (λ made. ArePlaceNets builder.new made) }
     ensures widths { IfOk result (λ made. HaveSameWidths made coming.now) }
-    ensures value { IfOk result (λ made. Always builder.new (λ cycle. values_of cycle (nets_of made) ≡ shown_oldest (held_in cycle queue.now) (values_of cycle (nets_of coming.now)))) }
+    ensures value { IfOk result (λ made. Always builder.new (λ cycle. values_of cycle (nets_of made)
+        ≡ shown_oldest (held_in cycle queue.now) (values_of cycle (nets_of coming.now)))) }
     ensures adds { AddsNets (3 * N + 6) builder.old builder.new }
     ensures full { result ≡ Err NetFault.TooManyNets → 2 ^ 20 < length builder.old.lines + (3 * N + 6) }
 {
@@ -130,7 +135,8 @@ pub fn read_oldest<const N: usize>(
     requires queue { IsQueueMade builder.old like.now queue.now }
     ensures nets { IfOk result (λ made. AreNets builder.new made) }
     ensures widths { IfOk result (λ made. group_widths made ≡ group_widths like.now) }
-    ensures value { IfOk result (λ made. Always builder.new (λ cycle. 1 ≤ cycle.net queue.now.count.number → (coming : List ℕ) → shown_oldest (held_in cycle queue.now) coming ≡ 1 ∷ values_of cycle made)) }
+    ensures value { IfOk result (λ made. Always builder.new (λ cycle. 1 ≤ cycle.net queue.now.count.number → (coming : List ℕ)
+        → shown_oldest (held_in cycle queue.now) coming ≡ 1 ∷ values_of cycle made)) }
     ensures adds { AddsNets (2 * N + 4) builder.old builder.new }
     ensures full { result ≡ Err NetFault.TooManyNets → 2 ^ 20 < length builder.old.lines + (2 * N + 4) }
 {
@@ -146,7 +152,8 @@ pub fn has_room<const N: usize>(
     requires count { IsNet builder.old queue.now.count }
     requires wide { queue.now.bound < 2 ^ queue.now.count.width }
     ensures net { IfOk result (λ room. IsBit builder.new room) }
-    ensures value { IfOk result (λ room. Always builder.new (λ cycle. (cycle.net room.number == 1) ≡ nat_lt (cycle.net queue.now.count.number) queue.now.bound)) }
+    ensures value { IfOk result (λ room. Always builder.new (λ cycle. (cycle.net room.number == 1)
+        ≡ nat_lt (cycle.net queue.now.count.number) queue.now.bound)) }
     ensures adds { AddsNets 2 builder.old builder.new }
     ensures full { result ≡ Err NetFault.TooManyNets → 2 ^ 20 < length builder.old.lines + 2 }
 {
@@ -175,7 +182,8 @@ pub fn finish_queue<const N: usize>(
     ensures grows { GrowsInMemory (3 * N + 12) 0 builder.old builder.new }
     ensures waits { (n : ℕ) → ¬ owns queue.now n → IsWaiting builder.old n → IsWaiting builder.new n }
     ensures no_more_wait { OnOk result (WaitsWithout (owns queue.now) builder.old builder.new) }
-    ensures still_wait_for_write { (m : ℕ) → ¬ owns_memories queue.now m → WaitsForWrite builder.old m → WaitsForWrite builder.new m }
+    ensures still_wait_for_write { (m : ℕ) → ¬ owns_memories queue.now m → WaitsForWrite builder.old m
+        → WaitsForWrite builder.new m }
     ensures no_more_write { OnOk result (WriteWaitsWithout (owns_memories queue.now) builder.old builder.new) }
     ensures full { result ≡ Err NetFault.TooManyNets → 2 ^ 20 < length builder.old.lines + (3 * N + 12) }
 {

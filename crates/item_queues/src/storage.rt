@@ -36,7 +36,8 @@ pub(crate) fn make_storage<const N: usize>(
     requires like { AreNets builder.old like.now }
     ensures made { IfOk result (λ storage. IsStorage builder.new like.now bound storage) }
     ensures owned { IfOk result (λ storage. AreMadeBetween (owns_in bound storage) builder.old builder.new) }
-    ensures owned_memories { IfOk result (λ storage. (m : ℕ) → owns_memories_in storage m → (length builder.old.memories ≤ m) × (m < length builder.new.memories)) }
+    ensures owned_memories { IfOk result (λ storage. (m : ℕ) → owns_memories_in storage m
+        → (length builder.old.memories ≤ m) × (m < length builder.new.memories)) }
     ensures grows { GrowsInMemory (3 * N) N builder.old builder.new }
     ensures still_wait { StillWait builder.old builder.new }
     ensures own_wait { IfOk result (λ storage. (n : ℕ) → owns_in bound storage n → IsWaiting builder.new n) }
@@ -44,7 +45,8 @@ pub(crate) fn make_storage<const N: usize>(
     ensures still_wait_for_write { StillWaitForWrite builder.old builder.new }
     ensures own_wait_for_write { IfOk result (λ storage. (m : ℕ) → owns_memories_in storage m → WaitsForWrite builder.new m) }
     ensures newly_written { IfOk result (λ storage. WriteWaitsBeside (owns_memories_in storage) builder.old builder.new) }
-    ensures full { result ≡ Err NetFault.TooManyNets → (2 ^ 20 < length builder.old.lines + 3 * N) ⊎ (2 ^ 16 < length builder.old.memories + N) }
+    ensures full { result ≡ Err NetFault.TooManyNets
+        → (2 ^ 20 < length builder.old.lines + 3 * N) ⊎ (2 ^ 16 < length builder.old.memories + N) }
 {
     if bound < FEWEST_STORED {
         let places = make_places(builder, like, bound)?;
@@ -70,7 +72,8 @@ pub(crate) fn oldest_item<const N: usize>(
     requires storage { IsStorage builder.old like.now bound storage.now }
     ensures nets { IfOk result (λ made. AreNets builder.new made) }
     ensures widths { IfOk result (λ made. group_widths made ≡ group_widths like.now) }
-    ensures value { IfOk result (λ made. Always builder.new (λ cycle. 1 ≤ cycle.net count.number → (coming : List ℕ) → shown_oldest (held_of cycle bound (cycle.net count.number) storage.now) coming ≡ 1 ∷ values_of cycle made)) }
+    ensures value { IfOk result (λ made. Always builder.new (λ cycle. 1 ≤ cycle.net count.number → (coming : List ℕ)
+        → shown_oldest (held_of cycle bound (cycle.net count.number) storage.now) coming ≡ 1 ∷ values_of cycle made)) }
     ensures adds { AddsNets (2 * N + 4) builder.old builder.new }
     ensures full { result ≡ Err NetFault.TooManyNets → 2 ^ 20 < length builder.old.lines + (2 * N + 4) }
 {
@@ -105,7 +108,8 @@ pub(crate) fn finish_storage<const N: usize>(
     ensures grows { GrowsInMemory (3 * N + 6) 0 builder.old builder.new }
     ensures waits { (n : ℕ) → ¬ owns_in bound storage.now n → IsWaiting builder.old n → IsWaiting builder.new n }
     ensures no_more_wait { OnOk result (WaitsWithout (owns_in bound storage.now) builder.old builder.new) }
-    ensures still_wait_for_write { (m : ℕ) → ¬ owns_memories_in storage.now m → WaitsForWrite builder.old m → WaitsForWrite builder.new m }
+    ensures still_wait_for_write { (m : ℕ) → ¬ owns_memories_in storage.now m → WaitsForWrite builder.old m
+        → WaitsForWrite builder.new m }
     ensures no_more_write { OnOk result (WriteWaitsWithout (owns_memories_in storage.now) builder.old builder.new) }
     ensures full { result ≡ Err NetFault.TooManyNets → 2 ^ 20 < length builder.old.lines + (3 * N + 6) }
 {

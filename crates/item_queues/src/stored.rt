@@ -1,4 +1,5 @@
-//! Items in memories, a memory for each net of an item: they stand in a row from the place of the oldest one on, and from the last
+//! Items in memories, a memory for each net of an item: they stand in a row from the place of the oldest one on, and from the
+//! last
 //! place to the first.
 
 ghost use Rattle.std.specs.Prelude.{◌≡◌, ℕ, ◌+◌, ◌^◌, ◌<◌, ◌≤◌, ◌⊎◌, length, IfOk, OnOk};
@@ -33,7 +34,8 @@ pub(crate) fn make_stored<const N: usize>(
     requires like { AreNets builder.old like.now }
     ensures made { IfOk result (λ stored. IsStored builder.new like.now bound stored) }
     ensures owned { IfOk result (λ stored. AreMadeBetween (owns_pointers stored.pointers) builder.old builder.new) }
-    ensures owned_memories { IfOk result (λ stored. (m : ℕ) → InMems stored.memories m → (length builder.old.memories ≤ m) × (m < length builder.new.memories)) }
+    ensures owned_memories { IfOk result (λ stored. (m : ℕ) → InMems stored.memories m
+        → (length builder.old.memories ≤ m) × (m < length builder.new.memories)) }
     ensures grows { GrowsInMemory 2 N builder.old builder.new }
     ensures still_wait { StillWait builder.old builder.new }
     ensures own_wait { IfOk result (λ stored. (n : ℕ) → owns_pointers stored.pointers n → IsWaiting builder.new n) }
@@ -41,7 +43,8 @@ pub(crate) fn make_stored<const N: usize>(
     ensures still_wait_for_write { StillWaitForWrite builder.old builder.new }
     ensures own_wait_for_write { IfOk result (λ stored. (m : ℕ) → InMems stored.memories m → WaitsForWrite builder.new m) }
     ensures newly_written { IfOk result (λ stored. WriteWaitsBeside (InMems stored.memories) builder.old builder.new) }
-    ensures full { result ≡ Err NetFault.TooManyNets → (2 ^ 20 < length builder.old.lines + 2) ⊎ (2 ^ 16 < length builder.old.memories + N) }
+    ensures full { result ≡ Err NetFault.TooManyNets
+        → (2 ^ 20 < length builder.old.lines + 2) ⊎ (2 ^ 16 < length builder.old.memories + N) }
 {
     let bits = address_bits(bound);
     let memories = make_memories(builder, like, bits)?;
@@ -69,7 +72,8 @@ pub(crate) fn finish_stored<const N: usize>(
     ensures grows { GrowsInMemory 6 0 builder.old builder.new }
     ensures waits { (n : ℕ) → ¬ owns_pointers stored.now.pointers n → IsWaiting builder.old n → IsWaiting builder.new n }
     ensures no_more_wait { OnOk result (WaitsWithout (owns_pointers stored.now.pointers) builder.old builder.new) }
-    ensures still_wait_for_write { (m : ℕ) → ¬ InMems stored.now.memories m → WaitsForWrite builder.old m → WaitsForWrite builder.new m }
+    ensures still_wait_for_write { (m : ℕ) → ¬ InMems stored.now.memories m → WaitsForWrite builder.old m
+        → WaitsForWrite builder.new m }
     ensures no_more_write { OnOk result (WriteWaitsWithout (InMems stored.now.memories) builder.old builder.new) }
     ensures full { result ≡ Err NetFault.TooManyNets → 2 ^ 20 < length builder.old.lines + 6 }
 {

@@ -37,7 +37,9 @@ pub record LanesValue : Type 0 where
 
 -- the plain simulator in a lane
 abbrev pub lane_of : LanesValue → ℕ → SimValue
-lane_of lanes j = record { netlist = lanes.netlist; nets = lane_words j lanes.nets; words = (cells_at lanes.cells j).words; stepped = lanes.stepped }
+lane_of lanes j =
+    record
+    { netlist = lanes.netlist; nets = lane_words j lanes.nets; words = (cells_at lanes.cells j).words; stepped = lanes.stepped }
 
 -- the widths of values
 abbrev pub widths_in : List LaneWord → List ℕ
@@ -63,7 +65,8 @@ pub record AreLaneCells (memories : List Memory) (cells : List CellsValue) : Typ
 
 -- in each lane the nets are settled
 abbrev pub AreLanesSettled : Netlist → List LaneWord → List CellsValue → List Bool → ℕ → Type 0
-AreLanesSettled netlist nets cells stale k = (j : ℕ) → j < 8 → AreSettled netlist (lane_words j nets) (cells_at cells j).words stale k
+AreLanesSettled netlist nets cells stale k =
+    (j : ℕ) → j < 8 → AreSettled netlist (lane_words j nets) (cells_at cells j).words stale k
 
 -- what a simulator of eight lanes keeps
 pub record AreLanesSims (lanes : LanesValue) : Type 0 where
@@ -71,20 +74,24 @@ pub record AreLanesSims (lanes : LanesValue) : Type 0 where
   pub each : (j : ℕ) → j < 8 → IsSim (lane_of lanes j)
   pub places : (j : ℕ) → j < 8 → ArePlaces lanes.netlist.memories (cells_at lanes.cells j).places
 
--- A plain simulator evaluates its present cycle with these inputs: what it holds is what the equations give for them and for its registers and
+-- A plain simulator evaluates its present cycle with these inputs: what it holds is what the equations give for them and for its
+-- registers and
 -- memories, and nothing else is; it stands where it stood, and the run with this cycle is one cycle longer.
 pub record IsStepWith (before after : SimValue) (inputs : List Word) : Type 0 where
   pub netlist : after.netlist ≡ before.netlist
   pub valuation : IsValuation after.netlist (present after)
   pub inputs_are : (k w : ℕ) → IsInputPort after.netlist.ports k w → (present after).input k ≡ given_to after.netlist inputs k
   pub state : SameState after.netlist (present before) (present after)
-  pub only : (other : Cycle) → IsValuation after.netlist other → SameInputs after.netlist other (present after) → SameState after.netlist other (present after)
+  pub only : (other : Cycle) → IsValuation after.netlist other → SameInputs after.netlist other (present after)
+      → SameState after.netlist other (present after)
       → SameNets after.netlist other (present after)
   pub stands : (run : Run) (cycles : ℕ) → StandsFor before run cycles → StandsFor after run cycles
-  pub run : (run : Run) (cycles : ℕ) → StandsFor before run cycles → IsClearedRun after.netlist (with_cycle run cycles (present after)) (cycles + 1)
+  pub run : (run : Run) (cycles : ℕ) → StandsFor before run cycles
+      → IsClearedRun after.netlist (with_cycle run cycles (present after)) (cycles + 1)
 
 -- A plain simulator takes the clock's edge.
 pub record IsEdge (before after : SimValue) : Type 0 where
   pub netlist : after.netlist ≡ before.netlist
   pub steps : Steps after.netlist (present before) (present after)
-  pub stands : (run : Run) (cycles : ℕ) → StandsFor before run cycles → StandsFor after (with_cycle run cycles (present before)) (cycles + 1)
+  pub stands : (run : Run) (cycles : ℕ) → StandsFor before run cycles
+      → StandsFor after (with_cycle run cycles (present before)) (cycles + 1)

@@ -79,8 +79,10 @@ impl Cells {
         requires words { AreWords «module».now.memories self.old.words }
         ensures same { self.new.places ≡ self.old.places }
         ensures words { AreWords «module».now.memories self.new.words }
-        ensures written { (m : ℕ) (memory : Memory) → slice_get «module».now.memories m ≡ Some memory → (address : ℕ) → address < 2 ^ memory.address_bits
-            → IfSome memory.write (λ write. bits_at self.new.words (place_of «module».now.memories m + address) ≡ word_after (cycle_with «module».now (lane_words lane nets.now) self.old.words) write m address) }
+        ensures written { (m : ℕ) (memory : Memory) → slice_get «module».now.memories m ≡ Some memory → (address : ℕ)
+            → address < 2 ^ memory.address_bits
+            → IfSome memory.write (λ write. bits_at self.new.words (place_of «module».now.memories m + address)
+            ≡ word_after (cycle_with «module».now (lane_words lane nets.now) self.old.words) write m address) }
     {
         for m in 0..module.memory_count() {
             let memory = module.memory(m);
@@ -111,7 +113,9 @@ pub(crate) fn words_at(module: &Module, cells: &[Cells], memory: u32, address: L
     requires module { IsModule «module».now }
     requires cells { AreLaneCells «module».now.memories cells.now }
     requires memory_is { (k : Memory) × (slice_get «module».now.memories memory ≡ Some k) × (address.width ≡ k.address_bits) }
-    ensures { (j : ℕ) → j < 8 → slice_get (cells_at cells.now j).words (place_of «module».now.memories memory + (value_at address j).bits) ≡ Some (value_at result j) }
+    ensures { (j : ℕ) → j < 8
+        → slice_get (cells_at cells.now j).words (place_of «module».now.memories memory + (value_at address j).bits)
+        ≡ Some (value_at result j) }
 {
     let mut values = [zero(module.memory(memory).width); 8];
     for lane in 0..8 {
@@ -126,8 +130,10 @@ pub(crate) fn write_cells(module: &Module, nets: &[LaneVal], cells: &mut [Cells]
     requires nets { AreLaneNets «module».now.lines nets.now }
     requires cells { AreLaneCells «module».now.memories cells.old }
     ensures cells { AreLaneCells «module».now.memories cells.new }
-    ensures written { (j : ℕ) → j < 8 → (m : ℕ) (memory : Memory) → slice_get «module».now.memories m ≡ Some memory → (address : ℕ) → address < 2 ^ memory.address_bits
-        → IfSome memory.write (λ write. bits_at (cells_at cells.new j).words (place_of «module».now.memories m + address) ≡ word_after (cycle_with «module».now (lane_words j nets.now) (cells_at cells.old j).words) write m address) }
+    ensures written { (j : ℕ) → j < 8 → (m : ℕ) (memory : Memory) → slice_get «module».now.memories m ≡ Some memory
+        → (address : ℕ) → address < 2 ^ memory.address_bits
+        → IfSome memory.write (λ write. bits_at (cells_at cells.new j).words (place_of «module».now.memories m + address)
+        ≡ word_after (cycle_with «module».now (lane_words j nets.now) (cells_at cells.old j).words) write m address) }
 {
     for lane in 0..8 {
         cells[lane as usize].write(module, nets, lane);

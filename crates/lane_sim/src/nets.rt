@@ -41,7 +41,8 @@ pub(crate) fn are_inputs(ports: &[PortLine], inputs: &[LaneVal]) -> bool
 /// What each net has before the first cycle: a register its reset value, the others 0.
 pub(crate) fn first_nets(alloc: Global, module: &Module) -> Result<Vec<LaneVal>, NoMemory>
     ensures nets { IfOk result (λ nets. AreLaneNets «module».now.lines nets.items) }
-    ensures starts { IfOk result (λ nets. (j : ℕ) → j < 8 → (n : ℕ) (line : Line) → slice_get «module».now.lines n ≡ Some line → IfSome (reset_of line.equation) (λ x. bits_at (lane_words j nets.items) n ≡ x)) }
+    ensures starts { IfOk result (λ nets. (j : ℕ) → j < 8 → (n : ℕ) (line : Line) → slice_get «module».now.lines n ≡ Some line
+        → IfSome (reset_of line.equation) (λ x. bits_at (lane_words j nets.items) n ≡ x)) }
 {
     module.well_made();
     let mut nets = Vec::new(alloc);
@@ -57,7 +58,8 @@ fn first_value(module: &Module, net: u32) -> Val
     requires module { IsModule «module».now }
     requires net_is { net < length «module».now.lines }
     ensures width { (line : Line) → slice_get «module».now.lines net ≡ Some line → result.width ≡ line.width }
-    ensures reset { (line : Line) → slice_get «module».now.lines net ≡ Some line → IfSome (reset_of line.equation) (λ x. result.bits ≡ x) }
+    ensures reset { (line : Line) → slice_get «module».now.lines net ≡ Some line
+        → IfSome (reset_of line.equation) (λ x. result.bits ≡ x) }
 {
     match module.equation(net) {
         Equation::Reg { reset, .. } => reset,
@@ -71,7 +73,8 @@ fn value_in(module: &Module, cells: &[Cells], nets: &[LaneVal], net: u32) -> Lan
     requires cells { AreLaneCells «module».now.memories cells.now }
     requires nets { AreLaneNets «module».now.lines nets.now }
     requires net_is { net < length «module».now.lines }
-    ensures { (j : ℕ) → j < 8 → (line : Line) → slice_get «module».now.lines net ≡ Some line → IsGiven «module».now (cells_at cells.now j).words (lane_words j nets.now) net line (value_at result j) }
+    ensures { (j : ℕ) → j < 8 → (line : Line) → slice_get «module».now.lines net ≡ Some line
+        → IsGiven «module».now (cells_at cells.now j).words (lane_words j nets.now) net line (value_at result j) }
 {
     match module.equation(net) {
         Equation::Input { .. } => nets[net as usize],
@@ -110,9 +113,12 @@ fn take_inputs(
     requires stale { length stale.old ≡ block_count «module».now }
     ensures nets { AreLaneNets «module».now.lines nets.new }
     ensures stay { StayStale stale.old stale.new }
-    ensures settled { (j : ℕ) → j < 8 → (words : List Word) → AreSettled «module».now (lane_words j nets.old) words stale.old 0 → AreSettled «module».now (lane_words j nets.new) words stale.new 0 }
-    ensures inputs { (j : ℕ) → j < 8 → (k w : ℕ) → IsInputPort «module».now.ports k w → bits_at (lane_words j nets.new) (input_net «module».now.ports k) ≡ given_to «module».now (lane_words j inputs.now) k }
-    ensures registers { (j : ℕ) → j < 8 → (n : ℕ) (line : Line) → slice_get «module».now.lines n ≡ Some line → is_register line.equation ≡ true → bits_at (lane_words j nets.new) n ≡ bits_at (lane_words j nets.old) n }
+    ensures settled { (j : ℕ) → j < 8 → (words : List Word) → AreSettled «module».now (lane_words j nets.old) words stale.old 0
+        → AreSettled «module».now (lane_words j nets.new) words stale.new 0 }
+    ensures inputs { (j : ℕ) → j < 8 → (k w : ℕ) → IsInputPort «module».now.ports k w
+        → bits_at (lane_words j nets.new) (input_net «module».now.ports k) ≡ given_to «module».now (lane_words j inputs.now) k }
+    ensures registers { (j : ℕ) → j < 8 → (n : ℕ) (line : Line) → slice_get «module».now.lines n ≡ Some line
+        → is_register line.equation ≡ true → bits_at (lane_words j nets.new) n ≡ bits_at (lane_words j nets.old) n }
 {
     for (net, value) in inputs.iter().enumerate() {
         prove!(value.width() == module.width(net as u32));
@@ -165,9 +171,12 @@ pub(crate) fn evaluate(
     requires settled { AreLanesSettled «module».now nets.old cells.now stale.old 0 }
     ensures nets { AreLaneNets «module».now.lines nets.new }
     ensures settled { AreLanesSettled «module».now nets.new cells.now stale.new 0 }
-    ensures valuation { (j : ℕ) → j < 8 → IsValuation «module».now (cycle_with «module».now (lane_words j nets.new) (cells_at cells.now j).words) }
-    ensures inputs { (j : ℕ) → j < 8 → (k w : ℕ) → IsInputPort «module».now.ports k w → bits_at (lane_words j nets.new) (input_net «module».now.ports k) ≡ given_to «module».now (lane_words j inputs.now) k }
-    ensures registers { (j : ℕ) → j < 8 → (n : ℕ) (line : Line) → slice_get «module».now.lines n ≡ Some line → is_register line.equation ≡ true → bits_at (lane_words j nets.new) n ≡ bits_at (lane_words j nets.old) n }
+    ensures valuation { (j : ℕ) → j < 8
+        → IsValuation «module».now (cycle_with «module».now (lane_words j nets.new) (cells_at cells.now j).words) }
+    ensures inputs { (j : ℕ) → j < 8 → (k w : ℕ) → IsInputPort «module».now.ports k w
+        → bits_at (lane_words j nets.new) (input_net «module».now.ports k) ≡ given_to «module».now (lane_words j inputs.now) k }
+    ensures registers { (j : ℕ) → j < 8 → (n : ℕ) (line : Line) → slice_get «module».now.lines n ≡ Some line
+        → is_register line.equation ≡ true → bits_at (lane_words j nets.new) n ≡ bits_at (lane_words j nets.old) n }
 {
     take_inputs(module, readers, inputs, nets, stale);
     for block in 0..block_count(module) {
@@ -193,9 +202,12 @@ pub(crate) fn take_next(
     requires nets { AreLaneNets «module».now.lines nets.old }
     requires stale { length stale.old ≡ block_count «module».now }
     ensures nets { AreLaneNets «module».now.lines nets.new }
-    ensures taken { (j : ℕ) → j < 8 → (n : ℕ) (line : Line) → slice_get «module».now.lines n ≡ Some line → IfSome (next_of line) (λ m. bits_at (lane_words j nets.new) n ≡ bits_at (lane_words j nets.old) m) }
-    ensures others { (j : ℕ) → j < 8 → (n : ℕ) (line : Line) → slice_get «module».now.lines n ≡ Some line → is_register line.equation ≡ false → bits_at (lane_words j nets.new) n ≡ bits_at (lane_words j nets.old) n }
-    ensures settled { (j : ℕ) → j < 8 → (words : List Word) → AreSettled «module».now (lane_words j nets.old) words stale.old 0 → AreSettled «module».now (lane_words j nets.new) words stale.new 0 }
+    ensures taken { (j : ℕ) → j < 8 → (n : ℕ) (line : Line) → slice_get «module».now.lines n ≡ Some line
+        → IfSome (next_of line) (λ m. bits_at (lane_words j nets.new) n ≡ bits_at (lane_words j nets.old) m) }
+    ensures others { (j : ℕ) → j < 8 → (n : ℕ) (line : Line) → slice_get «module».now.lines n ≡ Some line
+        → is_register line.equation ≡ false → bits_at (lane_words j nets.new) n ≡ bits_at (lane_words j nets.old) n }
+    ensures settled { (j : ℕ) → j < 8 → (words : List Word) → AreSettled «module».now (lane_words j nets.old) words stale.old 0
+        → AreSettled «module».now (lane_words j nets.new) words stale.new 0 }
 {
     let count = gather(module, registers, nets, changes);
     for place in 0..count {

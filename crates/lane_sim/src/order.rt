@@ -19,7 +19,8 @@ pub(crate) struct Change {
     pub(crate) value: LaneVal,
 }
 
-/// Gathers what the registers take whose next net differs from them in some lane: how many they are. They stand at the head of the list.
+/// Gathers what the registers take whose next net differs from them in some lane: how many they are. They stand at the head of
+/// the list.
 pub(crate) fn gather(
     module: &Module,
     registers: &[Register],
@@ -31,9 +32,11 @@ pub(crate) fn gather(
     requires nets { AreLaneNets «module».now.lines nets.now }
     requires changes { length changes.old ≡ length registers.now }
     ensures count { result ≤ length changes.new }
-    ensures each { (j : ℕ) → j < 8 → (i : ℕ) (change : WordChange) → i < result → slice_get (lane_changes j changes.new) i ≡ Some change → IsChangeOf registers.now (lane_words j nets.now) change }
+    ensures each { (j : ℕ) → j < 8 → (i : ℕ) (change : WordChange) → i < result
+        → slice_get (lane_changes j changes.new) i ≡ Some change → IsChangeOf registers.now (lane_words j nets.now) change }
     ensures others { (j : ℕ) → j < 8 → (i : ℕ) (register : Register) → slice_get registers.now i ≡ Some register
-        → IsChanged (lane_changes j changes.new) result register.net ⊎ (bits_at (lane_words j nets.now) register.net ≡ bits_at (lane_words j nets.now) register.next) }
+        → IsChanged (lane_changes j changes.new) result register.net
+        ⊎ (bits_at (lane_words j nets.now) register.net ≡ bits_at (lane_words j nets.now) register.next) }
 {
     let mut count = 0;
     for register in registers {

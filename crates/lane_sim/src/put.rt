@@ -29,7 +29,8 @@ pub(crate) fn put(
     requires stale { length stale.old ≡ block_count «module».now }
     ensures value { nets.new ≡ slice_set nets.old net value }
     ensures stay { StayStale stale.old stale.new }
-    ensures stale { (j : ℕ) → j < 8 → bits_at (lane_words j nets.old) net ≢ (value_at value j).bits → AreStale stale.new (list_at readers.now.of_nets net) }
+    ensures stale { (j : ℕ) → j < 8 → bits_at (lane_words j nets.old) net ≢ (value_at value j).bits
+        → AreStale stale.new (list_at readers.now.of_nets net) }
 {
     let same = nets[net as usize].is_same(value);
     nets[net as usize] = value;
@@ -54,7 +55,8 @@ pub(crate) fn mark_written(module: &Module, readers: &Readers, nets: &[LaneVal],
     requires stale { length stale.old ≡ block_count «module».now }
     ensures stay { StayStale stale.old stale.new }
     ensures stale { (j : ℕ) → j < 8 → (m : ℕ) (memory : Memory) → slice_get «module».now.memories m ≡ Some memory
-        → IfSome memory.write (λ write. bits_at (lane_words j nets.now) write.enable ≡ 1 → AreStale stale.new (list_at readers.now.of_memories m)) }
+        → IfSome memory.write (λ write. bits_at (lane_words j nets.now) write.enable ≡ 1
+        → AreStale stale.new (list_at readers.now.of_memories m)) }
 {
     for m in 0..module.memory_count() {
         if is_set_somewhere(nets[module.memory(m).enable as usize]) {

@@ -42,9 +42,11 @@ impl Model for Lanes {
 
     ghost view = { λ s. record { netlist = s.module; nets = s.nets.items; cells = s.cells.items; stepped = s.stepped } };
 
-    ghost invariant = { λ s. AreLanesSims (record { netlist = s.module; nets = s.nets.items; cells = s.cells.items; stepped = s.stepped })
+    ghost invariant = { λ s. AreLanesSims
+        (record { netlist = s.module; nets = s.nets.items; cells = s.cells.items; stepped = s.stepped })
         × AreReaders s.module s.readers.of_nets s.readers.of_memories
-        × AreLanesSettled s.module s.nets.items s.cells.items s.stale.items 0 × AreRegisters s.module.lines s.registers.items × (length s.changes.items ≡ length s.registers.items) };
+        × AreLanesSettled s.module s.nets.items s.cells.items s.stale.items 0 × AreRegisters s.module.lines s.registers.items
+        × (length s.changes.items ≡ length s.registers.items) };
 }
 
 impl Lanes {

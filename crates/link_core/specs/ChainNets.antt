@@ -22,7 +22,8 @@ pub record IsStraightChainOf (firsts seconds : Form → Type 0) (form : Form) : 
   pub between : chain.first.down.word_bytes ≡ chain.first.up.word_bytes
 
 -- both parts are kept, and their registers and memories are apart
-pub record AreBothKept (one two : Netlist → Type 0) (ones twos one_memories two_memories : ℕ → Type 0) (netlist : Netlist) : Type 0 where
+pub record AreBothKept (one two : Netlist → Type 0) (ones twos one_memories two_memories : ℕ → Type 0)
+    (netlist : Netlist) : Type 0 where
   pub first : one netlist
   pub second : two netlist
   pub apart : (n : ℕ) → ones n → ¬ twos n

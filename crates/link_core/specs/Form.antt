@@ -25,7 +25,8 @@ pub record IsStraight (target : Target) (up down : Port) (end : ℕ) : Type 0 wh
 
 -- where commands above are legal and joined ones alike, and answers below are owed
 abbrev pub KeepsStraight : Form → Port → Port → ℕ → Type 0
-KeepsStraight form up down end = AreLegalAt up end → AnswersAreOwed down end → JoinsAlike form.link.target up end → IsStraight form.link.target up down end
+KeepsStraight form up down end =
+    AreLegalAt up end → AnswersAreOwed down end → JoinsAlike form.link.target up end → IsStraight form.link.target up down end
 
 abbrev pub form_of_chain : Form → Form → Form
 form_of_chain first second = record { up = first.up; down = second.down; link = chain_form first.link second.link }

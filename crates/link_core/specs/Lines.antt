@@ -20,12 +20,14 @@ IsLater stages tag later = (c : ℕ) → later (stages + c) ≡ tag c
 -- the line between these ports, whatever tags the answers bear
 abbrev pub KeepsLine : ℕ → Form → Port → Port → Type 0
 KeepsLine stages form up down =
-    (system : System) (agent end : ℕ) (tag later : ℕ → ℕ) → IsLater stages tag later → IsPipeLine system agent form.link.hold stages (tagged_port up later) (tagged_port down tag) end
+    (system : System) (agent end : ℕ) (tag later : ℕ → ℕ) → IsLater stages tag later
+    → IsPipeLine system agent form.link.hold stages (tagged_port up later) (tagged_port down tag) end
 
 -- so many stages in a row
 pub data RunsAsStages : ℕ → Port → Port → Type 0 where
   no_stage : {port : Port} → RunsAsStages 0 port port
-  one_more : {stages : ℕ} {up middle down : Port} → RunsAsPipeStage up middle → RunsAsStages stages middle down → RunsAsStages (suc stages) up down
+  one_more : {stages : ℕ} {up middle down : Port} → RunsAsPipeStage up middle → RunsAsStages stages middle down
+      → RunsAsStages (suc stages) up down
 
 -- their sides by number, of which 0 is the lowest
 pub record HaveNumbers (stages : ℕ) (up down : Port) : Type 0 where

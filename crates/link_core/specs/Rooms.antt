@@ -21,10 +21,20 @@ with_room {told} zero netlist tells = tells (inl refl)
 with_room {told} (suc more) netlist tells = λ few. tells (inr few)
 
 -- where there is room for both parts, there is for the first, and then for the second
-pub first_told : {one told : Type 0} (first second : ℕ) (netlist : Netlist) → (one → told) → WithRoomFor first netlist one → WithRoomFor (first + second) netlist told
+pub first_told : {one told : Type 0} (first second : ℕ) (netlist : Netlist) → (one → told) → WithRoomFor first netlist one
+    → WithRoomFor (first + second) netlist told
 first_told {one} {told} first second netlist tells is =
-    with_room (first + second) netlist (λ room. tells (room_told first netlist (elim room [ inl none ↦ inl (omega (arith, none)) | inr few ↦ inr (omega (arith, few)) ]) is))
+    with_room
+    (first
+    + second) netlist (λ room. tells
+    (room_told first netlist (elim room [ inl none ↦ inl (omega (arith, none)) | inr few ↦ inr (omega (arith, few)) ]) is))
 
-pub second_told : {one told : Type 0} (first second : ℕ) (netlist longer : Netlist) → length longer.memories ≤ length netlist.memories + first → (one → told) → WithRoomFor second longer one → WithRoomFor (first + second) netlist told
+pub second_told : {one told : Type 0} (first second : ℕ) (netlist longer : Netlist)
+    → length longer.memories ≤ length netlist.memories + first → (one → told) → WithRoomFor second longer one
+    → WithRoomFor (first + second) netlist told
 second_told {one} {told} first second netlist longer most tells is =
-    with_room (first + second) netlist (λ room. tells (room_told second longer (elim room [ inl none ↦ inl (omega (arith, none)) | inr few ↦ inr (omega (arith, few, most)) ]) is))
+    with_room
+    (first
+    + second) netlist (λ room. tells
+    (room_told second longer
+    (elim room [ inl none ↦ inl (omega (arith, none)) | inr few ↦ inr (omega (arith, few, most)) ]) is))

@@ -7,7 +7,8 @@ use Rattle.command_nets.specs.Nets.{ShowSame}
 use Rattle.command_nets.specs.declared.nets.CommandNets.{CommandNets}
 use Rattle.link_core.specs.declared.row.Begun.{Begun}
 
-module _ {L H : Type 0} (is_kept : L → H → Netlist → Type 0) (command_in : L → CommandNets → CommandNets → H → Netlist → Type 0) (owns : H → ℕ → Type 0) where
+module _ {L H : Type 0} (is_kept : L → H → Netlist → Type 0) (command_in : L → CommandNets → CommandNets → H → Netlist → Type 0)
+    (owns : H → ℕ → Type 0) where
   -- a link is begun: it has made its command, and its registers wait
   pub record IsBegun (begun : Begun L H) (netlist : Netlist) : Type 0 where
     pub kept : is_kept begun.link begun.kept netlist
@@ -33,7 +34,9 @@ pub record IsPushed {L H : Type 0} (link : L) (from to : CommandNets) (old new :
   pub kept : H
   pub is : new ≡ old ++ record { link = link; from = from; to = to; kept = kept } ∷ []
 
--- in each longer netlist the command below depends neither on wait nor on the answer of its cycle: with one state, one command above leads to one below
+-- in each longer netlist the command below depends neither on wait nor on the answer of its cycle: with one state, one command
+-- above leads to one below
 abbrev pub IgnoresInLonger : Netlist → CommandNets → CommandNets → Type 0
 IgnoresInLonger netlist from to =
-    (longer : Netlist) → Extends netlist longer → (one other : Cycle) → IsValuation longer one → IsValuation longer other → SameState longer one other → ShowSame from one other → ShowSame to one other
+    (longer : Netlist) → Extends netlist longer → (one other : Cycle) → IsValuation longer one → IsValuation longer other
+    → SameState longer one other → ShowSame from one other → ShowSame to one other

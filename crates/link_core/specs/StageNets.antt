@@ -57,17 +57,23 @@ pub record StageCommand (from to : CommandNets) (kept : StageKept) (netlist : Ne
 
 -- after the second call: the stage waits while its second place is full. While its command stands on, what comes goes into
 -- the second place, and else into the first one, and the second one is empty then
-pub record StageAnswer (kept : StageKept) (wait : NetValue) (answer : AnswerNets) (up : NetValue) (back : AnswerNets) (netlist : Netlist) : Type 0 where
+pub record StageAnswer (kept : StageKept) (wait : NetValue) (answer : AnswerNets) (up : NetValue) (back : AnswerNets)
+    (netlist : Netlist) : Type 0 where
   pub waits : Always netlist (λ cycle. is_raised (cycle.net up.number) ≡ is_shown (raw_in cycle kept.second))
   pub first_moves : (run : Run) (cycles : ℕ) → IsRun netlist run cycles → (c : ℕ) → c + 1 < cycles →
-      raw_in (cycle_of run (c + 1)) kept.first ≡ (if is_standing (cycle_of run c) kept.first wait then raw_in (cycle_of run c) kept.first else coming_in (cycle_of run c) kept)
+      raw_in (cycle_of run (c + 1)) kept.first
+      ≡ (if is_standing (cycle_of run c) kept.first wait then raw_in (cycle_of run c) kept.first
+      else coming_in (cycle_of run c) kept)
   pub second_moves : (run : Run) (cycles : ℕ) → IsRun netlist run cycles → (c : ℕ) → c + 1 < cycles →
-      raw_in (cycle_of run (c + 1)) kept.second ≡ (if is_standing (cycle_of run c) kept.first wait then coming_in (cycle_of run c) kept else hidden (coming_in (cycle_of run c) kept))
+      raw_in (cycle_of run (c + 1)) kept.second
+      ≡ (if is_standing (cycle_of run c) kept.first wait then coming_in (cycle_of run c) kept
+      else hidden (coming_in (cycle_of run c) kept))
   pub delayed : IsDelayedAnswer netlist answer back
 
 -- ---- what stands lasts. No contract reads these proofs; the law of the stage cites them
 
-pub stage_keeps_lasts : (kept : StageKept) (old new : Netlist) → StageKeeps kept old → Extends old new → ((n : ℕ) → IsOfCommand kept.first n ⊎ IsOfCommand kept.second n → IsWaiting old n → IsWaiting new n) → StageKeeps kept new
+pub stage_keeps_lasts : (kept : StageKept) (old new : Netlist) → StageKeeps kept old → Extends old new
+    → ((n : ℕ) → IsOfCommand kept.first n ⊎ IsOfCommand kept.second n → IsWaiting old n → IsWaiting new n) → StageKeeps kept new
 stage_keeps_lasts kept old new h e w = record {
   from = command_lasts old new kept.from e h.from;
   first = command_lasts old new kept.first e h.first;
@@ -79,7 +85,8 @@ stage_keeps_lasts kept old new h e w = record {
   apart = h.apart;
 }
 
-pub stage_command_lasts : (from to : CommandNets) (kept : StageKept) (old new : Netlist) → StageCommand from to kept old → Extends old new → StageCommand from to kept new
+pub stage_command_lasts : (from to : CommandNets) (kept : StageKept) (old new : Netlist) → StageCommand from to kept old
+    → Extends old new → StageCommand from to kept new
 stage_command_lasts from to kept old new h e = record {
   from_is = h.from_is;
   to_is = h.to_is;
@@ -87,7 +94,9 @@ stage_command_lasts from to kept old new h e = record {
   second_starts = λ run cycles r. h.second_starts run cycles (e.runs run cycles r);
 }
 
-pub stage_answer_lasts : (kept : StageKept) (wait : NetValue) (answer : AnswerNets) (up : NetValue) (back : AnswerNets) (old new : Netlist) → StageAnswer kept wait answer up back old → Extends old new → StageAnswer kept wait answer up back new
+pub stage_answer_lasts : (kept : StageKept) (wait : NetValue) (answer : AnswerNets) (up : NetValue) (back : AnswerNets)
+    (old new : Netlist)
+    → StageAnswer kept wait answer up back old → Extends old new → StageAnswer kept wait answer up back new
 stage_answer_lasts kept wait answer up back old new h e = record {
   waits = λ cycle v. h.waits cycle (e.valuations cycle v);
   first_moves = λ run cycles r. h.first_moves run cycles (e.runs run cycles r);

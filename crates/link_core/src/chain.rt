@@ -26,11 +26,13 @@ impl<A: Link, B: Link> Link for Chain<A, B> {
 
     ghost has_form = { λ s form. IsChainOf (A.has_form s.first) (B.has_form s.second) form };
 
-    ghost is_straight = { λ s form. IsStraightChainOf (λ first. A.has_form s.first first × A.is_straight s.first first) (λ second. B.has_form s.second second × B.is_straight s.second second) form };
+    ghost is_straight = { λ s form. IsStraightChainOf (λ first. A.has_form s.first first
+        × A.is_straight s.first first) (λ second. B.has_form s.second second × B.is_straight s.second second) form };
 
     ghost runs = { λ s target up down. HasMiddle (λ middle. A.runs s.first target up middle) (λ middle. B.runs s.second target middle down) };
 
-    ghost asks = { λ s target up end. A.asks s.first target up end × ((middle : Port) → A.runs s.first target up middle → B.asks s.second target middle end) };
+    ghost asks = { λ s target up end. A.asks s.first target up end
+        × ((middle : Port) → A.runs s.first target up middle → B.asks s.second target middle end) };
 
     ghost takes = { λ s widths. A.takes s.first widths × B.takes s.second (A.gives s.first widths) };
 
@@ -50,7 +52,8 @@ impl<A: Link, B: Link> Link for Chain<A, B> {
 
     ghost owns_memories = { λ kept m. A.owns_memories kept.0 m ⊎ B.owns_memories kept.1 m };
 
-    ghost is_kept = { λ s kept netlist. AreBothKept (A.is_kept s.first kept.0) (B.is_kept s.second kept.1) (A.owns kept.0) (B.owns kept.1) (A.owns_memories kept.0) (B.owns_memories kept.1) netlist };
+    ghost is_kept = { λ s kept netlist. AreBothKept (A.is_kept s.first kept.0) (B.is_kept s.second kept.1) (A.owns kept.0)
+        (B.owns kept.1) (A.owns_memories kept.0) (B.owns_memories kept.1) netlist };
 
     ghost command_in = { λ s from to kept netlist. HasMiddle (λ middle. A.command_in s.first from middle kept.0 netlist) (λ middle. B.command_in s.second middle to kept.1 netlist) };
 

@@ -33,12 +33,18 @@ pub trait Delay: Link {
 
     /// The stages and the line, in each endless run of each netlist that has both of its calls.
     fn line(&self)
-        ensures machines { (form : Form) (from to : CommandNets) (kept : Self.Held) (wait up : NetValue) (answer back : AnswerNets) (netlist : Netlist)
-            → has_line self.now form → Self.command_in self.now from to kept netlist → Self.answer_in self.now kept wait answer up back netlist
-            → (run : Run) → IsEndlessRun netlist run → RunsAsStages (stages self.now) (port_in form.up run from up back) (port_in form.down run to wait answer) }
-        ensures line { (form : Form) (from to : CommandNets) (kept : Self.Held) (wait up : NetValue) (answer back : AnswerNets) (netlist : Netlist)
-            → has_line self.now form → Self.command_in self.now from to kept netlist → Self.answer_in self.now kept wait answer up back netlist
-            → (run : Run) → IsEndlessRun netlist run → KeepsLine (stages self.now) form (port_in form.up run from up back) (port_in form.down run to wait answer) };
+        ensures machines { (form : Form) (from to : CommandNets) (kept : Self.Held) (wait up : NetValue)
+            (answer back : AnswerNets) (netlist : Netlist)
+            → has_line self.now form → Self.command_in self.now from to kept netlist
+            → Self.answer_in self.now kept wait answer up back netlist
+            → (run : Run) → IsEndlessRun netlist run
+            → RunsAsStages (stages self.now) (port_in form.up run from up back) (port_in form.down run to wait answer) }
+        ensures line { (form : Form) (from to : CommandNets) (kept : Self.Held) (wait up : NetValue) (answer back : AnswerNets)
+            (netlist : Netlist)
+            → has_line self.now form → Self.command_in self.now from to kept netlist
+            → Self.answer_in self.now kept wait answer up back netlist
+            → (run : Run) → IsEndlessRun netlist run
+            → KeepsLine (stages self.now) form (port_in form.up run from up back) (port_in form.down run to wait answer) };
 }
 
 impl Delay for Pass {
@@ -80,12 +86,14 @@ pub fn stages_have_numbers()
 
 /// Between sides of one shape they are the machine of a pipe, with any tags that rise through them.
 pub fn stages_are_a_pipe()
-    ensures { (stages : ℕ) (up down : Port) → RunsAsStages stages up down → up.shape ≡ down.shape → (tag : ℕ → ℕ → ℕ) → TagsRise stages tag
+    ensures { (stages : ℕ) (up down : Port) → RunsAsStages stages up down → up.shape ≡ down.shape → (tag : ℕ → ℕ → ℕ)
+        → TagsRise stages tag
         → HasPipe stages (tagged_port up (tag 0)) (tagged_port down (tag stages)) }
 {}
 
 /// Where all commands above bear one tag, a net that shows that tag can stand for the tag of those below.
 pub fn stages_keep_one_tag()
-    ensures { (stages : ℕ) (up down : Port) → RunsAsStages stages up down → (tag : ℕ) (tags : ℕ → ℕ) → ((c : ℕ) → tags c ≡ tag) → up.commands.tag ≡ tags
+    ensures { (stages : ℕ) (up down : Port) → RunsAsStages stages up down → (tag : ℕ) (tags : ℕ → ℕ) → ((c : ℕ) → tags c ≡ tag)
+        → up.commands.tag ≡ tags
         → RunsAsStages stages up (with_tag tags down) }
 {}

@@ -91,7 +91,8 @@ pub trait Link {
         ensures written { IfOk result (λ p. ForwardMemories (memories self.now) (owns_memories p.1) builder.old builder.new) }
 
         // With room for its memories. Memory may run out at any net.
-        ensures full { result ≡ Err NetFault.TooManyNets → WithRoomFor (memories self.now) builder.old (2 ^ 20 < length builder.old.lines + command_nets self.now) };
+        ensures full { result ≡ Err NetFault.TooManyNets
+            → WithRoomFor (memories self.now) builder.old (2 ^ 20 < length builder.old.lines + command_nets self.now) };
 
     /// Makes the nets of wait and answer upstream from those downstream, whose word has so many bits.
     fn emit_answer(
@@ -118,18 +119,27 @@ pub trait Link {
 
     /// The law, in each endless run of each netlist that has both. It is kept as long as commands above are as the link asks.
     fn law(&self)
-        ensures keeps { (form : Form) (from to : CommandNets) (kept : Self.Held) (wait up : NetValue) (answer back : AnswerNets) (netlist : Netlist)
-            → has_form self.now form → command_in self.now from to kept netlist → answer_in self.now kept wait answer up back netlist
-            → (run : Run) → IsEndlessRun netlist run → (end : ℕ) → ((c : ℕ) → c ≤ end → asks self.now form.link.target (port_in form.up run from up back) c)
+        ensures keeps { (form : Form) (from to : CommandNets) (kept : Self.Held) (wait up : NetValue) (answer back : AnswerNets)
+            (netlist : Netlist)
+            → has_form self.now form → command_in self.now from to kept netlist
+            → answer_in self.now kept wait answer up back netlist
+            → (run : Run) → IsEndlessRun netlist run → (end : ℕ)
+            → ((c : ℕ) → c ≤ end → asks self.now form.link.target (port_in form.up run from up back) c)
             → KeepsLaw form (port_in form.up run from up back) (port_in form.down run to wait answer) end }
 
-        ensures machine { (form : Form) (from to : CommandNets) (kept : Self.Held) (wait up : NetValue) (answer back : AnswerNets) (netlist : Netlist)
-            → has_form self.now form → command_in self.now from to kept netlist → answer_in self.now kept wait answer up back netlist
-            → (run : Run) → IsEndlessRun netlist run → runs self.now form.link.target (port_in form.up run from up back) (port_in form.down run to wait answer) }
+        ensures machine { (form : Form) (from to : CommandNets) (kept : Self.Held) (wait up : NetValue) (answer back : AnswerNets)
+            (netlist : Netlist)
+            → has_form self.now form → command_in self.now from to kept netlist
+            → answer_in self.now kept wait answer up back netlist
+            → (run : Run) → IsEndlessRun netlist run
+            → runs self.now form.link.target (port_in form.up run from up back) (port_in form.down run to wait answer) }
 
-        ensures straight { (form : Form) (from to : CommandNets) (kept : Self.Held) (wait up : NetValue) (answer back : AnswerNets) (netlist : Netlist)
-            → is_straight self.now form → command_in self.now from to kept netlist → answer_in self.now kept wait answer up back netlist
-            → (run : Run) → IsEndlessRun netlist run → (end : ℕ) → ((c : ℕ) → c ≤ end → asks self.now form.link.target (port_in form.up run from up back) c)
+        ensures straight { (form : Form) (from to : CommandNets) (kept : Self.Held) (wait up : NetValue)
+            (answer back : AnswerNets) (netlist : Netlist)
+            → is_straight self.now form → command_in self.now from to kept netlist
+            → answer_in self.now kept wait answer up back netlist
+            → (run : Run) → IsEndlessRun netlist run → (end : ℕ)
+            → ((c : ℕ) → c ≤ end → asks self.now form.link.target (port_in form.up run from up back) c)
             → KeepsStraight form (port_in form.up run from up back) (port_in form.down run to wait answer) end }
 
         // The command that is shown downstream in a cycle doesn't depend on wait or on the answer of that cycle: two
@@ -141,12 +151,15 @@ pub trait Link {
             → ShowSame from one other → ShowSame to one other };
 
     /// What is kept lasts while its registers and memories wait.
-    ghost kept_lasts: { (s : Self) (kept : Self.Held) (old new : Netlist) → is_kept s kept old → Extends old new → ((n : ℕ) → owns kept n → IsWaiting old n → IsWaiting new n)
+    ghost kept_lasts: { (s : Self) (kept : Self.Held) (old new : Netlist) → is_kept s kept old → Extends old new
+        → ((n : ℕ) → owns kept n → IsWaiting old n → IsWaiting new n)
         → ((m : ℕ) → owns_memories kept m → WaitsForWrite old m → WaitsForWrite new m) → is_kept s kept new };
 
     /// What stands in a netlist stands in each longer one.
-    ghost command_lasts: { (s : Self) (from to : CommandNets) (kept : Self.Held) (old new : Netlist) → command_in s from to kept old → Extends old new → command_in s from to kept new };
+    ghost command_lasts: { (s : Self) (from to : CommandNets) (kept : Self.Held) (old new : Netlist)
+        → command_in s from to kept old → Extends old new → command_in s from to kept new };
 
-    ghost answer_lasts: { (s : Self) (kept : Self.Held) (wait : NetValue) (answer : AnswerNets) (up : NetValue) (back : AnswerNets) (old new : Netlist)
+    ghost answer_lasts: { (s : Self) (kept : Self.Held) (wait : NetValue) (answer : AnswerNets) (up : NetValue)
+        (back : AnswerNets) (old new : Netlist)
         → answer_in s kept wait answer up back old → Extends old new → answer_in s kept wait answer up back new };
 }

@@ -45,7 +45,8 @@ fn stands_on(builder: &mut Builder, first: &CommandNets, wait: Net) -> Result<Ne
     requires first { AreCommandNets builder.old first.now }
     requires wait { IsBit builder.old wait }
     ensures net { IfOk result (λ n. IsBit builder.new n) }
-    ensures value { IfOk result (λ n. Always builder.new (λ cycle. is_raised (cycle.net n.number) ≡ is_standing cycle first.now wait)) }
+    ensures value { IfOk result (λ n. Always builder.new (λ cycle. is_raised (cycle.net n.number)
+        ≡ is_standing cycle first.now wait)) }
     ensures adds { AddsNets 2 builder.old builder.new }
     ensures full { result ≡ Err NetFault.TooManyNets → 2 ^ 20 < length builder.old.lines + 2 }
 {
@@ -67,9 +68,12 @@ fn next_places(builder: &mut Builder, kept: &StageKept, wait: Net) -> Result<Nex
     ensures second_nets { IfOk result (λ next. AreCommandNets builder.new next.second) }
     ensures first_same { IfOk result (λ next. HaveSameWidths kept.now.first next.first) }
     ensures second_same { IfOk result (λ next. HaveSameWidths kept.now.second next.second) }
-    ensures is_full { IfOk result (λ next. Always builder.new (λ cycle. is_raised (cycle.net next.full.number) ≡ is_shown (raw_in cycle kept.now.second))) }
-    ensures first_next { IfOk result (λ next. Always builder.new (λ cycle. raw_in cycle next.first ≡ (if is_standing cycle kept.now.first wait then raw_in cycle kept.now.first else coming_in cycle kept.now))) }
-    ensures second_next { IfOk result (λ next. Always builder.new (λ cycle. raw_in cycle next.second ≡ (if is_standing cycle kept.now.first wait then coming_in cycle kept.now else hidden (coming_in cycle kept.now)))) }
+    ensures is_full { IfOk result (λ next. Always builder.new (λ cycle. is_raised (cycle.net next.full.number)
+        ≡ is_shown (raw_in cycle kept.now.second))) }
+    ensures first_next { IfOk result (λ next. Always builder.new (λ cycle. raw_in cycle next.first
+        ≡ (if is_standing cycle kept.now.first wait then raw_in cycle kept.now.first else coming_in cycle kept.now))) }
+    ensures second_next { IfOk result (λ next. Always builder.new (λ cycle. raw_in cycle next.second
+        ≡ (if is_standing cycle kept.now.first wait then coming_in cycle kept.now else hidden (coming_in cycle kept.now)))) }
     ensures adds { AddsNets 21 builder.old builder.new }
     ensures full { result ≡ Err NetFault.TooManyNets → 2 ^ 20 < length builder.old.lines + 21 }
 {

@@ -30,7 +30,8 @@ link_rule connection number = if is_mm connection.kind then MmRule number else S
 
 -- the connection of this number breaks no rule on its ends
 abbrev pub KeepsLinkRules : SystemTable → ℕ → Type 0
-KeepsLinkRules system k = (connection : Connection) → slice_get system.connections k ≡ Some connection → KeepsAll (tests_of system connection)
+KeepsLinkRules system k =
+    (connection : Connection) → slice_get system.connections k ≡ Some connection → KeepsAll (tests_of system connection)
 
 -- this is the least rule that the connection breaks
 pub record IsRefused (system : SystemTable) (k : ℕ) (rule : LinkRule) : Type 0 where
@@ -51,7 +52,8 @@ is_stream _ = false
 
 -- the streams by their numbers: the numbers of their connections
 abbrev pub streams_of : SystemTable → List ℕ
-streams_of system = filter_map (λ numbered. if is_stream numbered.1.kind then Some numbered.0 else None) (enumerate_from 0 system.connections)
+streams_of system =
+    filter_map (λ numbered. if is_stream numbered.1.kind then Some numbered.0 else None) (enumerate_from 0 system.connections)
 
 -- L1: more than 16 hosts; L2: more than 32 agents; L3: more than 16 streams
 abbrev pub too_many : ℕ → ℕ → ℕ → List Bool
@@ -82,4 +84,6 @@ IsCause system NoMemory = Unit {0}
 
 -- bounds the nets of a system's module, and so the work of a cycle
 abbrev pub weight_of : SystemTable → ℕ
-weight_of system = 64 + 2048 * length (hosts_of system) + 8192 * length (agents_of system) + 1024 * length (mm_connections system) + 8192 * length (streams_of system)
+weight_of system =
+    64 + 2048 * length (hosts_of system) + 8192 * length (agents_of system) + 1024 * length (mm_connections system)
+    + 8192 * length (streams_of system)

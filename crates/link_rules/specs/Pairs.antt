@@ -39,8 +39,10 @@ has_setup_or_hold agent = agent.setup_hold
 
 -- the tests of a host and an agent by their numbers, from P1; P8 is an end on another clock than the system's
 abbrev pub mm_tests : HostPort → AgentPort → Bool → List Bool
-mm_tests host agent same_clock = cannot_wait host ∷ allows_more host agent ∷ is_too_wide host agent ∷ has_write_response host agent
-    ∷ has_nothing_in_common host agent ∷ is_unsupported host agent ∷ has_odd_bursts host agent ∷ not same_clock ∷ has_setup_or_hold agent ∷ []
+mm_tests host agent same_clock =
+    cannot_wait host ∷ allows_more host agent ∷ is_too_wide host agent ∷ has_write_response host agent
+    ∷ has_nothing_in_common host agent ∷ is_unsupported host agent ∷ has_odd_bursts host agent ∷ not same_clock
+    ∷ has_setup_or_hold agent ∷ []
 
 -- S1: unequal bits per symbol
 abbrev pub has_other_symbols : StreamPort → StreamPort → Bool
@@ -84,7 +86,9 @@ is_too_late source sink = is_late source || is_late sink
 
 -- with `ready` a `readyAllowance` below the ready latency, or above it where that is 0; without it one other than `readyLatency`
 abbrev pub is_odd : StreamPort → Bool
-is_odd end = if end.ready then nat_lt end.allowance end.latency || ((end.latency == 0) && nat_lt 0 end.allowance) else not (end.allowance == end.latency)
+is_odd end =
+    if end.ready then nat_lt end.allowance end.latency || ((end.latency == 0) && nat_lt 0 end.allowance)
+    else not (end.allowance == end.latency)
 
 -- S9: such a one at either end
 abbrev pub has_odd_allowance : StreamPort → StreamPort → Bool
@@ -93,7 +97,8 @@ has_odd_allowance source sink = is_odd source || is_odd sink
 -- the tests of a source and a sink by their numbers, from S1; S8 is an end on another clock than the system's
 abbrev pub stream_tests : StreamPort → StreamPort → Bool → List Bool
 stream_tests source sink same_clock = has_other_symbols source sink ∷ has_packets_at_one_end source sink ∷ loses_beats source sink
-    ∷ joins_channels source sink ∷ has_other_errors source sink ∷ is_too_long source sink ∷ is_too_late source sink ∷ not same_clock
+    ∷ joins_channels source sink ∷ has_other_errors source sink ∷ is_too_long source sink ∷ is_too_late source sink
+    ∷ not same_clock
     ∷ has_odd_allowance source sink ∷ []
 
 -- the test of this number, counted from 1, is true

@@ -32,7 +32,8 @@ stream_connection_as number connection _ _ = None
 
 -- the link of a connection, by its number
 abbrev pub stream_connection : SystemTable → ℕ × Connection → Option StreamConnection
-stream_connection system numbered = stream_connection_as numbered.0 numbered.1 (known_at system numbered.1.start) (known_at system numbered.1.end)
+stream_connection system numbered =
+    stream_connection_as numbered.0 numbered.1 (known_at system numbered.1.start) (known_at system numbered.1.end)
 
 -- the links of the streams, by the streams' numbers
 abbrev pub stream_connections : SystemTable → List StreamConnection
@@ -57,7 +58,8 @@ memory_connection_as hosts agents number connection _ _ = None
 
 abbrev pub memory_connection : SystemTable → ℕ × Connection → Option MemoryConnection
 memory_connection system numbered =
-    memory_connection_as (hosts_of system) (agents_of system) numbered.0 numbered.1 (known_at system numbered.1.start) (known_at system numbered.1.end)
+    memory_connection_as (hosts_of system) (agents_of system) numbered.0 numbered.1 (known_at system numbered.1.start)
+    (known_at system numbered.1.end)
 
 -- the links of hosts to agents, in the order of their connections
 abbrev pub memory_connections : SystemTable → List MemoryConnection

@@ -36,7 +36,8 @@ pub record IsPlan (plan : PlanTable) : Type 0 where
   pub limits : KeepsAll (limit_tests plan.system)
 
 -- what is kept beside a plan
-pub record AreNumbered (plan : PlanTable) (hosts agents : List EndId) (streams : List ℕ) (stream_list : List StreamConnection) (memory_list : List MemoryConnection) : Type 0 where
+pub record AreNumbered (plan : PlanTable) (hosts agents : List EndId) (streams : List ℕ) (stream_list : List StreamConnection)
+    (memory_list : List MemoryConnection) : Type 0 where
   pub is_plan : IsPlan plan
   pub hosts_are : hosts ≡ hosts_of plan.system
   pub agents_are : agents ≡ agents_of plan.system

@@ -9,7 +9,9 @@ ghost use Rattle.link_rules.specs.Plans.{IsPlan, instance_name_at, interface_nam
 
 use crate::faults::PlanFault;
 use crate::links::{check_limits, check_links, mm_count, streams};
-use crate::plan_connections::{MemoryConnection, StreamConnection, memory_connections, stream_connections};
+use crate::plan_connections::{
+    MemoryConnection, StreamConnection, memory_connections, stream_connections,
+};
 use address_map::{Ends, Maps, ends_have_one_number, mm_ends};
 use av_base::{List, NoMemory};
 use iface_roles::{Finished, Side};
@@ -54,7 +56,8 @@ impl Numbers {
 
     /// Judges how many there are by the limits.
     fn check(&self) -> Result<(), PlanFault>
-        ensures within { OnOk result (KeepsAll (too_many (length self.now.hosts) (length self.now.agents) (length self.now.streams))) }
+        ensures within { OnOk result
+            (KeepsAll (too_many (length self.now.hosts) (length self.now.agents) (length self.now.streams))) }
         ensures passed { IfErr result (IsPassedBy (length self.now.hosts) (length self.now.agents) (length self.now.streams)) }
     {
         check_limits(
@@ -110,7 +113,13 @@ impl Model for Plan {
 
     ghost view = { λ p. record { system = p.system; maps = p.maps } };
 
-    ghost invariant = { λ p. AreNumbered (record { system = p.system; maps = p.maps }) p.numbers.hosts p.numbers.agents p.numbers.streams p.stream_connections p.memory_connections };
+    ghost invariant = { λ p. AreNumbered
+        (record {
+          system =
+              p.system;
+          maps =
+              p.maps;
+        }) p.numbers.hosts p.numbers.agents p.numbers.streams p.stream_connections p.memory_connections };
 }
 
 impl Plan {
@@ -126,7 +135,12 @@ impl Plan {
     {
         let numbers = Numbers::judged(alloc, system)?;
         let stream_connections = stream_connections(alloc, system)?;
-        let memory_connections = memory_connections(alloc, system, &numbers.hosts, &numbers.agents)?;
+        let memory_connections = memory_connections(
+            alloc,
+            system,
+            &numbers.hosts,
+            &numbers.agents,
+        )?;
         system.well_made();
         let system = system.copy(alloc)?;
         Ok(Plan {

@@ -38,7 +38,11 @@ pub struct MemoryConnection {
 }
 
 /// The link of a connection, where it joins a source to a sink.
-fn stream_connection(system: &System, number: u32, connection: Connection) -> Option<StreamConnection>
+fn stream_connection(
+    system: &System,
+    number: u32,
+    connection: Connection,
+) -> Option<StreamConnection>
     requires { IsLogic system.now connection }
     ensures { result ≡ stream_connection system.now (number, connection) }
 {
@@ -58,7 +62,10 @@ fn stream_connection(system: &System, number: u32, connection: Connection) -> Op
 }
 
 /// The links of the streams, in the order of their connections.
-pub(crate) fn stream_connections(alloc: Global, system: &System) -> Result<List<StreamConnection>, NoMemory>
+pub(crate) fn stream_connections(
+    alloc: Global,
+    system: &System,
+) -> Result<List<StreamConnection>, NoMemory>
     requires { length system.now.connections ≤ 2 ^ 32 }
     ensures { IfOk result (λ links. links ≡ stream_connections system.now) }
 {

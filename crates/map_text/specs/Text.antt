@@ -35,7 +35,8 @@ shares_text number shares = codes " connection " ++ decimal number ++ codes " sh
 -- the line of an entry of this connection
 abbrev pub entry_line_of : SystemTable → MapEntry → Connection → List ℕ
 entry_line_of system entry connection =
-    codes "  " ++ range_text entry ++ codes " " ++ end_name system connection.end ++ shares_text entry.connection connection.shares
+    codes "  " ++ range_text entry ++ codes " " ++ end_name system connection.end
+    ++ shares_text entry.connection connection.shares
 
 -- the line of an entry, by the number of its connection
 abbrev pub entry_line : SystemTable → MapEntry → List ℕ
@@ -52,7 +53,8 @@ hosts_text plan = flat_map (λ mapped. host_lines plan.system mapped.0 mapped.1)
 -- the line of a stream of this number and connection
 abbrev pub stream_line_of : SystemTable → ℕ → Connection → List ℕ
 stream_line_of system number connection =
-    codes "stream " ++ end_name system connection.start ++ codes " to " ++ end_name system connection.end ++ codes " connection " ++ decimal number ++ codes "\n"
+    codes "stream " ++ end_name system connection.start ++ codes " to " ++ end_name system connection.end ++ codes " connection "
+    ++ decimal number ++ codes "\n"
 
 -- the line of a stream, by the number of its connection
 abbrev pub stream_line : SystemTable → ℕ → List ℕ
@@ -64,11 +66,13 @@ streams_text system = flat_map (stream_line system) (streams_of system)
 
 abbrev pub counts_line : ℕ → ℕ → ℕ → ℕ → List ℕ
 counts_line hosts agents streams weight =
-    codes "accepted hosts " ++ decimal hosts ++ codes " agents " ++ decimal agents ++ codes " streams " ++ decimal streams ++ codes " weight " ++ decimal weight ++ codes "\n"
+    codes "accepted hosts " ++ decimal hosts ++ codes " agents " ++ decimal agents ++ codes " streams " ++ decimal streams
+    ++ codes " weight " ++ decimal weight ++ codes "\n"
 
 -- how many hosts, agents and streams there are, and the weight
 abbrev pub accepted_line : SystemTable → List ℕ
-accepted_line system = counts_line (length (hosts_of system)) (length (agents_of system)) (length (streams_of system)) (weight_of system)
+accepted_line system =
+    counts_line (length (hosts_of system)) (length (agents_of system)) (length (streams_of system)) (weight_of system)
 
 -- the text of a plan
 abbrev pub map_text : PlanTable → List ℕ

@@ -93,7 +93,8 @@ fn put_entry(text: &mut String, plan: &Plan, entry: MapEntry) -> Result<(), NoMe
 
 /// Appends the lines of a host's map.
 fn put_entries(text: &mut String, plan: &Plan, entries: &[MapEntry]) -> Result<(), NoMemory>
-    requires { (k : ℕ) (entry : Entry) → slice_get entries.now k ≡ Some entry → (host : Id) × IsEntryOf plan.now.system host entry }
+    requires { (k : ℕ) (entry : Entry) → slice_get entries.now k ≡ Some entry
+        → (host : Id) × IsEntryOf plan.now.system host entry }
     ensures { OnOk result (string_bytes text.new ≡ string_bytes text.old ++ flat_map (entry_line plan.now.system) entries.now) }
 {
     for entry in entries {

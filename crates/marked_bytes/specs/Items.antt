@@ -116,7 +116,8 @@ may_stand inside before channel first = if inside then (not first && channel == 
 -- each byte may stand where it does
 abbrev pub are_in_packets : Bool → ℕ → List PacketByte → Bool
 are_in_packets inside before [] = true
-are_in_packets inside before (byte ∷ rest) = may_stand inside before byte.channel byte.first && are_in_packets (not byte.last) byte.channel rest
+are_in_packets inside before (byte ∷ rest) =
+    may_stand inside before byte.channel byte.first && are_in_packets (not byte.last) byte.channel rest
 
 -- a packet: its channel, and its bytes
 pub record Packet : Type 0 where
@@ -127,7 +128,8 @@ pub record Packet : Type 0 where
 abbrev pub marked_bytes : ℕ → Bool → List ℕ → List PacketByte
 marked_bytes channel first [] = []
 marked_bytes channel first (byte ∷ []) = record { channel = channel; first = first; last = true; byte = byte } ∷ []
-marked_bytes channel first (byte ∷ next ∷ rest) = record { channel = channel; first = first; last = false; byte = byte } ∷ marked_bytes channel false (next ∷ rest)
+marked_bytes channel first (byte ∷ next ∷ rest) =
+    record { channel = channel; first = first; last = false; byte = byte } ∷ marked_bytes channel false (next ∷ rest)
 
 abbrev pub packet_bytes : Packet → List PacketByte
 packet_bytes packet = marked_bytes packet.channel true packet.bytes

@@ -32,7 +32,15 @@ may_give unpacker = may_stand unpacker.is_inside unpacker.channel (channel_now u
 
 abbrev pub gives : Unpacker → ℕ → Step
 gives before byte = step
-    (record { channel = channel_now before; is_inside = not before.last; first = false; last = false; marked = None; awaits = Symbol })
+    (record {
+      channel =
+          channel_now before;
+      is_inside = not before.last;
+      first = false;
+      last = false;
+      marked = None;
+      awaits = Symbol;
+    })
     (Byte (record { channel = channel_now before; first = before.first; last = before.last; byte = byte }))
 
 abbrev pub marks_channel : Unpacker → ℕ → Step
@@ -76,4 +84,6 @@ awaits_symbol (Nothing rule) = false
 
 -- no item and no packet is begun
 abbrev pub rests : Unpacker → Bool
-rests unpacker = awaits_symbol unpacker.awaits && (not unpacker.is_inside && (not unpacker.first && (not unpacker.last && not (is_some unpacker.marked))))
+rests unpacker =
+    awaits_symbol unpacker.awaits
+    && (not unpacker.is_inside && (not unpacker.first && (not unpacker.last && not (is_some unpacker.marked))))

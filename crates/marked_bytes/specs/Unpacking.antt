@@ -29,7 +29,8 @@ awaits_some (Nothing rule) = false
 abbrev pub may_follow : List Item → List Mark → Bool
 may_follow items marks =
     let before = given 0 items in
-    may_stand (is_inside_behind false before) (channel_behind 0 before) (channel_of (channel_behind 0 before) marks) (has_first marks)
+    may_stand (is_inside_behind false before) (channel_behind 0 before) (channel_of (channel_behind 0 before) marks)
+    (has_first marks)
 
 -- data begins behind an escape
 abbrev pub may_begin : Awaits → List Item → List Mark → Bool
@@ -95,7 +96,8 @@ is_escaped (Spelled.Itself byte) = false
 is_escaped (Spelled.Escaped byte) = true
 
 -- the item that an unpacker gives behind items, at this byte: its data is escaped where it was due so
-pub record IsGiven (fed : List ℕ) (items : List Item) (before : Unpacker) (byte : ℕ) (shown : PacketByte) (item : Item) (after : Unpacker) : Type 0 where
+pub record IsGiven (fed : List ℕ) (items : List Item) (before : Unpacker) (byte : ℕ) (shown : PacketByte) (item : Item)
+    (after : Unpacker) : Type 0 where
   pub is : shown ≡ packet_byte (channel_behind 0 (given 0 items)) item
   pub escaped : is_escaped item.byte ≡ is_escaping before.awaits
   pub spelled : fed ++ byte ∷ [] ≡ items_spelling (items ++ item ∷ [])

@@ -35,7 +35,8 @@ fn put_byte<K: Sink>(byte: u8, sink: &mut K) -> bool
 
 /// Writes bytes, those that stand for themselves as they lie.
 fn put_bytes<K: Sink>(bytes: &[u8], sink: &mut K) -> bool
-    ensures { Writes (spelled_bytes bytes.now) (K.held sink.old) (K.held sink.new) (K.faults sink.old) (K.faults sink.new) result }
+    ensures { Writes (spelled_bytes bytes.now) (K.held sink.old) (K.held sink.new) (K.faults sink.old)
+        (K.faults sink.new) result }
 {
     let mut done = 0;
     'bytes: while done < bytes.len() {
@@ -56,7 +57,8 @@ fn put_bytes<K: Sink>(bytes: &[u8], sink: &mut K) -> bool
 }
 
 fn put_header<K: Sink>(channel: u8, sink: &mut K) -> bool
-    ensures { Writes (0x7c ∷ spelled_byte channel ++ 0x7a ∷ []) (K.held sink.old) (K.held sink.new) (K.faults sink.old) (K.faults sink.new) result }
+    ensures { Writes (0x7c ∷ spelled_byte channel ++ 0x7a ∷ []) (K.held sink.old) (K.held sink.new) (K.faults sink.old)
+        (K.faults sink.new) result }
 {
     if is_plain(channel) {
         put_all(sink, &[CHANNEL, channel, FIRST])
@@ -66,7 +68,8 @@ fn put_header<K: Sink>(channel: u8, sink: &mut K) -> bool
 }
 
 fn put_last<K: Sink>(byte: u8, sink: &mut K) -> bool
-    ensures { Writes (0x7b ∷ spelled_byte byte) (K.held sink.old) (K.held sink.new) (K.faults sink.old) (K.faults sink.new) result }
+    ensures { Writes (0x7b ∷ spelled_byte byte) (K.held sink.old) (K.held sink.new) (K.faults sink.old)
+        (K.faults sink.new) result }
 {
     if is_plain(byte) {
         put_all(sink, &[LAST, byte])
@@ -89,7 +92,8 @@ fn put_body<K: Sink>(bytes: &[u8], sink: &mut K) -> bool
 /// Writes a packet on a channel: whether it was written whole. It takes no memory.
 pub fn pack<K: Sink>(channel: u8, bytes: &[u8], sink: &mut K) -> bool
     requires { 0 < length bytes.now }
-    ensures { Writes (packed channel bytes.now) (K.held sink.old) (K.held sink.new) (K.faults sink.old) (K.faults sink.new) result }
+    ensures { Writes (packed channel bytes.now) (K.held sink.old) (K.held sink.new) (K.faults sink.old)
+        (K.faults sink.new) result }
 {
     if !put_header(channel, sink) {
         return false;

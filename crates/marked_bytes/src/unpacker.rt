@@ -23,7 +23,8 @@ pub enum Fed {
     More,
     /// A byte of a packet ends here.
     Byte(PacketByte),
-    /// The number of the rule that this byte or an earlier one breaks: 1 where a mark stands in place of a channel, 2 where data stands
+    /// The number of the rule that this byte or an earlier one breaks: 1 where a mark stands in place of a channel, 2 where data
+    /// stands
     /// outside a packet, or is marked inside one as the first or with another channel.
     Bad(u8),
 }
@@ -177,7 +178,8 @@ impl Unpacker {
     /// Reads the next byte.
     pub fn feed(&mut self, byte: u8) -> Fed
         // Behind bytes without a fault: whether this one ends an item, is inside one, or is at fault.
-        ensures follows { (fed : Sequence ℕ) (items : Sequence Item) → IsFed fed items self.old → Follows fed items self.old byte result self.new }
+        ensures follows { (fed : Sequence ℕ) (items : Sequence Item) → IsFed fed items self.old
+            → Follows fed items self.old byte result self.new }
         // Behind one at fault all answers are the same.
         ensures stays { (rule : ℕ) → IsBad rule self.old → (result ≡ Fed.Bad rule) × (self.new ≡ self.old) }
     {
@@ -204,7 +206,8 @@ impl Unpacker {
 
     /// Whether what was fed is nothing, or whole packets alone.
     pub fn at_rest(&self) -> bool
-        ensures rests { (fed : Sequence ℕ) (items : Sequence Item) → IsFed fed items self.now → (IsTrue result ↔ IsWhole fed items) }
+        ensures rests { (fed : Sequence ℕ) (items : Sequence Item) → IsFed fed items self.now
+            → (IsTrue result ↔ IsWhole fed items) }
         ensures bad { (rule : ℕ) → IsBad rule self.now → IsFalse result }
     {
         self.has_begun_nothing()

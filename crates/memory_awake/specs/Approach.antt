@@ -1,4 +1,5 @@
--- What leads to each agent of a system, where a wanted agent and the default agent are served within their windows. Go on to `Front`, `Ways` and `Slack`.
+-- What leads to each agent of a system, where a wanted agent and the default agent are served within their windows. Go on to
+-- `Front`, `Ways` and `Slack`.
 use Rattle.std.specs.Prelude.{ℕ, ◌<◌}
 use Rattle.memory_runs.specs.Views.{System, Run}
 use Rattle.memory_runs.specs.Whole.{IsLegalRun}

@@ -1,4 +1,5 @@
--- A system of machines with a row of links between each host's route and each agent's arbiter, without stages, run on whatever its hosts and agents give.
+-- A system of machines with a row of links between each host's route and each agent's arbiter, without stages, run on whatever
+-- its hosts and agents give.
 use Rattle.std.specs.Prelude.{◌≡◌, ℕ, zero, suc, ◌+◌, ◌*◌, ◌<◌, ◌≤◌, Bool, true, false, not, ◌&&◌, ◌||◌, [], if◌then◌else◌, nat_lt, IsTrue, IsFalse}
 use Rattle.histories.specs.History.{is_raised}
 use Rattle.memory_runs.specs.Views.{Shape, Responses, System, Run}
@@ -39,7 +40,8 @@ host_inner plan h = inner_shape (plan.system.host h).word_bytes (plan.system.hos
 abbrev pub agent_inner : LinkPlan → ℕ → Shape
 agent_inner plan a = inner_shape (plan.system.agent a).word_bytes (plan.system.agent a).burst_bits
 
--- below a cutter its bursts are counted by its bits, and below what fits words there are single beats; a wire before the arbiter leads to bursts of the agent
+-- below a cutter its bursts are counted by its bits, and below what fits words there are single beats; a wire before the arbiter
+-- leads to bursts of the agent
 abbrev pub bits_below_cutter : LinkPlan → ℕ → ℕ → ℕ
 bits_below_cutter plan h a = by_cutter (plan.cutter h a) (plan.system.host h).burst_bits (λ reach longest bits. bits)
 
@@ -68,12 +70,16 @@ pub record IsWireRow (plan : RowPlan) : Type 0 where
 pub record SuitsLinks (plan : LinkPlan) : Type 0 where
   pub idle : ℕ → ℕ → Bool  -- of a host and an agent that aren't joined: wires lead there, whatever the words
   pub stages : plan.system.stages ≡ 0
-  pub rows : (h a : ℕ) → h < plan.system.hosts → a < plan.system.agents → IsFalse (idle h a) → SuitsRow (target_of plan.system a) (row_of plan h a)
+  pub rows : (h a : ℕ) → h < plan.system.hosts → a < plan.system.agents → IsFalse (idle h a)
+      → SuitsRow (target_of plan.system a) (row_of plan h a)
   -- a host whose plain commands reach an agent one for one is wired to its arbiter
-  pub wired : (h a : ℕ) → h < plan.system.hosts → a < plan.system.agents → IsTrue (is_joined plan.system a h) → IsTrue (is_alike (plan.system.host h) (plan.system.agent a)) → IsWireRow (row_of plan h a)
+  pub wired : (h a : ℕ) → h < plan.system.hosts → a < plan.system.agents → IsTrue (is_joined plan.system a h)
+      → IsTrue (is_alike (plan.system.host h) (plan.system.agent a)) → IsWireRow (row_of plan h a)
   -- where no beats are dropped, the agent has byte enables or the host has none
-  pub lanes : (h a : ℕ) → h < plan.system.hosts → a < plan.system.agents → IsFalse (idle h a) → plan.drops h a ≡ false → IsTrue ((plan.system.agent a).has_enables || not (plan.system.host h).has_enables)
-  pub apart : (h a : ℕ) → h < plan.system.hosts → a < plan.system.agents → IsTrue (idle h a) → IsFalse (is_joined plan.system a h) × IsWireRow (row_of plan h a)
+  pub lanes : (h a : ℕ) → h < plan.system.hosts → a < plan.system.agents → IsFalse (idle h a) → plan.drops h a ≡ false
+      → IsTrue ((plan.system.agent a).has_enables || not (plan.system.host h).has_enables)
+  pub apart : (h a : ℕ) → h < plan.system.hosts → a < plan.system.agents → IsTrue (idle h a)
+      → IsFalse (is_joined plan.system a h) × IsWireRow (row_of plan h a)
   -- hosts past those of the plan are wired
   pub past : (h a : ℕ) → plan.system.hosts ≤ h → IsWireRow (row_of plan h a)
 
@@ -81,20 +87,25 @@ pub record SuitsLinks (plan : LinkPlan) : Type 0 where
 abbrev pub fitter_for : ℕ → ℕ → Fitter
 fitter_for host agent = if nat_lt agent host then Splits else if nat_lt host agent then Selects else Unfitted
 
--- links for any plan: hosts that are alike to an agent are wired to it, and between others that are joined bursts are cut into single beats, words are fitted, and beats without a lane are dropped where the host alone has byte enables
+-- links for any plan: hosts that are alike to an agent are wired to it, and between others that are joined bursts are cut into
+-- single beats, words are fitted, and beats without a lane are dropped where the host alone has byte enables
 abbrev pub links_for : System → LinkPlan
 links_for system = record {
   system = system;
-  cutter = λ h a. if is_joined system a h && not (is_alike (system.host h) (system.agent a)) then Cuts (reach_longest 1) 1 1 else Uncut;
+  cutter =
+      λ h a. if is_joined system a h && not (is_alike (system.host h) (system.agent a)) then Cuts (reach_longest 1) 1 1
+      else Uncut;
   fitter = λ h a. if is_joined system a h then fitter_for (system.host h).word_bytes (system.agent a).word_bytes else Unfitted;
   drops = λ h a. is_joined system a h && ((system.host h).has_enables && not (system.agent a).has_enables);
   room = 2;
 }
 
--- what is asked of what the hosts show, beside that it is legal: it fits their ports, whose absent byteenable reads as all ones and burstcount as 1; a host without readdatavalid reads one word at a time; and hosts past those of the plan show nothing
+-- what is asked of what the hosts show, beside that it is legal: it fits their ports, whose absent byteenable reads as all ones
+-- and burstcount as 1; a host without readdatavalid reads one word at a time; and hosts past those of the plan show nothing
 pub record AreFitHosts (system : System) (outside : Outside) (end : ℕ) : Type 0 where
   pub ports : (h : ℕ) → h < system.hosts → FitsPorts (system.host h).shape (system.host h).has_burst (outside.host h) end
-  pub one_word : (h c : ℕ) → h < system.hosts → c < end → IsFalse (system.host h).has_readdatavalid → IsTrue (is_raised ((outside.host h).read c)) → (outside.host h).count c ≡ 1
+  pub one_word : (h c : ℕ) → h < system.hosts → c < end → IsFalse (system.host h).has_readdatavalid
+      → IsTrue (is_raised ((outside.host h).read c)) → (outside.host h).count c ≡ 1
   pub none_past : (h c : ℕ) → system.hosts ≤ h → IsFalse (shows (outside.host h) c)
 
 -- what all registers hold in one cycle
@@ -119,7 +130,8 @@ module _ (responses : Responses) (plan : LinkPlan) (outside : Outside) (register
       commands_of (route_lower plan.system h inputs (route_state (λ c. (registers c).route h)) a).commands
 
   abbrev pub asked_by_row : ℕ → ℕ → Commands
-  asked_by_row h a = commands_by (drop_raw (row_of plan h a) (shown_with (asked_by_route h a) (λ c. 0) no_words) (λ c. (registers c).row h a))
+  asked_by_row h a =
+      commands_by (drop_raw (row_of plan h a) (shown_with (asked_by_route h a) (λ c. 0) no_words) (λ c. (registers c).row h a))
 
   abbrev pub asked_by_arbiter : ℕ → Commands
   asked_by_arbiter a =
@@ -170,7 +182,8 @@ module _ (responses : Responses) (plan : LinkPlan) (outside : Outside) (register
   after_host h = route_upper responses plan.system h (to_route h) (route_state (λ c. (registers c).route h))
 
   abbrev pub to_host : ℕ → HostInputs
-  to_host h = record { signals = outside.host h; waitrequest = (after_host h).commands.waitrequest; answers = (after_host h).answers }
+  to_host h =
+      record { signals = outside.host h; waitrequest = (after_host h).commands.waitrequest; answers = (after_host h).answers }
 
   abbrev pub linked_run : Run
   linked_run = record {
@@ -192,7 +205,22 @@ module _ (responses : Responses) (plan : LinkPlan) (outside : Outside) (register
   abbrev no_stage : ℕ → Stage
   no_stage a =
       let port = (before_agent a).port in
-      record { depth = 0; shape = port.shape; sides = record { commands_above = port.commands; answers_above = port.answers; commands_below = port.commands; answers_below = port.answers }; queue = λ c. [] }
+      record {
+        depth =
+            0;
+        shape =
+            port.shape;
+        sides =
+            record {
+              commands_above =
+                  port.commands;
+              answers_above = port.answers;
+              commands_below = port.commands;
+              answers_below = port.answers;
+            };
+        queue =
+            λ c. [];
+      }
 
   abbrev pub linked_states : States
   linked_states = record {
@@ -205,7 +233,17 @@ module _ (responses : Responses) (plan : LinkPlan) (outside : Outside) (register
   }
 
 abbrev pub linked_at_rest : LinkPlan → Registers
-linked_at_rest plan = record { host = λ h. host_at_rest; route = λ h. route_at_rest; row = λ h a. row_at_rest; arbiter = λ a. arbiter_at_rest (seats_of plan.system a); agent = λ a. agent_at_rest }
+linked_at_rest plan =
+    record {
+      host =
+          λ h. host_at_rest;
+      route =
+          λ h. route_at_rest;
+      row =
+          λ h a. row_at_rest;
+      arbiter = λ a. arbiter_at_rest (seats_of plan.system a);
+      agent = λ a. agent_at_rest;
+    }
 
 abbrev pub linked_step : Responses → LinkPlan → Outside → Registers → ℕ → Registers
 linked_step responses plan outside now c = record {

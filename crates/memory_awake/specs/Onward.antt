@@ -14,7 +14,9 @@ use Rattle.memory_awake.specs.Steps.{beats_of_others}
 
 -- the agent neither stalls nor owes an answer, and no burst for it lacks a beat
 abbrev pub is_good : System → Run → ℕ → ℕ → Bool
-is_good system run agent cycle = bursts_go_on system run agent cycle && not (is_raised ((run.at_agent agent).waitrequest cycle)) && not (owes system run agent cycle)
+is_good system run agent cycle =
+    bursts_go_on system run agent cycle && not (is_raised ((run.at_agent agent).waitrequest cycle))
+    && not (owes system run agent cycle)
 
 -- one round of the others at an agent: each host's share of its longest bursts
 abbrev pub round_of_others : System → ℕ → ℕ → ℕ
@@ -31,11 +33,13 @@ moves_by round system agent = (round + 1) * (longest_wait (system.agent agent) +
 abbrev pub wired_window : System → ℕ → ℕ → ℕ
 wired_window system agent host = moves_by (round_of_others system agent host) system agent
 
--- where an agent owes nothing by the end of a cycle, no word is owed above the part next to it. So it is but at read latency 0, where a word goes up one cycle later
+-- where an agent owes nothing by the end of a cycle, no word is owed above the part next to it. So it is but at read latency 0,
+-- where a word goes up one cycle later
 abbrev pub SendsWordsUp : System → Run → ℕ → Port → ℕ → Type 0
 SendsWordsUp system run agent port end = (c : ℕ) → suc c < end → IsFalse (owes system run agent c) → IsFalse (is_owed port c)
 
--- a beat of the oldest command, which is for the agent, stands at its host and isn't accepted, while no burst for the agent lacks a beat. A read of a host without readdatavalid is left out: it stands until its word comes
+-- a beat of the oldest command, which is for the agent, stands at its host and isn't accepted, while no burst for the agent lacks
+-- a beat. A read of a host without readdatavalid is left out: it stands until its word comes
 pub record IsStanding (system : System) (run : Run) (agent host number cycle : ℕ) : Type 0 where
   pub oldest : IsTrue (is_oldest system run host number cycle)
   pub for_agent : IsTrue (is_for system run host (Some agent) number (suc cycle))
@@ -44,9 +48,11 @@ pub record IsStanding (system : System) (run : Run) (agent host number cycle : �
   pub bursts : IsTrue (bursts_go_on system run agent cycle)
   pub passes : IsTrue (is_raised ((run.at_host host).write cycle) || (system.host host).has_readdatavalid)
 
--- the good cycles in which a beat may stand. Each beat of the others may bring its wait states, a cycle in which its word comes, and one for each stage
+-- the good cycles in which a beat may stand. Each beat of the others may bring its wait states, a cycle in which its word comes,
+-- and one for each stage
 abbrev pub standing_by : ℕ → System → ℕ → ℕ
-standing_by round system agent = round * (longest_wait (system.agent agent) + system.stages + 2) + (longest_wait (system.agent agent) + system.stages + 1)
+standing_by round system agent =
+    round * (longest_wait (system.agent agent) + system.stages + 2) + (longest_wait (system.agent agent) + system.stages + 1)
 
 -- the beats that the agent accepts meanwhile: those of one round, and those that stand in the pipe
 abbrev pub accepted_by : ℕ → System → ℕ
@@ -62,9 +68,11 @@ beats_before system agent host = accepted_by (round_of_others system agent host)
 abbrev pub StandsFor : ℕ → ℕ → System → Run → ℕ → ℕ → ℕ → Type 0
 StandsFor cycles beats system run agent host end =
     (from size number : ℕ) → from + size ≤ end → Throughout from size (IsStanding system run agent host number) →
-    (count_in (is_good system run agent) from size ≤ cycles) × (count_in (agent_accepts (system.agent agent) (run.at_agent agent)) from size ≤ beats)
+    (count_in (is_good system run agent) from size ≤ cycles)
+    × (count_in (agent_accepts (system.agent agent) (run.at_agent agent)) from size ≤ beats)
 
--- a beat stands at its host for fewer cycles than these: the good ones, and the agent's latency for each beat that it accepts meanwhile, and once more
+-- a beat stands at its host for fewer cycles than these: the good ones, and the agent's latency for each beat that it accepts
+-- meanwhile, and once more
 abbrev pub prompt_by : ℕ → System → ℕ → ℕ → ℕ
 prompt_by round system agent late = standing_by round system agent + late * (accepted_by round system + 1)
 

@@ -21,7 +21,14 @@ abbrev pub no_stage : Port → Stage
 no_stage port = record {
   depth = 0;
   shape = port.shape;
-  sides = record { commands_above = port.commands; answers_above = port.answers; commands_below = port.commands; answers_below = port.answers };
+  sides =
+      record {
+        commands_above =
+            port.commands;
+        answers_above = port.answers;
+        commands_below = port.commands;
+        answers_below = port.answers;
+      };
   queue = λ c. [];
 }
 
@@ -38,10 +45,31 @@ module _ (responses : Responses) (plan : PlainPlan) (outside : Outside) (registe
   abbrev pub wired_states : (ℕ → ℕ) → States
   wired_states room =
       let states = states_run responses plan outside registers in
-      record { host = states.host; route = states.route; room = room; grant = states.arbiter; stage = λ a i. no_stage (before_agent responses plan outside registers a).port; agent = states.agent }
+      record {
+        host =
+            states.host;
+        route =
+            states.route;
+        room =
+            room;
+        grant =
+            states.arbiter;
+        stage = λ a i. no_stage (before_agent responses plan outside registers a).port;
+        agent = states.agent;
+      }
 
   -- the same wires as rows of three
   abbrev pub wired_ports : RowPorts
   wired_ports =
       let wire : ℕ → ℕ → Port = before_arbiter responses plan outside registers in
-      record { after_host = after_host responses plan outside registers; after_route = wire; below_cutter = wire; above_dropper = wire; before_arbiter = wire; lower = λ a i. before_agent responses plan outside registers a }
+      record {
+        after_host =
+            after_host responses plan outside registers;
+        after_route =
+            wire;
+        below_cutter =
+            wire;
+        above_dropper = wire;
+        before_arbiter = wire;
+        lower = λ a i. before_agent responses plan outside registers a;
+      }

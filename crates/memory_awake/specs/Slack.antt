@@ -24,7 +24,8 @@ brings_next port c = is_raised (port.answers.valid (suc c))
 -- in each stretch of cycles a part takes few beats more above than below, and gives few words more above than come below
 pub record PassesOn (slack : Slack) (up down : Port) (end : ℕ) : Type 0 where
   pub beats : (from size : ℕ) → from + size ≤ end → count_in (takes up) from size ≤ count_in (takes down) from size + slack.hold
-  pub words : (from size : ℕ) → from + size < end → count_in (brings_next up) from size ≤ count_in (brings_next down) from size + slack.kept
+  pub words : (from size : ℕ) → from + size < end
+      → count_in (brings_next up) from size ≤ count_in (brings_next down) from size + slack.kept
 
 -- a write is taken at a port, or a word comes up there in the next cycle
 abbrev pub stirs : Port → ℕ → Bool
@@ -34,15 +35,19 @@ stirs port c = (takes port c && is_raised (port.commands.write c)) || brings_nex
 abbrev pub IsStill : Port → ℕ → ℕ → Type 0
 IsStill port from size = Throughout from size (λ c. IsFalse (stirs port c))
 
--- it does so in each stretch in which the port behind its route, `top`, is still: each beat that a link swallows stirs that port, by its write or by its word
+-- it does so in each stretch in which the port behind its route, `top`, is still: each beat that a link swallows stirs that port,
+-- by its write or by its word
 pub record PassesWhileStill (slack : Slack) (top up down : Port) (end : ℕ) : Type 0 where
-  pub beats : (from size : ℕ) → from + size ≤ end → IsStill top from size → count_in (takes up) from size ≤ count_in (takes down) from size + slack.hold
-  pub words : (from size : ℕ) → from + size < end → IsStill top from size → count_in (brings_next up) from size ≤ count_in (brings_next down) from size + slack.kept
+  pub beats : (from size : ℕ) → from + size ≤ end → IsStill top from size
+      → count_in (takes up) from size ≤ count_in (takes down) from size + slack.hold
+  pub words : (from size : ℕ) → from + size < end → IsStill top from size
+      → count_in (brings_next up) from size ≤ count_in (brings_next down) from size + slack.kept
 
 -- every stage that leads to an agent does so, and every link while the port behind its route is still
 pub record AllPassOn (system : System) (ways : Ways) (slacks : Slacks) (end : ℕ) : Type 0 where
   pub lower : (i : ℕ) → i < ways.stages → PassesOn (slacks.lower i) (ways.lower (suc i)) (ways.lower i) end
-  pub upper : (h i : ℕ) → h < system.hosts → i < ways.above h → PassesWhileStill (slacks.upper h i) (ways.upper h (ways.above h)) (ways.upper h (suc i)) (ways.upper h i) end
+  pub upper : (h i : ℕ) → h < system.hosts → i < ways.above h
+      → PassesWhileStill (slacks.upper h i) (ways.upper h (ways.above h)) (ways.upper h (suc i)) (ways.upper h i) end
 
 -- the beats that are taken at a lower port while nothing is served, and the words that come up there
 abbrev pub lower_beats : Slacks → ℕ → ℕ
@@ -60,10 +65,12 @@ upper_words slacks h i = sum_below (λ k. (slacks.upper h k).kept) i
 
 -- the cycles that a stage allows, and those that a host's link allows without beats or words before the arbiter
 abbrev pub stage_allows : Standings → Slacks → ℕ → ℕ
-stage_allows standings slacks i = allows ((lower_beats slacks i + lower_beats slacks (suc i)) + lower_words slacks (suc i)) (standings.lower i).largest
+stage_allows standings slacks i =
+    allows ((lower_beats slacks i + lower_beats slacks (suc i)) + lower_words slacks (suc i)) (standings.lower i).largest
 
 abbrev pub link_allows : Standings → Slacks → ℕ → ℕ → ℕ
-link_allows standings slacks h i = allows ((upper_beats slacks h i + upper_beats slacks h (suc i)) + upper_words slacks h (suc i)) (standings.upper h i).largest
+link_allows standings slacks h i =
+    allows ((upper_beats slacks h i + upper_beats slacks h (suc i)) + upper_words slacks h (suc i)) (standings.upper h i).largest
 
 abbrev pub host_allows : System → Ways → Standings → Slacks → ℕ → ℕ
 host_allows system ways standings slacks h = sum_below (link_allows standings slacks h) (ways.above h)
@@ -91,7 +98,8 @@ pub record IsModestStage (slack : Slack) (standing : Standing) : Type 0 where
   pub kept : slack.kept ≤ 1
   pub rank : standing.largest ≤ 1
 
--- ranks and slacks that fit in an agent's window, for up to 4 stages and 16 hosts: of the agent's part the wait time plus 1, and of each host's links 15 cycles, and 5 for a beat or a word
+-- ranks and slacks that fit in an agent's window, for up to 4 stages and 16 hosts: of the agent's part the wait time plus 1, and
+-- of each host's links 15 cycles, and 5 for a beat or a word
 pub record AreModest (system : System) (agent : ℕ) (ways : Ways) (standings : Standings) (slacks : Slacks) : Type 0 where
   pub stages : ways.stages ≡ system.stages
   pub few_stages : system.stages ≤ 4
@@ -107,7 +115,8 @@ pub record IsModestLink (slack : Slack) (standing : Standing) (most_held most_ke
   pub kept : slack.kept ≤ most_kept
   pub rank : standing.largest ≤ most_rank
 
--- the links of a host: at most three; the lowest may hold a beat, give a word of its own and have a rank of 1, the next may have a rank of 1
+-- the links of a host: at most three; the lowest may hold a beat, give a word of its own and have a rank of 1, the next may have
+-- a rank of 1
 pub record HasModestLinks (ways : Ways) (standings : Standings) (slacks : Slacks) (h : ℕ) : Type 0 where
   pub few : ways.above h ≤ 3
   pub first : 0 < ways.above h → IsModestLink (slacks.upper h 0) (standings.upper h 0) 1 1 1

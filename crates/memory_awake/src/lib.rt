@@ -33,12 +33,16 @@ ghost use Rattle.memory_awake.specs.Approach.{Approach, IsAwake, ServesWanted};
 ghost use Rattle.memory_awake.specs.Ahead.{KeepsNothingBack, LeavesNothingOpen, LeadsAhead, CanTakeMore};
 ghost use Rattle.memory_awake.specs.Ways.{Ways, Standings, KeepsAwake, IsAtWork, longest};
 
-/// Where every part of a system is its machine, its links and pipes keep their lines, its links keep going, and the components are legal, the whole is safe and never idles: a wanted agent, and the default agent, are served within their windows, no host hangs at the default agent, and reads travel while others are owed.
+/// Where every part of a system is its machine, its links and pipes keep their lines, its links keep going, and the components
+/// are legal, the whole is safe and never idles: a wanted agent, and the default agent, are served within their windows, no host
+/// hangs at the default agent, and reads travel while others are owed.
 pub fn machines_are_awake()
-    ensures safe { (responses : Responses) (system : System) (run : Run) (inside : Boundaries) (states : States) (ranks : LinkRanks) (end : ℕ)
+    ensures safe { (responses : Responses) (system : System) (run : Run) (inside : Boundaries) (states : States)
+        (ranks : LinkRanks) (end : ℕ)
         → IsBuilt responses system run inside states ranks end → IsLegalRun system run end
         → IsSafe responses system run end }
-    ensures awake { (responses : Responses) (system : System) (run : Run) (inside : Boundaries) (states : States) (ranks : LinkRanks) (end : ℕ)
+    ensures awake { (responses : Responses) (system : System) (run : Run) (inside : Boundaries) (states : States)
+        (ranks : LinkRanks) (end : ℕ)
         → IsBuilt responses system run inside states ranks (end + 2) → IsLegalRun system run (end + 2)
         → NeverIdles system run end }
 {
@@ -50,7 +54,8 @@ pub fn machines_are_awake()
     built::machines_keep_their_records()
 }
 
-/// Where every part of a system keeps its record and the components are legal, a wanted agent, and the default agent, are served within their windows.
+/// Where every part of a system keeps its record and the components are legal, a wanted agent, and the default agent, are served
+/// within their windows.
 pub fn systems_are_awake()
     ensures { (system : System) (run : Run) (approach : ℕ → Approach) (end : ℕ)
         → IsAwake system run approach (end + 2) → ServesWanted system run end }
@@ -61,7 +66,8 @@ pub fn systems_are_awake()
     modest_parts_fit()
 }
 
-/// Where every part keeps its record and the hosts are legal, a wanted agent is served within one more than each number of cycles that ranks and moves can't fill.
+/// Where every part keeps its record and the hosts are legal, a wanted agent is served within one more than each number of cycles
+/// that ranks and moves can't fill.
 pub fn agents_are_served()
     ensures { (system : System) (run : Run) (agent : ℕ) (ways : Ways) (standings : Standings) (size end longer : ℕ)
         → end + 2 ≤ longer → AllShare (seats_of system agent) → KeepsWhole system run agent ways standings longer
@@ -93,9 +99,11 @@ pub fn work_is_short()
     memory_machines::progress::work_lasts()
 }
 
-/// Where the links and stages hold back few beats and words, the parts allow in a window, in which and in whose next cycle nothing is served, no more than their sum.
+/// Where the links and stages hold back few beats and words, the parts allow in a window, in which and in whose next cycle
+/// nothing is served, no more than their sum.
 pub fn moves_are_few()
-    ensures { (system : System) (run : Run) (agent : ℕ) (ways : Ways) (standings : Standings) (slacks : Slacks) (from size most end : ℕ)
+    ensures { (system : System) (run : Run) (agent : ℕ) (ways : Ways) (standings : Standings) (slacks : Slacks)
+        (from size most end : ℕ)
         → from + size + 2 ≤ end → KeepsWhole system run agent ways standings end → AllPassOn system ways slacks end
         → CostsAtMost most system ways standings → IsUnserved system run agent from (suc size)
         → longest system run agent ways standings from size ≤ all_allow system ways standings slacks most }
@@ -104,16 +112,19 @@ pub fn moves_are_few()
 /// Modest ranks and slacks fit in an agent's window.
 pub fn modest_parts_fit()
     ensures { (system : System) (agent : ℕ) (ways : Ways) (standings : Standings) (slacks : Slacks)
-        → AreModest system agent ways standings slacks → all_allow system ways standings slacks 5 + 1 < agent_window system agent }
+        → AreModest system agent ways standings slacks
+        → all_allow system ways standings slacks 5 + 1 < agent_window system agent }
 {}
 
 /// Three links fit, of which the lowest holds a beat, gives a word of its own and has a rank of 1, and the next has a rank of 1.
 pub fn modest_links_fit()
-    ensures { (system : System) (ways : Ways) (standings : Standings) (slacks : Slacks) (h : ℕ) → HasModestLinks ways standings slacks h
+    ensures { (system : System) (ways : Ways) (standings : Standings) (slacks : Slacks) (h : ℕ)
+        → HasModestLinks ways standings slacks h
         → (host_allows system ways standings slacks h ≤ 15) × (toll ways standings h ≤ 5) }
 {}
 
-/// Where the hosts are legal and each front keeps what is asked for the default agent, the default agent serves within two cycles.
+/// Where the hosts are legal and each front keeps what is asked for the default agent, the default agent serves within two
+/// cycles.
 pub fn default_agent_serves()
     ensures { (system : System) (run : Run) (size end longer : ℕ) → 2 ≤ size → end + 2 ≤ longer
         → AreLegalHosts system run longer → ((h : ℕ) → h < system.hosts → IsDefaultFront system run h longer)
@@ -129,7 +140,8 @@ pub fn wanted_default_is_served()
         → IsDefaultServedIn system run host from size }
 {}
 
-/// A command of a legal host that is wanted at the default agent moves on itself in two cycles, where words come to the host only for reads that it has shown.
+/// A command of a legal host that is wanted at the default agent moves on itself in two cycles, where words come to the host only
+/// for reads that it has shown.
 pub fn wanted_default_moves_on()
     ensures { (system : System) (run : Run) (host size end : ℕ) → 2 ≤ size
         → IsLegalHost (system.host host) (run.at_host host) end → IsProperAtHost (system.host host) (run.at_host host) end
@@ -180,15 +192,20 @@ pub fn stages_pass_on()
     ensures wire { (port : Port) (end : ℕ) → PassesOn (record { hold = 0; kept = 0 }) port port end }
 {}
 
-/// Where fewer than 16 reads of a host are under way and one agent alone owes it words, the part next to the host and the route keep back nothing that it presents for the agent. Of a host without bursts nothing is left open behind the route. Only what is for an agent is shown there.
+/// Where fewer than 16 reads of a host are under way and one agent alone owes it words, the part next to the host and the route
+/// keep back nothing that it presents for the agent. Of a host without bursts nothing is left open behind the route. Only what is
+/// for an agent is shown there.
 pub fn host_and_route_keep_nothing_back()
-    ensures back { (system : System) (run : Run) (host agent : ℕ) (middle : Port) (down : ℕ → Port) (end : ℕ) → agent < system.agents
+    ensures back { (system : System) (run : Run) (host agent : ℕ) (middle : Port) (down : ℕ → Port) (end : ℕ)
+        → agent < system.agents
         → IsHostPart system run host middle end → IsRoutePart system host middle down end
         → KeepsNothingBack system run host agent (down agent) end }
-    ensures left_open { (system : System) (run : Run) (host agent : ℕ) (middle : Port) (down : ℕ → Port) (end : ℕ) → agent < system.agents
+    ensures left_open { (system : System) (run : Run) (host agent : ℕ) (middle : Port) (down : ℕ → Port) (end : ℕ)
+        → agent < system.agents
         → IsHostPart system run host middle end → IsRoutePart system host middle down end
         → (system.host host).burst_bits ≡ 1 → LeavesNothingOpen (down agent) (end - 1) }
-    ensures joined { (system : System) (run : Run) (host agent : ℕ) (middle : Port) (down : ℕ → Port) (end : ℕ) → agent < system.agents
+    ensures joined { (system : System) (run : Run) (host agent : ℕ) (middle : Port) (down : ℕ → Port) (end : ℕ)
+        → agent < system.agents
         → IsHostPart system run host middle end → IsRoutePart system host middle down end
         → ((kind : Kind) (address : ℕ) → system.place host kind address ≡ Some agent → IsTrue (is_joined system agent host))
         → (c : ℕ) → c < end → IsTrue (shows (down agent).commands.signals c) → IsTrue (is_joined system agent host) }
@@ -200,7 +217,8 @@ pub fn asked_words_are_owed()
         → (agent c : ℕ) → c < end → IsTrue (asks_only system run host agent c) → IsTrue (owes_alone system run host agent c) }
 {}
 
-/// An agent with readdatavalid whose joined hosts are alike to it accepts in a window longer than its pipe and its wait states, where it is asked throughout and waits for nothing, also while it owes words.
+/// An agent with readdatavalid whose joined hosts are alike to it accepts in a window longer than its pipe and its wait states,
+/// where it is asked throughout and waits for nothing, also while it owes words.
 pub fn asked_agent_accepts()
     ensures { (system : System) (run : Run) (agent : ℕ) (ways : Ways) (standings : Standings) (host from size end : ℕ)
         → from + size + 2 ≤ end → host < system.hosts → ways.stages + longest_wait (system.agent agent) + 2 ≤ size
@@ -213,10 +231,12 @@ pub fn asked_agent_accepts()
     ranks::turns_keep_seats()
 }
 
-/// Where every part of a system keeps its record, and the parts that lead to the agents with readdatavalid hand on what they are asked, reads travel while others are owed.
+/// Where every part of a system keeps its record, and the parts that lead to the agents with readdatavalid hand on what they are
+/// asked, reads travel while others are owed.
 pub fn systems_read_ahead()
     ensures { (system : System) (run : Run) (approach : ℕ → Approach) (end : ℕ) → IsAwake system run approach (end + 2)
-        → ((a : ℕ) → a < system.agents → IsTrue (system.agent a).has_readdatavalid → LeadsAhead system run a (approach a).ways (end + 2))
+        → ((a : ℕ) → a < system.agents → IsTrue (system.agent a).has_readdatavalid
+        → LeadsAhead system run a (approach a).ways (end + 2))
         → (a : ℕ) → a < system.agents → ReadsAheadWithin (agent_window system a) system run a end }
 {
     asked_words_are_owed();

@@ -9,13 +9,16 @@ ghost use Rattle.memory_parts.specs.SystemRun.{PlainPlan, HaveOneShape, Outside,
 ghost use Rattle.memory_awake.specs.Theorem.{IsBuilt};
 ghost use Rattle.memory_awake.specs.PlainSystem.{AreQuietPast, wire_ranks, wired_inside, wired_states};
 
-/// A plain system of machines that are wired to one another is built as `IsBuilt` asks, whatever its hosts and agents give, as long as they are legal.
+/// A plain system of machines that are wired to one another is built as `IsBuilt` asks, whatever its hosts and agents give, as
+/// long as they are legal.
 pub fn plain_systems_are_built()
     ensures { (responses : Responses) (plan : PlainPlan) (outside : Outside) (end : ℕ)
         → let registers = registers_of responses plan outside in
         let run = ports_run responses plan outside registers in
         IsMemoryPlan (plain_system plan) → HaveOneShape plan → AreViews (plain_system plan) run end → AreQuietPast plan outside → IsLegalRun (plain_system plan) run end
-        → (room : ℕ → ℕ) × IsBuilt responses (plain_system plan) run (wired_inside responses plan outside registers) (wired_states responses plan outside registers room) wire_ranks end }
+        → (room : ℕ → ℕ)
+        × IsBuilt responses (plain_system plan) run (wired_inside responses plan outside registers)
+        (wired_states responses plan outside registers room) wire_ranks end }
 {
     memory_parts::system::systems_of_machines_run();
     memory_parts::plans::plans_suit_machines();

@@ -1,4 +1,5 @@
-//! Systems of machines whose links are machines too: where to start. They are safe, never idle, and are fair where no beats are dropped below a host with bursts and without byte enables.
+//! Systems of machines whose links are machines too: where to start. They are safe, never idle, and are fair where no beats are
+//! dropped below a host with bursts and without byte enables.
 
 ghost use Rattle.std.specs.Prelude.{◌≡◌, ℕ, ◌<◌, ◌≤◌, ◌+◌, IsTrue, IsFalse};
 ghost use Rattle.memory_runs.specs.Views.{Responses, System, Run};
@@ -22,15 +23,20 @@ ghost use Rattle.memory_awake.specs.RowFront.{IsRowFront, ServeWhatFits, with_ag
 ghost use Rattle.memory_awake.specs.RowSystem.{RowPorts, AreRows, IsFairRow, boundaries_of};
 ghost use Rattle.memory_awake.specs.Theorem.{States, LinkRanks, ArePlanned, AreMachines, IsBuilt};
 
-/// Where every part and every link is its machine and the components are legal, the links keep their lines, keep going and hold little back: the system is built as `IsBuilt` asks. Behind the routes commands are legal, joined ones are alike and byte enables fit, and before the arbiters answers are owed.
+/// Where every part and every link is its machine and the components are legal, the links keep their lines, keep going and hold
+/// little back: the system is built as `IsBuilt` asks. Behind the routes commands are legal, joined ones are alike and byte
+/// enables fit, and before the arbiters answers are owed.
 pub fn machines_with_links_are_built()
     ensures built { (responses : Responses) (system : System) (run : Run) (ports : RowPorts) (states : States) (end : ℕ)
-        → ArePlanned system (boundaries_of ports) states → AreMachines responses system run (boundaries_of ports) states end → AreRows system run ports end → IsLegalRun system run end
+        → ArePlanned system (boundaries_of ports) states → AreMachines responses system run (boundaries_of ports) states end
+        → AreRows system run ports end → IsLegalRun system run end
         → (ranks : LinkRanks) × IsBuilt responses system run (boundaries_of ports) states ranks end }
     ensures settled { (responses : Responses) (system : System) (run : Run) (ports : RowPorts) (states : States) (end : ℕ)
-        → ArePlanned system (boundaries_of ports) states → AreMachines responses system run (boundaries_of ports) states end → AreRows system run ports end → IsLegalRun system run end
+        → ArePlanned system (boundaries_of ports) states → AreMachines responses system run (boundaries_of ports) states end
+        → AreRows system run ports end → IsLegalRun system run end
         → (h a : ℕ) → h < system.hosts → a < system.agents
-        → AreLegalAt (ports.after_route h a) end × AnswersAreOwed (ports.before_arbiter h a) end × JoinsAlike (target_of system a) (ports.after_route h a) end × EnablesFit (ports.after_route h a) end }
+        → AreLegalAt (ports.after_route h a) end × AnswersAreOwed (ports.before_arbiter h a) end
+        × JoinsAlike (target_of system a) (ports.after_route h a) end × EnablesFit (ports.after_route h a) end }
 {
     crate::links::rows_keep_their_lines();
     crate::links::rows_are_modest();
@@ -49,20 +55,24 @@ pub fn machines_with_links_are_built()
 /// So such a system is safe and never idles.
 pub fn machines_with_links_are_awake()
     ensures safe { (responses : Responses) (system : System) (run : Run) (ports : RowPorts) (states : States) (end : ℕ)
-        → ArePlanned system (boundaries_of ports) states → AreMachines responses system run (boundaries_of ports) states end → AreRows system run ports end → IsLegalRun system run end
+        → ArePlanned system (boundaries_of ports) states → AreMachines responses system run (boundaries_of ports) states end
+        → AreRows system run ports end → IsLegalRun system run end
         → IsSafe responses system run end }
     ensures awake { (responses : Responses) (system : System) (run : Run) (ports : RowPorts) (states : States) (end : ℕ)
-        → ArePlanned system (boundaries_of ports) states → AreMachines responses system run (boundaries_of ports) states (end + 2) → AreRows system run ports (end + 2) → IsLegalRun system run (end + 2)
+        → ArePlanned system (boundaries_of ports) states → AreMachines responses system run (boundaries_of ports) states (end + 2)
+        → AreRows system run ports (end + 2) → IsLegalRun system run (end + 2)
         → NeverIdles system run end }
 {
     machines_with_links_are_built();
     crate::machines_are_awake()
 }
 
-/// And it is fair where no host is joined to an agent twice, and no beats are dropped below a host with bursts and without byte enables.
+/// And it is fair where no host is joined to an agent twice, and no beats are dropped below a host with bursts and without byte
+/// enables.
 pub fn machines_with_links_are_fair()
     ensures { (responses : Responses) (system : System) (run : Run) (ports : RowPorts) (states : States) (end : ℕ)
-        → ArePlanned system (boundaries_of ports) states → AreMachines responses system run (boundaries_of ports) states end → AreRows system run ports end → IsLegalRun system run end
+        → ArePlanned system (boundaries_of ports) states → AreMachines responses system run (boundaries_of ports) states end
+        → AreRows system run ports end → IsLegalRun system run end
         → ((agent : ℕ) → agent < system.agents → IsTrue (are_apart (system.joined agent)))
         → ((agent host : ℕ) → agent < system.agents → IsTrue (is_joined system agent host) → IsFairRow system ports agent host)
         → IsFair system run end }
@@ -74,10 +84,12 @@ pub fn machines_with_links_are_fair()
     memory_links::begins::single_writes_begin()
 }
 
-/// The part next to an agent need be its machine only for as long as what it is given fits the agent: behind machines and links whose hosts and agents are legal all of it does.
+/// The part next to an agent need be its machine only for as long as what it is given fits the agent: behind machines and links
+/// whose hosts and agents are legal all of it does.
 pub fn what_rows_carry_fits()
     ensures { (responses : Responses) (system : System) (run : Run) (ports : RowPorts) (states : States) (end : ℕ)
-        → IsMemoryPlan system → AreViews system run end → IsRowFront responses system run ports states end → ServeWhatFits responses system run ports.lower end → IsLegalRun system run end
+        → IsMemoryPlan system → AreViews system run end → IsRowFront responses system run ports states end
+        → ServeWhatFits responses system run ports.lower end → IsLegalRun system run end
         → (agent : ℕ → AgentState)
         × ArePlanned system (boundaries_of ports) (with_agents states agent)
         × AreMachines responses system run (boundaries_of ports) (with_agents states agent) end
@@ -97,7 +109,8 @@ pub fn what_rows_carry_fits()
     memory_links::pipes::stage_keeps_its_line()
 }
 
-/// Such systems exist: a plain system of machines is one, with wires for links, whatever its hosts and agents give, as long as they are legal.
+/// Such systems exist: a plain system of machines is one, with wires for links, whatever its hosts and agents give, as long as
+/// they are legal.
 pub fn plain_systems_have_rows()
     ensures { (responses : Responses) (plan : PlainPlan) (outside : Outside) (end : ℕ)
         → let registers = registers_of responses plan outside in
@@ -106,14 +119,16 @@ pub fn plain_systems_have_rows()
         IsMemoryPlan (plain_system plan) → HaveOneShape plan → AreViews (plain_system plan) run end → AreQuietPast plan outside → IsLegalRun (plain_system plan) run end
         → (room : ℕ → ℕ)
         × ArePlanned (plain_system plan) (boundaries_of ports) (wired_states responses plan outside registers room)
-        × AreMachines responses (plain_system plan) run (boundaries_of ports) (wired_states responses plan outside registers room) end
+        × AreMachines responses (plain_system plan) run (boundaries_of ports)
+        (wired_states responses plan outside registers room) end
         × AreRows (plain_system plan) run ports end }
 {
     crate::plain::plain_systems_are_built();
     crate::built::memory_plans_are_planned()
 }
 
-/// A row of links has a run for all commands from above, and all waits and answers from below, whatever stands in it: a cutter of bursts, a lane selector, a splitter or what gathers, what drops beats, and wires.
+/// A row of links has a run for all commands from above, and all waits and answers from below, whatever stands in it: a cutter of
+/// bursts, a lane selector, a splitter or what gathers, what drops beats, and wires.
 pub fn rows_run()
     ensures { (plan : RowPlan) (inputs : Inputs) (target : Target)
         → let registers = row_registers plan inputs in
@@ -130,7 +145,8 @@ pub fn rows_run()
     memory_links::runs::drop_runs()
 }
 
-/// Systems with such rows run: whatever hosts and agents give, for each choice of links that suits the plan, every part is its machine and every link too.
+/// Systems with such rows run: whatever hosts and agents give, for each choice of links that suits the plan, every part is its
+/// machine and every link too.
 pub fn linked_systems_run()
     ensures { (responses : Responses) (plan : LinkPlan) (outside : Outside) (end : ℕ)
         → let registers = linked_registers responses plan outside in
@@ -169,25 +185,29 @@ pub fn linked_systems_are_awake()
     machines_with_links_are_awake()
 }
 
-/// And it is fair where no host is joined to an agent twice, and no beats are dropped below a host with bursts and without byte enables.
+/// And it is fair where no host is joined to an agent twice, and no beats are dropped below a host with bursts and without byte
+/// enables.
 pub fn linked_systems_are_fair()
     ensures { (responses : Responses) (plan : LinkPlan) (outside : Outside) (end : ℕ)
         → let run = linked_run responses plan outside (linked_registers responses plan outside) in
         IsMemoryPlan plan.system → SuitsLinks plan → AreFitHosts plan.system outside end → IsLegalRun plan.system run end
         → ((agent : ℕ) → agent < plan.system.agents → IsTrue (are_apart (plan.system.joined agent)))
-        → ((h a : ℕ) → a < plan.system.agents → IsTrue (is_joined plan.system a h) → IsFalse (plan.system.host h).has_enables → IsTrue (plan.system.host h).has_burst → IsFalse (plan.drops h a))
+        → ((h a : ℕ) → a < plan.system.agents → IsTrue (is_joined plan.system a h) → IsFalse (plan.system.host h).has_enables
+        → IsTrue (plan.system.host h).has_burst → IsFalse (plan.drops h a))
         → IsFair plan.system run end }
 {
     linked_systems_run();
     machines_with_links_are_fair()
 }
 
-/// For each plan without stages that keeps the rules on connections and maps there are links that suit it: nothing that these rules accept is left out.
+/// For each plan without stages that keeps the rules on connections and maps there are links that suit it: nothing that these
+/// rules accept is left out.
 pub fn plans_have_links()
     ensures { (system : System) → IsMemoryPlan system → system.stages ≡ 0 → SuitsLinks (links_for system) }
 {}
 
-/// So for each such plan there is a system of machines that is safe, never idles, and is fair where no host is joined to an agent twice, whatever its hosts and agents give, as long as they are legal.
+/// So for each such plan there is a system of machines that is safe, never idles, and is fair where no host is joined to an agent
+/// twice, whatever its hosts and agents give, as long as they are legal.
 pub fn plans_are_served()
     ensures safe { (responses : Responses) (system : System) (outside : Outside) (end : ℕ)
         → let run = linked_run responses (links_for system) outside (linked_registers responses (links_for system) outside) in

@@ -12,7 +12,8 @@ waits_on signals accepts (suc cycle) = is_held signals accepts cycle
 
 -- a host rests in a cycle: a beat that waits stands on unchanged, and where none waits the host shows none
 pub record HostRests (view : HostView) (cycle : ℕ) : Type 0 where
-  pub held : (c : ℕ) → suc c ≡ cycle → IsTrue (is_held view.signals (host_accepts view) c) → levels_at view.signals c ≡ levels_at view.signals (suc c)
+  pub held : (c : ℕ) → suc c ≡ cycle → IsTrue (is_held view.signals (host_accepts view) c)
+      → levels_at view.signals c ≡ levels_at view.signals (suc c)
   pub silent : IsFalse (waits_on view.signals (host_accepts view) cycle) → IsFalse (shows view.signals cycle)
 
 -- an agent with readdatavalid rests: it gives no word. Whether it lets its command wait is its own choice

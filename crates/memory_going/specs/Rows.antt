@@ -35,7 +35,9 @@ burst_agent = record {
 -- commands of two beats at byte 4, and in which cycles they wait
 abbrev host_with : List ℕ → List ℕ → List ℕ → HostView
 host_with read write wait = record {
-  signals = record { read = signal read; write = signal write; address = always 4; word = always 0; enables = always 15; count = always 2 };
+  signals =
+      record
+      { read = signal read; write = signal write; address = always 4; word = always 0; enables = always 15; count = always 2 };
   waitrequest = signal wait;
   readdata = always 0;
   readdatavalid = always 0;

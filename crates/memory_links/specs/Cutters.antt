@@ -40,19 +40,32 @@ Reach = ℕ → ℕ
 -- the next burst of a read. The last one's `more` is that of the command
 abbrev pub read_burst_of : Reach → Rest → Raw
 read_burst_of reach rest = record {
-  levels = record { read = 1; write = 0; address = rest.address; word = 0; enables = rest.command.levels.enables; count = beats_of (reach rest.address) rest.left };
+  levels =
+      record {
+        read =
+            1;
+        write =
+            0;
+        address =
+            rest.address;
+        word = 0;
+        enables = rest.command.levels.enables;
+        count = beats_of (reach rest.address) rest.left;
+      };
   more = if nat_lt (reach rest.address) rest.left then 1 else rest.command.more;
   tag = rest.command.tag;
 }
 
 -- what is left behind it
 abbrev pub behind_burst : Reach → ℕ → Rest → Rest
-behind_burst reach bytes rest = record { left = rest.left - reach rest.address; address = rest.address + reach rest.address * bytes; command = rest.command }
+behind_burst reach bytes rest =
+    record { left = rest.left - reach rest.address; address = rest.address + reach rest.address * bytes; command = rest.command }
 
 abbrev pub whole_read : Shape → Raw → Rest
 whole_read shape raw = record { left = raw.levels.count; address = byte_address shape raw.levels.address; command = raw }
 
--- a write beat at its own place, with the count of the burst that it would begin below. Where one is under way there, the count isn't read
+-- a write beat at its own place, with the count of the burst that it would begin below. Where one is under way there, the count
+-- isn't read
 abbrev pub write_of_burst : ℕ → Shape → Place → Raw → Raw
 write_of_burst longest shape place raw = record {
   levels = record {
@@ -69,7 +82,8 @@ write_of_burst longest shape place raw = record {
 
 -- what may be shown below of what stands above
 abbrev pub first_burst : Reach → ℕ → Shape → Place → Raw → Raw
-first_burst reach longest shape place raw = if is_raised raw.levels.write then write_of_burst longest shape place raw else read_burst_of reach (whole_read shape raw)
+first_burst reach longest shape place raw =
+    if is_raised raw.levels.write then write_of_burst longest shape place raw else read_burst_of reach (whole_read shape raw)
 
 -- the place is that of the burst
 pub record IsPlaceIn (bytes : ℕ) (burst : Burst) (place : Place) : Type 0 where
@@ -79,12 +93,18 @@ pub record IsPlaceIn (bytes : ℕ) (burst : Burst) (place : Place) : Type 0 wher
 pub record RunsAsCutter (reach : Reach) (longest : ℕ) (up down : Port) (state : CutterState) : Type 0 where
   -- commands
   pub shown : (c : ℕ) → shows down.commands.signals c ≡ (if is_sending state c then true else shows up.commands.signals c)
-  pub beat : (c : ℕ) → shows down.commands.signals c ≡ true → raw_at down c ≡ (if is_sending state c then read_burst_of reach (state.rest c) else first_burst reach longest up.shape (state.place c) (raw_at up c))
+  pub beat : (c : ℕ) → shows down.commands.signals c ≡ true
+      → raw_at down c
+      ≡ (if is_sending state c then read_burst_of reach (state.rest c)
+      else first_burst reach longest up.shape (state.place c) (raw_at up c))
   pub accepts : (c : ℕ) → takes up c ≡ not (is_sending state c) && takes down c
   -- where all that has been shown above was fit, the place is kept
-  pub place : (c : ℕ) → ShowsFitBeats up c → IsPlaceIn up.shape.word_bytes (burst_before up.shape up.commands.signals (takes up) c) (state.place c)
+  pub place : (c : ℕ) → ShowsFitBeats up c
+      → IsPlaceIn up.shape.word_bytes (burst_before up.shape up.commands.signals (takes up) c) (state.place c)
   pub rest_begins : (state.rest 0).left ≡ 0
-  pub rest_next : (c : ℕ) → state.rest (suc c) ≡ (if is_sending state c then (if takes down c then behind_burst reach up.shape.word_bytes (state.rest c) else state.rest c)
+  pub rest_next : (c : ℕ)
+      → state.rest (suc c)
+      ≡ (if is_sending state c then (if takes down c then behind_burst reach up.shape.word_bytes (state.rest c) else state.rest c)
       else if takes_read up c then behind_burst reach up.shape.word_bytes (whole_read up.shape (raw_at up c)) else state.rest c)
   -- answers are wires
   pub valid : (c : ℕ) → up.answers.valid c ≡ down.answers.valid c
@@ -122,4 +142,5 @@ pub record IsTouchPlan (many : ℕ) (up down : Shape) : Type 0 where
 
 -- it holds a read, its rank is always 0, and each word is a word from below
 abbrev pub cut_form : Target → LinkForm
-cut_form target = record { target = target; hold = 1; paces = record { largest = 0; hold = 1 } ∷ []; word_for_word = true; makes_lanes = false }
+cut_form target =
+    record { target = target; hold = 1; paces = record { largest = 0; hold = 1 } ∷ []; word_for_word = true; makes_lanes = false }

@@ -39,7 +39,9 @@ select_waits given queue c = one_if (shuts given queue c || is_raised (given.inp
 abbrev pub select_step : SelectInputs → List ℕ → ℕ → List ℕ
 select_step given queue c =
     drop (if is_raised (given.inputs.answers.valid c) then 1 else 0) queue
-    ++ only_if ((shows given.inputs.signals c && not (is_raised (select_waits given queue c))) && not (is_raised (given.inputs.signals.write c)))
+    ++ only_if
+    ((shows given.inputs.signals c && not (is_raised (select_waits given queue c)))
+    && not (is_raised (given.inputs.signals.write c)))
     (offset_in given.narrow given.wide (given.inputs.signals.address c))
 
 abbrev pub select_queue : SelectInputs → ℕ → List ℕ
@@ -50,7 +52,15 @@ select_queue given (suc c) = select_step given (select_queue given c) c
 abbrev pub select_above_with : SelectInputs → (ℕ → List ℕ) → Port
 select_above_with given registers = record {
   shape = given.narrow;
-  commands = record { signals = given.inputs.signals; more = given.inputs.more; tag = given.inputs.tag; waitrequest = λ c. select_waits given (registers c) c };
+  commands =
+      record {
+        signals =
+            given.inputs.signals;
+        more =
+            given.inputs.more;
+        tag = given.inputs.tag;
+        waitrequest = λ c. select_waits given (registers c) c;
+      };
   answers = record {
     valid = given.inputs.answers.valid;
     word = λ c. (given.inputs.answers.word c / 256 ^ first_of (registers c)) % 256 ^ given.narrow.word_bytes;
@@ -77,7 +87,15 @@ signals_of levels = record {
 abbrev pub select_below_with : SelectInputs → (ℕ → List ℕ) → Port
 select_below_with given registers = record {
   shape = given.wide;
-  commands = record { signals = signals_of (λ c. select_levels given (registers c) c); more = given.inputs.more; tag = given.inputs.tag; waitrequest = given.inputs.waitrequest };
+  commands =
+      record {
+        signals =
+            signals_of (λ c. select_levels given (registers c) c);
+        more =
+            given.inputs.more;
+        tag = given.inputs.tag;
+        waitrequest = given.inputs.waitrequest;
+      };
   answers = given.inputs.answers;
 }
 
@@ -102,11 +120,13 @@ head_of (raw ∷ later) = raw
 
 -- what side `i` shows in a cycle, where the queues are these
 abbrev pub raw_there : PipeInputs → (ℕ → List Raw) → ℕ → ℕ → Raw
-raw_there given queues c zero = record { levels = levels_at given.inputs.signals c; more = given.inputs.more c; tag = given.inputs.tag c }
+raw_there given queues c zero =
+    record { levels = levels_at given.inputs.signals c; more = given.inputs.more c; tag = given.inputs.tag c }
 raw_there given queues c (suc i) = head_of (queues i)
 
 abbrev pub waits_there : PipeInputs → (ℕ → List Raw) → ℕ → ℕ → ℕ
-waits_there given queues c i = if nat_lt i given.stages then one_if (not (nat_lt (length (queues i)) 2)) else given.inputs.waitrequest c
+waits_there given queues c i =
+    if nat_lt i given.stages then one_if (not (nat_lt (length (queues i)) 2)) else given.inputs.waitrequest c
 
 abbrev pub shows_raw : Raw → Bool
 shows_raw raw = is_raised raw.levels.read || is_raised raw.levels.write
@@ -169,7 +189,9 @@ abbrev pub split_pieces : SplitInputs → ℕ → List ℕ
 split_pieces given c = pieces_asked given.wide given.narrow (beat_of given.wide (split_levels given c))
 
 abbrev pub split_list : SplitInputs → ℕ → List Raw
-split_list given c = split_parts given.wide given.narrow idle (record { levels = split_levels given c; more = given.inputs.more c; tag = given.inputs.tag c })
+split_list given c =
+    split_parts given.wide given.narrow idle
+    (record { levels = split_levels given c; more = given.inputs.more c; tag = given.inputs.tag c })
 
 abbrev pub split_opens : SplitInputs → SplitRegisters → ℕ → Bool
 split_opens given now c =
@@ -182,7 +204,8 @@ part_at (x ∷ xs) zero = x
 part_at (x ∷ xs) (suc n) = part_at xs n
 
 abbrev pub split_shows : SplitInputs → SplitRegisters → ℕ → Bool
-split_shows given now c = (shows given.inputs.signals c && split_opens given now c) && nat_lt now.place (length (split_list given c))
+split_shows given now c =
+    (shows given.inputs.signals c && split_opens given now c) && nat_lt now.place (length (split_list given c))
 
 abbrev pub split_part : SplitInputs → SplitRegisters → ℕ → Raw
 split_part given now c = if split_shows given now c then part_at (split_list given c) now.place else silent_raw
@@ -193,7 +216,8 @@ split_takes_below given now c = shows_raw (split_part given now c) && not (is_ra
 abbrev pub split_waits : SplitInputs → SplitRegisters → ℕ → ℕ
 split_waits given now c =
     one_if (not (split_opens given now c
-    && (nat_eq (length (split_list given c)) 0 || (split_takes_below given now c && nat_eq (suc now.place) (length (split_list given c))))))
+    && (nat_eq (length (split_list given c)) 0
+    || (split_takes_below given now c && nat_eq (suc now.place) (length (split_list given c))))))
 
 abbrev pub split_takes : SplitInputs → SplitRegisters → ℕ → Bool
 split_takes given now c = shows given.inputs.signals c && not (is_raised (split_waits given now c))
@@ -203,7 +227,9 @@ split_completes now = nat_lt (length now.set) (suc (suc now.come))
 
 abbrev pub split_added : SplitInputs → SplitRegisters → ℕ → Word
 split_added given now c = record {
-  word = put_piece given.narrow.word_bytes (drop now.come now.set) now.gathered.word (given.inputs.answers.word c % 256 ^ given.narrow.word_bytes);
+  word =
+      put_piece given.narrow.word_bytes (drop now.come now.set) now.gathered.word
+      (given.inputs.answers.word c % 256 ^ given.narrow.word_bytes);
   code = max now.gathered.code (given.inputs.answers.code c);
 }
 
@@ -214,10 +240,16 @@ abbrev pub split_step : SplitInputs → SplitRegisters → ℕ → SplitRegister
 split_step given now c =
     record {
       place = if split_takes given now c then 0 else if split_takes_below given now c then suc now.place else now.place;
-      set = if split_takes_below given now c && not (is_raised (split_part given now c).levels.write) then split_pieces given c else now.set;
-      reads = (now.reads + one_if (split_takes given now c && not (is_raised (given.inputs.signals.write c)))) - one_if (is_raised (split_valid given now c));
+      set =
+          if split_takes_below given now c && not (is_raised (split_part given now c).levels.write) then split_pieces given c
+          else now.set;
+      reads =
+          (now.reads + one_if (split_takes given now c && not (is_raised (given.inputs.signals.write c))))
+          - one_if (is_raised (split_valid given now c));
       come = if is_raised (given.inputs.answers.valid c) then (if split_completes now then 0 else suc now.come) else now.come;
-      gathered = if is_raised (given.inputs.answers.valid c) then (if split_completes now then nothing else split_added given now c) else now.gathered;
+      gathered =
+          if is_raised (given.inputs.answers.valid c) then (if split_completes now then nothing else split_added given now c)
+          else now.gathered;
     }
 
 abbrev pub split_registers : SplitInputs → ℕ → SplitRegisters
@@ -239,7 +271,15 @@ split_state given = split_state_with (split_registers given)
 abbrev pub split_above_with : SplitInputs → (ℕ → SplitRegisters) → Port
 split_above_with given registers = record {
   shape = given.wide;
-  commands = record { signals = given.inputs.signals; more = given.inputs.more; tag = given.inputs.tag; waitrequest = λ c. split_waits given (registers c) c };
+  commands =
+      record {
+        signals =
+            given.inputs.signals;
+        more =
+            given.inputs.more;
+        tag = given.inputs.tag;
+        waitrequest = λ c. split_waits given (registers c) c;
+      };
   answers = record {
     valid = λ c. split_valid given (registers c) c;
     word = λ c. (split_added given (registers c) c).word;
@@ -292,7 +332,9 @@ abbrev pub cut_shows : CutInputs → CutRegisters → ℕ → Bool
 cut_shows given now c = if cut_sends now then true else shows given.inputs.signals c
 
 abbrev pub cut_beat : CutInputs → CutRegisters → ℕ → Raw
-cut_beat given now c = if cut_sends now then read_burst_of given.reach now.rest else first_burst given.reach given.longest given.shape (place_in given.shape.word_bytes now.burst) (cut_raw given c)
+cut_beat given now c =
+    if cut_sends now then read_burst_of given.reach now.rest
+    else first_burst given.reach given.longest given.shape (place_in given.shape.word_bytes now.burst) (cut_raw given c)
 
 abbrev pub cut_part : CutInputs → CutRegisters → ℕ → Raw
 cut_part given now c = if cut_shows given now c then cut_beat given now c else silent_raw
@@ -310,8 +352,11 @@ abbrev pub cut_step : CutInputs → CutRegisters → ℕ → CutRegisters
 cut_step given now c =
     record {
       burst = burst_after given.shape (levels_at given.inputs.signals c) (cut_takes given now c) now.burst;
-      rest = if cut_sends now then (if cut_takes_below given now c then behind_burst given.reach given.shape.word_bytes now.rest else now.rest)
-          else if cut_takes given now c && not (is_raised (given.inputs.signals.write c)) then behind_burst given.reach given.shape.word_bytes (whole_read given.shape (cut_raw given c)) else now.rest;
+      rest =
+          if cut_sends now
+          then (if cut_takes_below given now c then behind_burst given.reach given.shape.word_bytes now.rest else now.rest)
+          else if cut_takes given now c && not (is_raised (given.inputs.signals.write c))
+          then behind_burst given.reach given.shape.word_bytes (whole_read given.shape (cut_raw given c)) else now.rest;
     }
 
 abbrev pub cut_at_rest : CutRegisters
@@ -322,7 +367,8 @@ cut_registers given zero = cut_at_rest
 cut_registers given (suc c) = cut_step given (cut_registers given c) c
 
 abbrev pub cut_state_with : CutInputs → (ℕ → CutRegisters) → CutterState
-cut_state_with given registers = record { place = λ c. place_in given.shape.word_bytes (registers c).burst; rest = λ c. (registers c).rest }
+cut_state_with given registers =
+    record { place = λ c. place_in given.shape.word_bytes (registers c).burst; rest = λ c. (registers c).rest }
 
 abbrev pub cut_state : CutInputs → CutterState
 cut_state given = cut_state_with given (cut_registers given)
@@ -330,7 +376,15 @@ cut_state given = cut_state_with given (cut_registers given)
 abbrev pub cut_above_with : CutInputs → (ℕ → CutRegisters) → Port
 cut_above_with given registers = record {
   shape = given.shape;
-  commands = record { signals = given.inputs.signals; more = given.inputs.more; tag = given.inputs.tag; waitrequest = λ c. cut_waits given (registers c) c };
+  commands =
+      record {
+        signals =
+            given.inputs.signals;
+        more =
+            given.inputs.more;
+        tag = given.inputs.tag;
+        waitrequest = λ c. cut_waits given (registers c) c;
+      };
   answers = given.inputs.answers;
 }
 
@@ -380,7 +434,9 @@ drop_stands given now c = record {
 }
 
 abbrev pub drop_part : DropInputs → DropRegisters → ℕ → Raw
-drop_part given now c = if sends given.room (drop_stands given now c) then sent_beat now.kept (drop_raw given c) (drop_stands given now c).acts else silent_raw
+drop_part given now c =
+    if sends given.room (drop_stands given now c) then sent_beat now.kept (drop_raw given c) (drop_stands given now c).acts
+    else silent_raw
 
 abbrev pub drop_takes_below : DropInputs → DropRegisters → ℕ → Bool
 drop_takes_below given now c = shows_raw (drop_part given now c) && not (is_raised (given.inputs.waitrequest c))
@@ -391,8 +447,12 @@ drop_waits given now c = one_if (not (accepted (drop_stands given now c) (drop_t
 abbrev pub drop_step : DropInputs → DropRegisters → ℕ → DropRegisters
 drop_step given now c =
     record {
-      kept = if keeps (drop_stands given now c) (drop_takes_below given now c) then drop_raw given c ∷ [] else if drop_takes_below given now c then [] else now.kept;
-      reads = (now.reads + one_if (drop_takes_below given now c && not (is_raised (drop_part given now c).levels.write))) - one_if (is_raised (given.inputs.answers.valid c));
+      kept =
+          if keeps (drop_stands given now c) (drop_takes_below given now c) then drop_raw given c ∷ []
+          else if drop_takes_below given now c then [] else now.kept;
+      reads =
+          (now.reads + one_if (drop_takes_below given now c && not (is_raised (drop_part given now c).levels.write)))
+          - one_if (is_raised (given.inputs.answers.valid c));
       own = owes_itself (drop_stands given now c) (drop_takes_below given now c);
     }
 
@@ -401,7 +461,8 @@ drop_registers given zero = record { kept = []; reads = 0; own = false }
 drop_registers given (suc c) = drop_step given (drop_registers given c) c
 
 abbrev pub drop_state_with : (ℕ → DropRegisters) → DropState
-drop_state_with registers = record { kept = λ c. (registers c).kept; reads = λ c. (registers c).reads; own = λ c. (registers c).own }
+drop_state_with registers =
+    record { kept = λ c. (registers c).kept; reads = λ c. (registers c).reads; own = λ c. (registers c).own }
 
 abbrev pub drop_state : DropInputs → DropState
 drop_state given = drop_state_with (drop_registers given)
@@ -409,7 +470,15 @@ drop_state given = drop_state_with (drop_registers given)
 abbrev pub drop_above_with : DropInputs → (ℕ → DropRegisters) → Port
 drop_above_with given registers = record {
   shape = given.shape;
-  commands = record { signals = given.inputs.signals; more = given.inputs.more; tag = given.inputs.tag; waitrequest = λ c. drop_waits given (registers c) c };
+  commands =
+      record {
+        signals =
+            given.inputs.signals;
+        more =
+            given.inputs.more;
+        tag = given.inputs.tag;
+        waitrequest = λ c. drop_waits given (registers c) c;
+      };
   answers = record {
     valid = λ c. one_if ((registers c).own || is_raised (given.inputs.answers.valid c));
     word = λ c. if (registers c).own then 0 else given.inputs.answers.word c;

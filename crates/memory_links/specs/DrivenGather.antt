@@ -55,8 +55,14 @@ abbrev pub gather_step : GatherInputs → GatherRegisters → ℕ → GatherRegi
 gather_step given now c =
     record {
       entries = drop (one_if (gather_last given now c)) now.entries
-          ++ only_if ((shows given.inputs.signals c && not (is_raised (gather_waits given now c))) && not (is_raised (given.inputs.signals.write c)))
-          (record { offset = offset_in given.narrow given.wide (given.inputs.signals.address c); count = given.inputs.signals.count c });
+          ++ only_if
+          ((shows given.inputs.signals c && not (is_raised (gather_waits given now c)))
+          && not (is_raised (given.inputs.signals.write c)))
+          (record {
+            offset =
+                offset_in given.narrow given.wide (given.inputs.signals.address c);
+            count = given.inputs.signals.count c;
+          });
       words = drop (one_if (gather_last given now c)) (gather_held given now c);
       given = if gather_last given now c then 0 else if is_nonempty (gather_held given now c) then suc now.given else now.given;
     }
@@ -66,7 +72,8 @@ gather_registers given zero = gather_at_rest
 gather_registers given (suc c) = gather_step given (gather_registers given c) c
 
 abbrev pub gather_state_with : (ℕ → GatherRegisters) → GatherState
-gather_state_with registers = record { entries = λ c. (registers c).entries; words = λ c. (registers c).words; given = λ c. (registers c).given }
+gather_state_with registers =
+    record { entries = λ c. (registers c).entries; words = λ c. (registers c).words; given = λ c. (registers c).given }
 
 abbrev pub gather_state : GatherInputs → GatherState
 gather_state given = gather_state_with (gather_registers given)
@@ -74,14 +81,24 @@ gather_state given = gather_state_with (gather_registers given)
 abbrev pub gather_answers_with : GatherInputs → (ℕ → GatherRegisters) → AnswerView
 gather_answers_with given registers = record {
   valid = λ c. one_if (is_nonempty (gather_held given (registers c) c));
-  word = λ c. ((first_word (gather_held given (registers c) c)).word / 256 ^ gather_place given (registers c)) % 256 ^ given.narrow.word_bytes;
+  word =
+      λ c. ((first_word (gather_held given (registers c) c)).word / 256 ^ gather_place given
+      (registers c)) % 256 ^ given.narrow.word_bytes;
   code = λ c. (first_word (gather_held given (registers c) c)).code;
 }
 
 abbrev pub gather_above_with : GatherInputs → (ℕ → GatherRegisters) → Port
 gather_above_with given registers = record {
   shape = given.narrow;
-  commands = record { signals = given.inputs.signals; more = given.inputs.more; tag = given.inputs.tag; waitrequest = λ c. gather_waits given (registers c) c };
+  commands =
+      record {
+        signals =
+            given.inputs.signals;
+        more =
+            given.inputs.more;
+        tag = given.inputs.tag;
+        waitrequest = λ c. gather_waits given (registers c) c;
+      };
   answers = gather_answers_with given registers;
 }
 

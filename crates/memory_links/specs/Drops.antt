@@ -52,7 +52,17 @@ owes_itself now taken = accepted now taken && (not now.writes && not now.acts)
 -- a kept write beat as it is shown below: joined to the next one only where one with a lane follows
 abbrev pub released : Raw → Bool → Raw
 released raw follows = record {
-  levels = record { read = 0; write = 1; address = raw.levels.address; word = raw.levels.word; enables = raw.levels.enables; count = raw.levels.count };
+  levels =
+      record {
+        read =
+            0;
+        write =
+            1;
+        address = raw.levels.address;
+        word = raw.levels.word;
+        enables = raw.levels.enables;
+        count = raw.levels.count;
+      };
   more = one_if follows;
   tag = raw.tag;
 }
@@ -81,13 +91,17 @@ standing_at up state c = record {
 pub record RunsAsDrop (room : ℕ) (up down : Port) (state : DropState) : Type 0 where
   -- commands
   pub shown : (c : ℕ) → shows down.commands.signals c ≡ sends room (standing_at up state c)
-  pub beat : (c : ℕ) → shows down.commands.signals c ≡ true → raw_at down c ≡ sent_beat (state.kept c) (raw_at up c) (standing_at up state c).acts
+  pub beat : (c : ℕ) → shows down.commands.signals c ≡ true
+      → raw_at down c ≡ sent_beat (state.kept c) (raw_at up c) (standing_at up state c).acts
   pub accepts : (c : ℕ) → takes up c ≡ accepted (standing_at up state c) (takes down c)
   pub kept_begins : state.kept 0 ≡ []
-  pub kept_next : (c : ℕ) → state.kept (suc c) ≡ (if keeps (standing_at up state c) (takes down c) then raw_at up c ∷ [] else if takes down c then [] else state.kept c)
+  pub kept_next : (c : ℕ)
+      → state.kept (suc c)
+      ≡ (if keeps (standing_at up state c) (takes down c) then raw_at up c ∷ [] else if takes down c then [] else state.kept c)
   pub reads_begin : state.reads 0 ≡ 0
   -- a word that isn't owed leaves the count at 0
-  pub reads_next : (c : ℕ) → state.reads (suc c) ≡ (state.reads c + one_if (takes_read down c)) - one_if (is_raised (down.answers.valid c))
+  pub reads_next : (c : ℕ)
+      → state.reads (suc c) ≡ (state.reads c + one_if (takes_read down c)) - one_if (is_raised (down.answers.valid c))
   pub own_begins : state.own 0 ≡ false
   pub own_next : (c : ℕ) → state.own (suc c) ≡ owes_itself (standing_at up state c) (takes down c)
   -- answers: its own words are free, with code 0
@@ -106,4 +120,5 @@ pub record IsDropPlan (target : Target) (up down : Shape) : Type 0 where
 
 -- it holds a write, its rank is 1 while a word is owed below, and each word that holds an answer is a word from below
 abbrev pub drop_form : Target → LinkForm
-drop_form target = record { target = target; hold = 1; paces = record { largest = 1; hold = 1 } ∷ []; word_for_word = true; makes_lanes = true }
+drop_form target =
+    record { target = target; hold = 1; paces = record { largest = 1; hold = 1 } ∷ []; word_for_word = true; makes_lanes = true }

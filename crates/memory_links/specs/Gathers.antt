@@ -21,7 +21,8 @@ gathered narrow wide levels = record {
   write = levels.write;
   address = byte_address narrow levels.address - offset_in narrow wide levels.address;
   word = repeated narrow.word_bytes (wide.word_bytes / narrow.word_bytes) levels.word;
-  enables = (spread narrow.word_bytes levels.count levels.enables * 2 ^ offset_in narrow wide levels.address) % 2 ^ wide.word_bytes;
+  enables =
+      (spread narrow.word_bytes levels.count levels.enables * 2 ^ offset_in narrow wide levels.address) % 2 ^ wide.word_bytes;
   count = 1;
 }
 
@@ -67,19 +68,30 @@ abbrev pub entry_at : Port → Port → ℕ → Entry
 entry_at up down c = record { offset = offset_in up.shape down.shape (up.commands.address c); count = up.commands.count c }
 
 pub record RunsAsGather (room : ℕ) (up down : Port) (state : GatherState) : Type 0 where
-  pub levels : (c : ℕ) → levels_at down.commands.signals c ≡ silenced (is_shut room up state c) (gathered up.shape down.shape (levels_at up.commands.signals c))
+  pub levels : (c : ℕ)
+      → levels_at down.commands.signals c
+      ≡ silenced (is_shut room up state c) (gathered up.shape down.shape (levels_at up.commands.signals c))
   pub more : (c : ℕ) → down.commands.more c ≡ up.commands.more c
   pub tag : (c : ℕ) → down.commands.tag c ≡ up.commands.tag c
-  pub waitrequest : (c : ℕ) → is_raised (up.commands.waitrequest c) ≡ (is_shut room up state c || is_raised (down.commands.waitrequest c))
+  pub waitrequest : (c : ℕ)
+      → is_raised (up.commands.waitrequest c) ≡ (is_shut room up state c || is_raised (down.commands.waitrequest c))
   pub entries_begin : state.entries 0 ≡ []
-  pub entries_next : (c : ℕ) → state.entries (suc c) ≡ drop (one_if (is_last down state c)) (state.entries c) ++ only_if (takes_read up c) (entry_at up down c)
+  pub entries_next : (c : ℕ)
+      → state.entries (suc c)
+      ≡ drop (one_if (is_last down state c)) (state.entries c) ++ only_if (takes_read up c) (entry_at up down c)
   pub words_begin : state.words 0 ≡ []
   pub words_next : (c : ℕ) → state.words (suc c) ≡ drop (one_if (is_last down state c)) (held down state c)
   pub given_begins : state.given 0 ≡ 0
-  pub given_next : (c : ℕ) → state.given (suc c) ≡ (if is_last down state c then 0 else if is_nonempty (held down state c) then suc (state.given c) else state.given c)
+  pub given_next : (c : ℕ)
+      → state.given (suc c)
+      ≡ (if is_last down state c then 0 else if is_nonempty (held down state c) then suc (state.given c) else state.given c)
   pub valid : (c : ℕ) → is_raised (up.answers.valid c) ≡ is_nonempty (held down state c)
   -- a place past the end of the wide word, where no read of a legal side goes, is one from its start on
-  pub word : (c : ℕ) → IsTrue (is_nonempty (held down state c)) → up.answers.word c ≡ ((first_word (held down state c)).word / 256 ^ (((first_entry (state.entries c)).offset + state.given c * up.shape.word_bytes) % down.shape.word_bytes)) % 256 ^ up.shape.word_bytes
+  pub word : (c : ℕ) → IsTrue (is_nonempty (held down state c))
+      → up.answers.word c
+      ≡ ((first_word (held down state c)).word / 256 ^
+      (((first_entry (state.entries c)).offset
+      + state.given c * up.shape.word_bytes) % down.shape.word_bytes)) % 256 ^ up.shape.word_bytes
   pub code : (c : ℕ) → IsTrue (is_nonempty (held down state c)) → up.answers.code c ≡ (first_word (held down state c)).code
 
 -- narrow words, `many` of which make one word of the agent, which has byte enables
@@ -99,8 +111,11 @@ pub record LiesInWord (narrow wide : Shape) (levels : Levels) : Type 0 where
   pub single : IsTrue (is_raised levels.write) → levels.count ≡ 1
 
 abbrev pub LieInWords : Port → Shape → ℕ → Type 0
-LieInWords port wide end = (c : ℕ) → c < end → IsTrue (shows port.commands.signals c) → LiesInWord port.shape wide (levels_at port.commands.signals c)
+LieInWords port wide end =
+    (c : ℕ) → c < end → IsTrue (shows port.commands.signals c) → LiesInWord port.shape wide (levels_at port.commands.signals c)
 
 -- it holds nothing, its rank is always 0, and a word above is a part of one from below
 abbrev pub gather_form : Target → LinkForm
-gather_form target = record { target = target; hold = 0; paces = record { largest = 0; hold = 0 } ∷ []; word_for_word = false; makes_lanes = false }
+gather_form target =
+    record
+    { target = target; hold = 0; paces = record { largest = 0; hold = 0 } ∷ []; word_for_word = false; makes_lanes = false }

@@ -9,13 +9,15 @@ use Rattle.memory_machines.specs.PartRanks.{HoldsBack}
 -- by the end of the cycle an operation that was presented above isn't taken below
 abbrev pub is_untaken : Target → Port → Port → ℕ → Bool
 is_untaken target up down c =
-    nat_lt (length (operations_among target down.shape (taken_at down (suc c)))) (length (operations_among target up.shape (shown_at up (suc c))))
+    nat_lt (length (operations_among target down.shape (taken_at down (suc c))))
+    (length (operations_among target up.shape (shown_at up (suc c))))
 
 -- or a beat, with or without an operation, stands below
 abbrev pub is_behind : Target → Port → Port → ℕ → Bool
 is_behind target up down c = is_untaken target up down c || is_held down.commands.signals (takes down) c
 
--- by number of words: a word that is owed above by the end of a cycle is given in the next one, where nothing is behind or moves and no word is owed below
+-- by number of words: a word that is owed above by the end of a cycle is given in the next one, where nothing is behind or moves
+-- and no word is owed below
 abbrev pub GivesWhatHasCome : Target → Port → Port → ℕ → Type 0
 GivesWhatHasCome target up down end =
     (c : ℕ) → suc c < end → IsTrue (is_owed up c) →
@@ -48,5 +50,6 @@ pub record GoesOn (target : Target) (pace : Pace) (up down : Port) (end : ℕ) :
 -- links in a row, the highest first: each has a rank between its own sides
 pub data RowGoesOn (target : Target) (end : ℕ) : List Pace → Port → Port → Type 0 where
   at_end : {port : Port} → RowGoesOn target end [] port port
-  further : {pace : Pace} {paces : List Pace} {up middle down : Port} → GoesOn target pace up middle end → RowGoesOn target end paces middle down →
+  further : {pace : Pace} {paces : List Pace} {up middle down : Port} → GoesOn target pace up middle end
+      → RowGoesOn target end paces middle down →
       RowGoesOn target end (pace ∷ paces) up down

@@ -10,7 +10,8 @@ use Rattle.memory_links.specs.Going.{Pace, RowGoesOn}
 -- before an agent without byte enables no beat without an operation is shown below: where none is shown above, or anyhow
 abbrev pub BringsLanesDown : Bool → Target → Port → Port → ℕ → Type 0
 BringsLanesDown makes_lanes target up down end =
-    (c : ℕ) → c ≤ end → AreLegalAt up c → AnswersAreOwed down (c - 1) → (IsFalse makes_lanes → HasLanes target up c) → HasLanes target down c
+    (c : ℕ) → c ≤ end → AreLegalAt up c → AnswersAreOwed down (c - 1) → (IsFalse makes_lanes → HasLanes target up c)
+    → HasLanes target down c
 
 abbrev pub HandsOnJoins : Target → Port → Port → ℕ → Type 0
 HandsOnJoins target up down end =
@@ -19,7 +20,8 @@ HandsOnJoins target up down end =
 -- where all words of what was shown above are answered, so are all of what was shown below
 abbrev pub OwesNothingBelow : Port → Port → ℕ → Type 0
 OwesNothingBelow up down end =
-    (c : ℕ) → c ≤ end → AreLegalAt up c → AnswersAreOwed down c → IsTrue (are_answered up (shown_at up c) c) → IsTrue (are_answered down (shown_at down c) c)
+    (c : ℕ) → c ≤ end → AreLegalAt up c → AnswersAreOwed down c → IsTrue (are_answered up (shown_at up c) c)
+    → IsTrue (are_answered down (shown_at down c) c)
 
 -- what differs among links
 pub record LinkForm : Type 0 where
@@ -36,7 +38,8 @@ pub record IsLink (form : LinkForm) (up down : Port) (end : ℕ) : Type 0 where
   pub lanes : BringsLanesDown form.makes_lanes form.target up down end
   pub joins : HandsOnJoins form.target up down end
   pub quiet : OwesNothingBelow up down end
-  pub goes_on : AreLegalAt up end → AnswersAreOwed down end → JoinsAlike form.target up end → RowGoesOn form.target end form.paces up down
+  pub goes_on : AreLegalAt up end → AnswersAreOwed down end → JoinsAlike form.target up end
+      → RowGoesOn form.target end form.paces up down
 
 -- two links in a row
 abbrev pub chain_form : LinkForm → LinkForm → LinkForm
@@ -54,11 +57,13 @@ pub record FormsFit (first second : LinkForm) (up middle down : Port) : Type 0 w
   pub pieces : pieces middle.shape down.shape * pieces up.shape middle.shape ≤ pieces up.shape down.shape
   pub words : IsTrue (first.word_for_word || second.word_for_word)
 
--- how a link serves a host that waits for it: a plain command goes straight through it, and a first beat is shown within a few cycles
+-- how a link serves a host that waits for it: a plain command goes straight through it, and a first beat is shown within a few
+-- cycles
 pub record IsStraightLink (few : ℕ) (ahead may_burst : Bool) (target : Target) (up down : Port) (end : ℕ) : Type 0 where
   pub straight : AreLegalAt up end → AnswersAreOwed down end → GoesStraightThrough (λ c. ahead) target up down end
   pub prompt : AreLegalAt up end → AnswersAreOwed down end → IsShownPromptly few may_burst target up down end
 
 -- a wire
 abbrev pub pass_form : Target → LinkForm
-pass_form target = record { target = target; hold = 0; paces = record { largest = 0; hold = 0 } ∷ []; word_for_word = true; makes_lanes = false }
+pass_form target =
+    record { target = target; hold = 0; paces = record { largest = 0; hold = 0 } ∷ []; word_for_word = true; makes_lanes = false }

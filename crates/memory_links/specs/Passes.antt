@@ -27,7 +27,8 @@ AcceptsActs target port end = (c : ℕ) → c < end → IsTrue (takes port c) �
 abbrev pub acting : Target → Port → ℕ → List Marked
 acting target port c = filter (has_operation target port) (taken_at port c)
 
--- what has no operation isn't handed on. Of the others few wait, and a word that doesn't come from below is that of a read without an operation
+-- what has no operation isn't handed on. Of the others few wait, and a word that doesn't come from below is that of a read
+-- without an operation
 pub record PassesActs (hold : ℕ) (target : Target) (up down : Port) (end : ℕ) : Type 0 where
   pub after : (c : ℕ) → c ≤ end → length (taken_at down c) ≤ length (acting target up c)
   pub soon : (c : ℕ) → c ≤ end → length (acting target up c) ≤ length (taken_at down c) + hold

@@ -34,7 +34,8 @@ stage_pace = record { largest = 1; hold = 2 }
 
 -- one stage as a link, and all of them
 abbrev pub stage_form : Target → LinkForm
-stage_form target = record { target = target; hold = 2; paces = replicate 1 stage_pace; word_for_word = true; makes_lanes = false }
+stage_form target =
+    record { target = target; hold = 2; paces = replicate 1 stage_pace; word_for_word = true; makes_lanes = false }
 
 -- at most two beats wait in each stage
 abbrev pub HoldsFewBeats : ℕ → Port → Port → Type 0

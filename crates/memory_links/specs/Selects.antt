@@ -15,7 +15,8 @@ abbrev pub repeated : ℕ → ℕ → ℕ → ℕ
 repeated bytes zero word = 0
 repeated bytes (suc many) word = word % 256 ^ bytes + 256 ^ bytes * repeated bytes many word
 
--- a narrow beat as a beat of the wide word: its lanes stand at its offset, and its word on every place, since the lanes tell which one counts
+-- a narrow beat as a beat of the wide word: its lanes stand at its offset, and its word on every place, since the lanes tell
+-- which one counts
 abbrev pub selected : Shape → Shape → Levels → Levels
 selected narrow wide levels = record {
   read = levels.read;
@@ -42,15 +43,22 @@ is_shut room up offsets c = not (is_raised (up.commands.write c)) && not (nat_lt
 
 -- `offsets` is the queue of the offsets of the reads under way, as each cycle begins
 pub record RunsAsSelect (room : ℕ) (up down : Port) (offsets : ℕ → List ℕ) : Type 0 where
-  pub levels : (c : ℕ) → levels_at down.commands.signals c ≡ silenced (is_shut room up offsets c) (selected up.shape down.shape (levels_at up.commands.signals c))
+  pub levels : (c : ℕ)
+      → levels_at down.commands.signals c
+      ≡ silenced (is_shut room up offsets c) (selected up.shape down.shape (levels_at up.commands.signals c))
   pub more : (c : ℕ) → down.commands.more c ≡ up.commands.more c
   pub tag : (c : ℕ) → down.commands.tag c ≡ up.commands.tag c
-  pub waitrequest : (c : ℕ) → is_raised (up.commands.waitrequest c) ≡ (is_shut room up offsets c || is_raised (down.commands.waitrequest c))
+  pub waitrequest : (c : ℕ)
+      → is_raised (up.commands.waitrequest c) ≡ (is_shut room up offsets c || is_raised (down.commands.waitrequest c))
   pub begins : offsets 0 ≡ []
-  pub next : (c : ℕ) → offsets (suc c) ≡ drop (if is_raised (down.answers.valid c) then 1 else 0) (offsets c) ++ only_if (takes_read up c) (offset_in up.shape down.shape (up.commands.address c))
+  pub next : (c : ℕ)
+      → offsets (suc c)
+      ≡ drop (if is_raised (down.answers.valid c) then 1 else 0) (offsets c)
+      ++ only_if (takes_read up c) (offset_in up.shape down.shape (up.commands.address c))
   pub valid : (c : ℕ) → up.answers.valid c ≡ down.answers.valid c
   -- where a read is under way
-  pub word : (c : ℕ) → 0 < length (offsets c) → up.answers.word c ≡ (down.answers.word c / 256 ^ first_of (offsets c)) % 256 ^ up.shape.word_bytes
+  pub word : (c : ℕ) → 0 < length (offsets c)
+      → up.answers.word c ≡ (down.answers.word c / 256 ^ first_of (offsets c)) % 256 ^ up.shape.word_bytes
   pub code : (c : ℕ) → up.answers.code c ≡ down.answers.code c
 
 -- narrow words, `many` of which make one word of the agent, which has byte enables. Commands have one beat on both sides
@@ -66,8 +74,10 @@ pub record IsSelectPlan (target : Target) (narrow wide : Shape) (many : ℕ) : T
 
 -- the byte enables of what is shown fit their port
 abbrev pub EnablesFit : Port → ℕ → Type 0
-EnablesFit port end = (c : ℕ) → c < end → IsTrue (shows port.commands.signals c) → port.commands.enables c < 2 ^ port.shape.word_bytes
+EnablesFit port end =
+    (c : ℕ) → c < end → IsTrue (shows port.commands.signals c) → port.commands.enables c < 2 ^ port.shape.word_bytes
 
 -- it holds nothing, and its rank is always 0, where at least two reads may be under way
 abbrev pub select_form : Target → LinkForm
-select_form target = record { target = target; hold = 0; paces = record { largest = 0; hold = 0 } ∷ []; word_for_word = true; makes_lanes = false }
+select_form target =
+    record { target = target; hold = 0; paces = record { largest = 0; hold = 0 } ∷ []; word_for_word = true; makes_lanes = false }

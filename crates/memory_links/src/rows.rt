@@ -8,7 +8,8 @@ ghost use Rattle.memory_links.specs.InStep.{GoesInStep, AreInStep};
 
 /// A wire keeps all of it: it holds nothing, its rank is always 0, and each word is a word from below.
 pub fn pass_is_a_link()
-    ensures link { (target : Target) (port : Port) (end : ℕ) → 0 < port.shape.word_bytes → IsLink (pass_form target) port port end }
+    ensures link { (target : Target) (port : Port) (end : ℕ) → 0 < port.shape.word_bytes
+        → IsLink (pass_form target) port port end }
     ensures straight { (few : ℕ) (ahead may_burst : Bool) (target : Target) (port : Port) (end : ℕ)
         → IsStraightLink few ahead may_burst target port port end }
 {
@@ -25,14 +26,18 @@ pub fn chain_is_a_link()
     memory_machines::links::rows_compose()
 }
 
-/// Plain commands go straight through two links in a row where they do through each, and the links go in step. Between equal words the row goes in step too.
+/// Plain commands go straight through two links in a row where they do through each, and the links go in step. Between equal
+/// words the row goes in step too.
 pub fn chain_is_straight()
     ensures straight { (ahead : Bool) (first second : LinkForm) (up middle down : Port) (end : ℕ) → first.target ≡ second.target
-        → IsLink first up middle end → IsLink second middle down end → AreLegalAt up end → AnswersAreOwed down end → AreInStep ahead first.target up middle down end
-        → GoesStraightThrough (λ c. ahead) first.target up middle end → GoesStraightThrough (λ c. ahead) first.target middle down end
+        → IsLink first up middle end → IsLink second middle down end → AreLegalAt up end → AnswersAreOwed down end
+        → AreInStep ahead first.target up middle down end
+        → GoesStraightThrough (λ c. ahead) first.target up middle end
+        → GoesStraightThrough (λ c. ahead) first.target middle down end
         → GoesStraightThrough (λ c. ahead) first.target up down end }
     ensures step { (ahead : Bool) (first second : LinkForm) (up middle down : Port) (end : ℕ) → first.target ≡ second.target
-        → IsLink first up middle end → IsLink second middle down end → AreLegalAt up end → AnswersAreOwed down end → AreInStep ahead first.target up middle down end
+        → IsLink first up middle end → IsLink second middle down end → AreLegalAt up end → AnswersAreOwed down end
+        → AreInStep ahead first.target up middle down end
         → GoesStraightThrough (λ c. ahead) first.target up middle end → up.shape.word_bytes ≡ middle.shape.word_bytes
         → GoesInStep ahead first.target up down end }
 {}

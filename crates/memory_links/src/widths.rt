@@ -22,14 +22,18 @@ pub fn select_is_a_link()
     memory_machines::machines::beat_is_selected()
 }
 
-/// A splitter sends the pieces of each beat in order and accepts the beat with the last of them, so it carries commands, holds nothing,
+/// A splitter sends the pieces of each beat in order and accepts the beat with the last of them, so it carries commands, holds
+/// nothing,
 /// and makes no tags and no kinds of its own.
 pub fn split_carries_commands()
-    ensures pieces { (room : ℕ) (up down : Port) (state : SplitState) (end : ℕ) → RunsAsSplit room up down state → AreLegalAt up end
+    ensures pieces { (room : ℕ) (up down : Port) (state : SplitState) (end : ℕ) → RunsAsSplit room up down state
+        → AreLegalAt up end
         → IsExpanderRun (split_parts up.shape down.shape) up down (parts_sent up down) (split_rest up down state) end }
-    ensures commands { (target : Target) (room count : ℕ) (up down : Port) (state : SplitState) (end : ℕ) → MaySplit target up.shape down.shape count
+    ensures commands { (target : Target) (room count : ℕ) (up down : Port) (state : SplitState) (end : ℕ)
+        → MaySplit target up.shape down.shape count
         → RunsAsSplit room up down state → AreLegalAt up end → CarriesCommands target 0 up down end }
-    ensures back { (target : Target) (room count : ℕ) (up down : Port) (state : SplitState) (end : ℕ) → MaySplit target up.shape down.shape count
+    ensures back { (target : Target) (room count : ℕ) (up down : Port) (state : SplitState) (end : ℕ)
+        → MaySplit target up.shape down.shape count
         → RunsAsSplit room up down state → AreLegalAt up end → HoldsBack 0 target up down end }
     ensures tags { (room : ℕ) (up down : Port) (state : SplitState) (end : ℕ) → RunsAsSplit room up down state → AreLegalAt up end
         → HandsOn up down end }
@@ -37,22 +41,29 @@ pub fn split_carries_commands()
     memory_machines::machines::split_carries()
 }
 
-/// A splitter keeps all that a link promises: each word above is gathered from the words of its pieces, with the greatest of their codes,
+/// A splitter keeps all that a link promises: each word above is gathered from the words of its pieces, with the greatest of
+/// their codes,
 /// and its rank is 1 while a word is owed below.
 pub fn split_is_a_link()
-    ensures { (target : Target) (room count : ℕ) (up down : Port) (state : SplitState) (end : ℕ) → MaySplit target up.shape down.shape count
+    ensures { (target : Target) (room count : ℕ) (up down : Port) (state : SplitState) (end : ℕ)
+        → MaySplit target up.shape down.shape count
         → 0 < room → RunsAsSplit room up down state → IsLink (split_form target) up down end }
 {
     memory_machines::machines::split_carries();
     memory_machines::machines::beat_is_pieces()
 }
 
-/// Between equal words a splitter sends each beat as one piece, so a plain command goes straight through it once all words of earlier commands are given, and it goes in step.
+/// Between equal words a splitter sends each beat as one piece, so a plain command goes straight through it once all words of
+/// earlier commands are given, and it goes in step.
 pub fn split_is_straight()
-    ensures straight { (target : Target) (room : ℕ) (up down : Port) (state : SplitState) (end : ℕ) → MaySplit target up.shape down.shape 1
-        → 0 < room → RunsAsSplit room up down state → AreLegalAt up end → AnswersAreOwed down end → GoesStraightThrough (λ c. false) target up down end }
-    ensures step { (target : Target) (room : ℕ) (up down : Port) (state : SplitState) (end : ℕ) → MaySplit target up.shape down.shape 1
-        → 0 < room → RunsAsSplit room up down state → AreLegalAt up end → AnswersAreOwed down end → GoesInStep false target up down end }
+    ensures straight { (target : Target) (room : ℕ) (up down : Port) (state : SplitState) (end : ℕ)
+        → MaySplit target up.shape down.shape 1
+        → 0 < room → RunsAsSplit room up down state → AreLegalAt up end → AnswersAreOwed down end
+        → GoesStraightThrough (λ c. false) target up down end }
+    ensures step { (target : Target) (room : ℕ) (up down : Port) (state : SplitState) (end : ℕ)
+        → MaySplit target up.shape down.shape 1
+        → 0 < room → RunsAsSplit room up down state → AreLegalAt up end → AnswersAreOwed down end
+        → GoesInStep false target up down end }
 {
     memory_machines::machines::split_carries();
     memory_machines::machines::beat_is_pieces()

@@ -1,4 +1,5 @@
--- Which commands the operations behind an arbiter belong to, told by the ends of joined commands, and what an agent takes of them.
+-- Which commands the operations behind an arbiter belong to, told by the ends of joined commands, and what an agent takes of
+-- them.
 use Rattle.std.specs.Prelude.{ℕ, suc, ◌+◌, ◌-◌, ◌≤◌, Bool, true, false, not, ◌&&◌, ◌||◌, List, [], ◌∷◌, ◌++◌, length, map, replicate, nat_eq, nat_le, if◌then◌else◌, IsTrue}
 use Rattle.histories.specs.History.{IsPrefix}
 use Rattle.memory_runs.specs.Views.{System, Run}
@@ -21,7 +22,8 @@ acts_after acted g h = if nat_eq h g.tag then not g.closes && (acted h || is_non
 abbrev pub owners_of_groups : (ℕ → ℕ) → (ℕ → Bool) → List Group → List Owner
 owners_of_groups turn acted [] = []
 owners_of_groups turn acted (g ∷ later) =
-    replicate (length g.operations) (record { tag = g.tag; command = turn g.tag }) ++ owners_of_groups (turn_after turn acted g) (acts_after acted g) later
+    replicate (length g.operations) (record { tag = g.tag; command = turn g.tag })
+    ++ owners_of_groups (turn_after turn acted g) (acts_after acted g) later
 
 -- after a group that doesn't close comes one of the same tag
 abbrev pub groups_whole : List Group → Bool
@@ -35,8 +37,10 @@ turn_of system host agent number n acted [] command = n
 turn_of system host agent number n acted (t ∷ ts) command =
     if nat_le command number then n
     else turn_of system host agent (if t.ends then number + 1 else number)
-    (if is_agent agent (place_of system host t) && (t.ends && (acted || is_nonempty (transfer_operations system host agent t))) then suc n else n)
-    (if is_agent agent (place_of system host t) then not t.ends && (acted || is_nonempty (transfer_operations system host agent t)) else acted) ts command
+    (if is_agent agent (place_of system host t) && (t.ends && (acted || is_nonempty (transfer_operations system host agent t)))
+    then suc n else n)
+    (if is_agent agent (place_of system host t)
+    then not t.ends && (acted || is_nonempty (transfer_operations system host agent t)) else acted) ts command
 
 abbrev pub turn_at : System → Run → ℕ → ℕ → ℕ → ℕ → ℕ
 turn_at system run agent cycle host command = turn_of system host agent 1 0 false (host_transfers system run host cycle) command
@@ -49,6 +53,12 @@ by_turn f owner = record { tag = owner.tag; command = f owner.tag owner.command 
 pub record IsMatched (system : System) (run : Run) (inside : Inside) (agent end : ℕ) : Type 0 where
   pub owners : (c : ℕ) → c ≤ end →
       IsPrefix (map (by_turn (turn_at system run agent c)) (owners_taken system run agent c))
-      (owners_of_groups (λ _. 0) (λ _. false) (groups_of (target_of system agent) (inside.after_arbiter agent).shape (shown_at (inside.after_arbiter agent).port (c - system.stages))))
-  pub taken : (c : ℕ) → c ≤ end → IsPrefix (taken_at (inside.before_agent agent).port c) (taken_at (inside.after_arbiter agent).port (c - system.stages))
-  pub whole : (c : ℕ) → c ≤ end → IsTrue (groups_whole (groups_of (target_of system agent) (inside.after_arbiter agent).shape (shown_at (inside.after_arbiter agent).port c)))
+      (owners_of_groups (λ _. 0) (λ _. false)
+      (groups_of (target_of system agent) (inside.after_arbiter agent).shape
+      (shown_at (inside.after_arbiter agent).port (c - system.stages))))
+  pub taken : (c : ℕ) → c ≤ end
+      → IsPrefix (taken_at (inside.before_agent agent).port c) (taken_at (inside.after_arbiter agent).port (c - system.stages))
+  pub whole : (c : ℕ) → c ≤ end
+      → IsTrue
+      (groups_whole
+      (groups_of (target_of system agent) (inside.after_arbiter agent).shape (shown_at (inside.after_arbiter agent).port c)))

@@ -106,12 +106,14 @@ read_beats transfers = flat_map (λ m. m.transfer.beats) (filter (λ m. is_of_re
 
 abbrev pub words_at : Port → ℕ → List Word
 words_at port cycle =
-    before (λ c. only_if (is_raised (port.answers.valid c)) (record { word = port.answers.word c; code = port.answers.code c })) cycle
+    before (λ c. only_if (is_raised (port.answers.valid c))
+    (record { word = port.answers.word c; code = port.answers.code c })) cycle
 
 -- the answers in a word
 abbrev pub bytes_in : Target → Shape → Beat → Word → List Answer
 bytes_in target shape beat given =
-    map (λ lane. record { tag = 0; byte = byte_at given.word lane; code = given.code }) (filled_lanes shape target.shape beat.enables)
+    map (λ lane. record { tag = 0; byte = byte_at given.word lane; code = given.code })
+    (filled_lanes shape target.shape beat.enables)
 
 -- the answers that have come at a side before a cycle, in command order
 abbrev pub answers_at : Target → Port → ℕ → List Answer
@@ -149,12 +151,16 @@ HasRightBytes target up down number cycle =
 abbrev pub words_owed : Port → ℕ → ℕ
 words_owed port cycle = length (read_beats (taken_at port cycle))
 
--- the commands of a side are legal, a held one keeps its tag and its `more`, and a beat that doesn't end its burst has `more` high
+-- the commands of a side are legal, a held one keeps its tag and its `more`, and a beat that doesn't end its burst has `more`
+-- high
 pub record AreLegalAt (port : Port) (end : ℕ) : Type 0 where
   pub legal : AreLegal port.shape port.commands.signals (takes port) end
-  pub tag : (c : ℕ) → suc c < end → IsTrue (is_held port.commands.signals (takes port) c) → port.commands.tag c ≡ port.commands.tag (suc c)
-  pub more : (c : ℕ) → suc c < end → IsTrue (is_held port.commands.signals (takes port) c) → port.commands.more c ≡ port.commands.more (suc c)
-  pub joined : (c : ℕ) → c < end → IsTrue (shows port.commands.signals c) → IsTrue ((transfer_at port.shape port.commands.signals (takes port) c).ends || is_raised (port.commands.more c))
+  pub tag : (c : ℕ) → suc c < end → IsTrue (is_held port.commands.signals (takes port) c)
+      → port.commands.tag c ≡ port.commands.tag (suc c)
+  pub more : (c : ℕ) → suc c < end → IsTrue (is_held port.commands.signals (takes port) c)
+      → port.commands.more c ≡ port.commands.more (suc c)
+  pub joined : (c : ℕ) → c < end → IsTrue (shows port.commands.signals c)
+      → IsTrue ((transfer_at port.shape port.commands.signals (takes port) c).ends || is_raised (port.commands.more c))
 
 abbrev pub AnswersAreOwed : Port → ℕ → Type 0
 AnswersAreOwed port end = AreOwed port.answers.valid (words_owed port) end
@@ -162,14 +168,16 @@ AnswersAreOwed port end = AreOwed port.answers.valid (words_owed port) end
 -- what the commands of a link keep in the cycles before `end`
 pub record CarriesCommands (target : Target) (hold : ℕ) (up down : Port) (end : ℕ) : Type 0 where
   pub in_order : (c : ℕ) → c ≤ end → IsPrefix (items target down c) (items target up c)
-  pub beats : (c tag : ℕ) → c ≤ end → length (beats_with tag (shown_at down c)) ≤ pieces up.shape down.shape * length (beats_with tag (shown_at up c))
+  pub beats : (c tag : ℕ) → c ≤ end
+      → length (beats_with tag (shown_at down c)) ≤ pieces up.shape down.shape * length (beats_with tag (shown_at up c))
   pub legal : AreLegalAt down end
   pub held : (c : ℕ) → c ≤ end → held_by target up down c ≤ hold
   pub whole : (c : ℕ) → c ≤ end → AreWithin (sizes target down.shape (shown_at down c)) (sizes target up.shape (shown_at up c))
 
 -- what its answers keep
 pub record CarriesAnswers (target : Target) (up down : Port) (end : ℕ) : Type 0 where
-  pub answered : (c : ℕ) → c < end → IsTrue (is_raised (up.answers.valid c)) → IsAnswered target up down (length (words_at up c)) c
+  pub answered : (c : ℕ) → c < end → IsTrue (is_raised (up.answers.valid c))
+      → IsAnswered target up down (length (words_at up c)) c
   pub owed : AnswersAreOwed up end
 
 -- the law of a link in one run: commands need the answers of earlier cycles alone to be owed
@@ -181,7 +189,8 @@ pub record KeepsLinkLaw (target : Target) (hold : ℕ) (up down : Port) (end : �
 abbrev pub has_word_ready : Target → Port → Port → ℕ → Bool
 has_word_ready target up down cycle =
     nat_lt (length (words_at up cycle)) (length (read_beats (shown_at up cycle)))
-    && nat_le (reads_of target up.shape (take (suc (length (words_at up cycle))) (read_beats (shown_at up cycle)))) (length (answers_at target down cycle))
+    && nat_le (reads_of target up.shape (take (suc (length (words_at up cycle))) (read_beats (shown_at up cycle))))
+    (length (answers_at target down cycle))
 
 -- the last of these transfers has `more` high
 abbrev pub is_last_joined : List Marked → Bool

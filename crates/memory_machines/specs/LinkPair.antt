@@ -26,8 +26,10 @@ pub record KeepRows (pair : LinkPair) (end : ℕ) : Type 0 where
 
 -- a word comes in no more pieces by way of the middle than straight down
 abbrev pub AddsNoPieces : LinkPair → Type 0
-AddsNoPieces pair = pieces pair.middle.shape pair.down.shape * pieces pair.up.shape pair.middle.shape ≤ pieces pair.up.shape pair.down.shape
+AddsNoPieces pair =
+    pieces pair.middle.shape pair.down.shape * pieces pair.up.shape pair.middle.shape ≤ pieces pair.up.shape pair.down.shape
 
 -- each word that comes at the upper port holds the bytes of its answers below
 abbrev pub BringsRightBytes : Target → Port → Port → ℕ → Type 0
-BringsRightBytes target up down end = (c : ℕ) → c < end → IsTrue (is_raised (up.answers.valid c)) → HasRightBytes target up down (length (words_at up c)) c
+BringsRightBytes target up down end =
+    (c : ℕ) → c < end → IsTrue (is_raised (up.answers.valid c)) → HasRightBytes target up down (length (words_at up c)) c

@@ -1,4 +1,5 @@
--- Machines of links over views: what a side takes, as a list of beats; a stage with a queue; machines that send each beat in parts.
+-- Machines of links over views: what a side takes, as a list of beats; a stage with a queue; machines that send each beat in
+-- parts.
 use Rattle.std.specs.Prelude.{◌≡◌, ℕ, zero, suc, ◌≤◌, ◌<◌, ◌+◌, ◌-◌, ◌*◌, ◌/◌, ◌%◌, ◌^◌, Bool, true, false, not, ◌&&◌, ◌||◌, List, [], ◌∷◌, ◌++◌, length, drop, if◌then◌else◌, nat_lt, nat_eq, filter, map, flat_map, IsTrue, IsFalse}
 use Rattle.histories.specs.History.{one_if, only_if, is_raised, all_accepted, numbers}
 use Rattle.memory_runs.specs.Views.{Shape, Levels, levels_at}
@@ -50,7 +51,8 @@ pub record IsFitBeat (shape : Shape) (burst : Burst) (raw : Raw) : Type 0 where
 -- what a side shows in the cycles before `end` fits where its bursts stand, whatever is accepted
 abbrev pub ShowsFitBeats : Port → ℕ → Type 0
 ShowsFitBeats port end =
-    (c : ℕ) → c < end → IsTrue (shows port.commands.signals c) → IsFitBeat port.shape (burst_before port.shape port.commands.signals (takes port) c) (raw_at port c)
+    (c : ℕ) → c < end → IsTrue (shows port.commands.signals c)
+    → IsFitBeat port.shape (burst_before port.shape port.commands.signals (takes port) c) (raw_at port c)
 
 abbrev pub port_of : Shape → CommandView → AnswerView → Port
 port_of shape commands answers = record { shape = shape; commands = commands; answers = answers }
@@ -96,13 +98,20 @@ acted_past target shape acted [] = acted
 acted_past target shape acted (m ∷ later) = acted_past target shape (acted_after target shape acted m) later
 
 -- what the parts of one beat keep, wherever no burst is under way below
-pub record Expands (target : Target) (wide narrow : Shape) (parts : Burst → Raw → List Raw) (burst : Burst) (raw : Raw) (below : Burst) : Type 0 where
+pub record Expands (target : Target) (wide narrow : Shape) (parts : Burst → Raw → List Raw) (burst : Burst) (raw : Raw)
+    (below : Burst) : Type 0 where
   pub fit : AreFit narrow below (parts burst raw)
   pub free : (burst_of narrow below (parts burst raw)).left ≡ 0
-  pub items : (acted : Bool) → items_from target narrow acted (marked narrow below (parts burst raw)) ≡ items_of target wide acted (mark wide burst raw)
-  pub acted : (acted : Bool) → acted_past target narrow acted (marked narrow below (parts burst raw)) ≡ acted_after target wide acted (mark wide burst raw)
-  pub operations : operations_among target narrow (marked narrow below (parts burst raw)) ≡ operations_in target wide (mark wide burst raw)
-  pub beats : (tag : ℕ) → length (beats_with tag (marked narrow below (parts burst raw))) ≤ pieces wide narrow * length (beats_with tag (mark wide burst raw ∷ []))
+  pub items : (acted : Bool)
+      → items_from target narrow acted (marked narrow below (parts burst raw)) ≡ items_of target wide acted (mark wide burst raw)
+  pub acted : (acted : Bool)
+      → acted_past target narrow acted (marked narrow below (parts burst raw))
+      ≡ acted_after target wide acted (mark wide burst raw)
+  pub operations : operations_among target narrow (marked narrow below (parts burst raw))
+      ≡ operations_in target wide (mark wide burst raw)
+  pub beats : (tag : ℕ)
+      → length (beats_with tag (marked narrow below (parts burst raw)))
+      ≤ pieces wide narrow * length (beats_with tag (mark wide burst raw ∷ []))
 
 -- the parts of the beat that a side shows
 abbrev pub parts_at : (Burst → Raw → List Raw) → Port → ℕ → List Raw
@@ -117,7 +126,8 @@ pub record IsExpanderRun (parts : Burst → Raw → List Raw) (up down : Port) (
   pub part : (c : ℕ) → c < end → shows down.commands.signals c ≡ true → parts_at parts up c ≡ sent c ++ raw_at down c ∷ rest c
   pub accepts : (c : ℕ) → c < end → takes up c ≡ true → sent c ++ only_if (takes down c) (raw_at down c) ≡ parts_at parts up c
   pub waits : (c : ℕ) → c < end → is_held down.commands.signals (takes down) c ≡ true → takes up c ≡ false
-  pub keeps : (c : ℕ) → suc c < end → is_held down.commands.signals (takes down) c ≡ true → shows down.commands.signals (suc c) ≡ true
+  pub keeps : (c : ℕ) → suc c < end → is_held down.commands.signals (takes down) c ≡ true
+      → shows down.commands.signals (suc c) ≡ true
 
 -- one beat as a command by itself
 abbrev pub single : ℕ → ℕ → Beat → Raw
@@ -161,11 +171,13 @@ beat_of shape levels = record {
   enables = levels.enables;
 }
 
--- what a splitter of commands of one beat sends for a beat: a read, and a beat that closes the joined commands, come to one piece at least
+-- what a splitter of commands of one beat sends for a beat: a read, and a beat that closes the joined commands, come to one piece
+-- at least
 abbrev pub split_parts : Shape → Shape → Burst → Raw → List Raw
 split_parts wide narrow burst raw =
     let beat = beat_of wide raw.levels in
-    joined raw.tag raw.more (or_first narrow (not (is_raised raw.more) || not (is_raised raw.levels.write)) beat (touched wide narrow beat))
+    joined raw.tag raw.more
+    (or_first narrow (not (is_raised raw.more) || not (is_raised raw.levels.write)) beat (touched wide narrow beat))
 
 abbrev pub is_empty : {A : Type 0} → List A → Bool
 is_empty {A} [] = true
@@ -220,13 +232,17 @@ RunsAsStage stage = IsStageRun stage.depth (above stage) (below stage) stage.que
 
 -- waitrequest is low above wherever there is room
 abbrev pub WaitsOnlyWhenFull : Stage → Type 0
-WaitsOnlyWhenFull stage = (c : ℕ) → length (stage.queue c) < stage.depth → is_raised (stage.sides.commands_above.waitrequest c) ≡ false
+WaitsOnlyWhenFull stage =
+    (c : ℕ) → length (stage.queue c) < stage.depth → is_raised (stage.sides.commands_above.waitrequest c) ≡ false
 
 -- in these states of the burst the parts of a beat are right, and they are the states that a legal host leads to
-pub record ExpandsWhile (target : Target) (wide narrow : Shape) (parts : Burst → Raw → List Raw) (stands : Burst → Bool) : Type 0 where
+pub record ExpandsWhile (target : Target) (wide narrow : Shape) (parts : Burst → Raw → List Raw)
+    (stands : Burst → Bool) : Type 0 where
   pub begins : IsTrue (stands idle)
-  pub lasts : (burst : Burst) (raw : Raw) → IsFitBeat wide burst raw → IsTrue (stands burst) → IsTrue (stands (burst_past wide burst raw))
-  pub expands : (burst : Burst) (raw : Raw) (below : Burst) → IsFitBeat wide burst raw → IsTrue (stands burst) → below.left ≡ 0 → Expands target wide narrow parts burst raw below
+  pub lasts : (burst : Burst) (raw : Raw) → IsFitBeat wide burst raw → IsTrue (stands burst)
+      → IsTrue (stands (burst_past wide burst raw))
+  pub expands : (burst : Burst) (raw : Raw) (below : Burst) → IsFitBeat wide burst raw → IsTrue (stands burst) → below.left ≡ 0
+      → Expands target wide narrow parts burst raw below
 
 -- every machine that sends these parts carries commands and holds nothing
 abbrev pub PartsCarryCommands : Target → Shape → Shape → (Burst → Raw → List Raw) → Type 0

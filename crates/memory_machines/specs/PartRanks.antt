@@ -30,22 +30,27 @@ held_back (a ∷ later) reached = if nat_lt reached a.size then 1 + behind a.clo
 abbrev pub HoldsBack : ℕ → Target → Port → Port → ℕ → Type 0
 HoldsBack hold target up down end =
     (c : ℕ) → c ≤ end →
-    held_back (map (λ m. record { size = length (operations_in target up.shape m); closes = closes m }) (taken_at up c)) (length (operations_among target down.shape (taken_at down c))) ≤ hold
+    held_back (map (λ m. record { size = length (operations_in target up.shape m); closes = closes m }) (taken_at up c))
+    (length (operations_among target down.shape (taken_at down c)))
+    ≤ hold
 
 abbrev pub is_same : Bool → Bool → Bool
 is_same true other = other
 is_same false other = not other
 
--- the next transfer goes on with the joined command of the one before it: one tag, one kind, and of reads both have an operation or neither has
+-- the next transfer goes on with the joined command of the one before it: one tag, one kind, and of reads both have an operation
+-- or neither has
 abbrev pub goes_on_alike : Target → Port → Marked → Marked → Bool
 goes_on_alike target port m next =
     nat_eq m.tag next.tag && is_same (is_of_reads m.transfer.kind) (is_of_reads next.transfer.kind)
-    && (not (is_of_reads m.transfer.kind) || is_same (is_nonempty (operations_in target port.shape m)) (is_nonempty (operations_in target port.shape next)))
+    && (not (is_of_reads m.transfer.kind)
+    || is_same (is_nonempty (operations_in target port.shape m)) (is_nonempty (operations_in target port.shape next)))
 
 abbrev pub are_joined_alike : Target → Port → List Marked → Bool
 are_joined_alike target port [] = true
 are_joined_alike target port (m ∷ []) = true
-are_joined_alike target port (m ∷ next ∷ later) = (closes m || goes_on_alike target port m next) && are_joined_alike target port (next ∷ later)
+are_joined_alike target port (m ∷ next ∷ later) =
+    (closes m || goes_on_alike target port m next) && are_joined_alike target port (next ∷ later)
 
 abbrev pub JoinsAlike : Target → Port → ℕ → Type 0
 JoinsAlike target port end = (c : ℕ) → c ≤ end → IsTrue (are_joined_alike target port (shown_at port c))
@@ -62,7 +67,8 @@ pub record KeepsMoving (hold : ℕ) (target : Target) (up down : Port) (rank : �
 abbrev pub has_agent_work : System → Run → ℕ → TaggedPort → ℕ → Bool
 has_agent_work system run agent up c =
     is_held up.commands.signals (takes up.port) c
-    || nat_lt (length (taken system run agent (suc c))) (length (operations_among (target_of system agent) up.shape (shown_at up.port (suc c))))
+    || nat_lt (length (taken system run agent (suc c)))
+    (length (operations_among (target_of system agent) up.shape (shown_at up.port (suc c))))
 
 abbrev pub moves_at_agent : System → Run → ℕ → TaggedPort → ℕ → Bool
 moves_at_agent system run agent up c = agent_accepts (system.agent agent) (run.at_agent agent) c || takes up.port c
@@ -77,4 +83,5 @@ is_agent_excused system run agent up c =
 
 abbrev pub AgentRankFalls : System → Run → ℕ → TaggedPort → (ℕ → ℕ) → ℕ → ℕ → Type 0
 AgentRankFalls system run agent up rank largest end =
-    Falls (has_agent_work system run agent up) (moves_at_agent system run agent up) (is_agent_excused system run agent up) rank largest end
+    Falls (has_agent_work system run agent up) (moves_at_agent system run agent up)
+    (is_agent_excused system run agent up) rank largest end

@@ -26,7 +26,8 @@ is_writing port c = is_unclosed port c && is_last_write (taken_at port (suc c))
 
 -- the rest of what is left open at a port isn't shown; if it isn't a write, no word is owed there
 abbrev pub may_rest : Port → ℕ → Bool
-may_rest port c = is_unclosed port c && not (shows port.commands.signals c) && (is_last_write (taken_at port (suc c)) || not (is_owed port c))
+may_rest port c =
+    is_unclosed port c && not (shows port.commands.signals c) && (is_last_write (taken_at port (suc c)) || not (is_owed port c))
 
 -- a beat stands below, a word is owed below and no write is left open there, or the rest of what is left open above is waited for
 abbrev pub is_excused : Port → Port → ℕ → Bool
@@ -41,7 +42,9 @@ path_at target ports c = record {
   owed = λ p. is_owed (ports p) c;
   unclosed = λ p. is_unclosed (ports p) c;
   last_writes = λ p. is_last_write (taken_at (ports p) (suc c));
-  untaken = λ i. nat_lt (length (operations_among target (ports i).shape (taken_at (ports i) (suc c)))) (length (operations_among target (ports (suc i)).shape (shown_at (ports (suc i)) (suc c))));
+  untaken =
+      λ i. nat_lt (length (operations_among target (ports i).shape (taken_at (ports i) (suc c))))
+      (length (operations_among target (ports (suc i)).shape (shown_at (ports (suc i)) (suc c))));
   ready = λ i. has_word_ready target (ports (suc i)) (ports i) (suc c);
 }
 
@@ -49,7 +52,8 @@ path_at target ports c = record {
 abbrev pub has_commands : Target → Port → Port → ℕ → Bool
 has_commands target up down c =
     is_held up.commands.signals (takes up) c
-    || nat_lt (length (operations_among target down.shape (taken_at down (suc c)))) (length (operations_among target up.shape (shown_at up (suc c))))
+    || nat_lt (length (operations_among target down.shape (taken_at down (suc c))))
+    (length (operations_among target up.shape (shown_at up (suc c))))
     || is_unclosed down c
 
 -- a rank falls in each cycle with work in which nothing moves, unless the cycle is excused; there it doesn't rise
@@ -63,7 +67,8 @@ abbrev pub moves_commands : Port → Port → ℕ → Bool
 moves_commands up down c = takes down c || takes up c
 
 abbrev pub LinkRankFalls : Target → Port → Port → (ℕ → ℕ) → ℕ → ℕ → Type 0
-LinkRankFalls target up down rank largest end = Falls (has_commands target up down) (moves_commands up down) (is_excused up down) rank largest end
+LinkRankFalls target up down rank largest end =
+    Falls (has_commands target up down) (moves_commands up down) (is_excused up down) rank largest end
 
 -- as a cycle begins, the next word was asked, and all its answers have come; if it has none, no word is owed below
 abbrev pub is_due : Target → Port → Port → ℕ → Bool
@@ -72,11 +77,13 @@ is_due target up down c =
     let given = length (words_at up c) in
     nat_lt given (length asked)
     && nat_le (reads_of target up.shape (take (suc given) asked)) (length (answers_at target down c))
-    && (nat_lt (reads_of target up.shape (take given asked)) (reads_of target up.shape (take (suc given) asked)) || nat_le (words_owed down c) (length (words_at down c)))
+    && (nat_lt (reads_of target up.shape (take given asked)) (reads_of target up.shape (take (suc given) asked))
+    || nat_le (words_owed down c) (length (words_at down c)))
 
 -- then it is answered in this cycle
 abbrev pub AnswersPromptly : Target → Port → Port → ℕ → Type 0
-AnswersPromptly target up down end = (c : ℕ) → c < end → IsTrue (is_due target up down c) → IsTrue (is_raised (up.answers.valid c))
+AnswersPromptly target up down end =
+    (c : ℕ) → c < end → IsTrue (is_due target up down c) → IsTrue (is_raised (up.answers.valid c))
 
 -- a chain of links in one cycle, of commands alone
 abbrev pub commands_at : Target → (ℕ → Port) → ℕ → Path
@@ -92,16 +99,19 @@ link_part target ports i rank largest from = record {
 }
 
 abbrev pub link_budget : Target → (ℕ → Port) → (ℕ → ℕ → ℕ) → (ℕ → ℕ) → (ℕ → ℕ) → ℕ → ℕ → Budget
-link_budget target ports rank largest few from i = record { part = link_part target ports i (rank i) (largest i) from; few = few i }
+link_budget target ports rank largest few from i =
+    record { part = link_part target ports i (rank i) (largest i) from; few = few i }
 
 -- the same window, in which no word whose answers have come is left in the chain
 pub record IsUnhindered (target : Target) (ports : ℕ → Port) (n from size : ℕ) : Type 0 where
-  pub bottom : (c : ℕ) → c < size → IsFalse (is_held (ports 0).commands.signals (takes (ports 0)) (from + c) || is_owed (ports 0) (from + c))
+  pub bottom : (c : ℕ) → c < size
+      → IsFalse (is_held (ports 0).commands.signals (takes (ports 0)) (from + c) || is_owed (ports 0) (from + c))
   pub top : (c : ℕ) → c < size → IsFalse (may_rest (ports n) (from + c))
   pub words : (i c : ℕ) → i < n → c < size → IsFalse (has_word_ready target (ports (suc i)) (ports i) (suc (from + c)))
   pub work : (c : ℕ) → c < size → (i : ℕ) × (i < n) × IsTrue (has_commands target (ports (suc i)) (ports i) (from + c))
 
-pub record KeepLinkRanks (target : Target) (ports : ℕ → Port) (rank : ℕ → ℕ → ℕ) (largest few : ℕ → ℕ) (n from size : ℕ) : Type 0 where
+pub record KeepLinkRanks (target : Target) (ports : ℕ → Port) (rank : ℕ → ℕ → ℕ) (largest few : ℕ → ℕ)
+    (n from size : ℕ) : Type 0 where
   pub legal : (i : ℕ) → i ≤ n → AreLegalAt (ports i) (from + size + 1)
   pub in_order : (i c : ℕ) → i < n → c ≤ from + size → IsPrefix (items target (ports i) c) (items target (ports (suc i)) c)
   pub falls : (i : ℕ) → i < n → LinkRankFalls target (ports (suc i)) (ports i) (rank i) (largest i) (from + size)
@@ -123,12 +133,14 @@ pub record PartRankFalls (target : Target) (ports : ℕ → Port) (i : ℕ) (ran
   pub falls : LinkRankFalls target (ports (suc i)) (ports i) rank largest end
 
 -- a chain whose ranks fall stands in a window in which nothing below hinders it
-pub record IsStuckChain (target : Target) (ports : ℕ → Port) (rank : ℕ → ℕ → ℕ) (largest few : ℕ → ℕ) (n from size : ℕ) : Type 0 where
+pub record IsStuckChain (target : Target) (ports : ℕ → Port) (rank : ℕ → ℕ → ℕ) (largest few : ℕ → ℕ)
+    (n from size : ℕ) : Type 0 where
   pub ranks : KeepLinkRanks target ports rank largest few n from size
   pub unhindered : IsUnhindered target ports n from size
 
 -- the operations shown above a link aren't all asked below it, or their words have come, or a word is owed below
 abbrev pub is_on_its_way : Target → Port → Port → ℕ → Bool
 is_on_its_way target up down c =
-    nat_lt (length (operations_among target down.shape (taken_at down (suc c)))) (length (operations_among target up.shape (shown_at up (suc c))))
+    nat_lt (length (operations_among target down.shape (taken_at down (suc c))))
+    (length (operations_among target up.shape (shown_at up (suc c))))
     || has_word_ready target up down (suc c) || is_owed down c

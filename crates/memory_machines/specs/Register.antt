@@ -10,9 +10,16 @@ use Rattle.memory_machines.specs.Lines.{TaggedPort}
 pub record IsRegister (up down : Port) : Type 0 where
   pub shape : down.shape ≡ up.shape
   pub empty : IsFalse (shows down.commands.signals 0)
-  pub levels : (c : ℕ) → levels_at down.commands.signals (suc c) ≡ (if is_held down.commands.signals (takes down) c then levels_at down.commands.signals c else levels_at up.commands.signals c)
-  pub tag : (c : ℕ) → down.commands.tag (suc c) ≡ (if is_held down.commands.signals (takes down) c then down.commands.tag c else up.commands.tag c)
-  pub more : (c : ℕ) → down.commands.more (suc c) ≡ (if is_held down.commands.signals (takes down) c then down.commands.more c else up.commands.more c)
+  pub levels : (c : ℕ)
+      → levels_at down.commands.signals (suc c)
+      ≡ (if is_held down.commands.signals (takes down) c then levels_at down.commands.signals c
+      else levels_at up.commands.signals c)
+  pub tag : (c : ℕ)
+      → down.commands.tag (suc c)
+      ≡ (if is_held down.commands.signals (takes down) c then down.commands.tag c else up.commands.tag c)
+  pub more : (c : ℕ)
+      → down.commands.more (suc c)
+      ≡ (if is_held down.commands.signals (takes down) c then down.commands.more c else up.commands.more c)
   pub waitrequest : (c : ℕ) → is_raised (up.commands.waitrequest c) ≡ is_held down.commands.signals (takes down) c
 
 -- and registers for the answers and their tags

@@ -17,4 +17,6 @@ pub record IsSettled (system : System) (run : Run) (inside : Inside) (room : ℕ
   pub before_agent : (a : ℕ) → a < system.agents → IsFit system a (inside.before_agent a).port end
   -- what an agent has taken is the front of what stands behind its arbiter
   pub in_order : (a c : ℕ) → a < system.agents → c ≤ end →
-      IsPrefix (taken system run a c) (tagged_operations (groups_of (target_of system a) (inside.after_arbiter a).shape (shown_at (inside.after_arbiter a).port c)))
+      IsPrefix (taken system run a c)
+      (tagged_operations
+      (groups_of (target_of system a) (inside.after_arbiter a).shape (shown_at (inside.after_arbiter a).port c)))

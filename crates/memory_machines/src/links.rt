@@ -13,7 +13,8 @@ pub fn link_is_a_row()
         → KeepsRow target hold up down end }
 {}
 
-/// Two rows are one row where one of the two is word for word, and one that is word for word where both are. A row may be said to hold more.
+/// Two rows are one row where one of the two is word for word, and one that is word for word where both are. A row may be said to
+/// hold more.
 pub fn rows_compose()
     ensures upper { (pair : LinkPair) (end : ℕ) → KeepRows pair end → AddsNoPieces pair
         → IsWordForWord pair.target pair.up pair.middle end

@@ -35,7 +35,8 @@ pub fn stage_has_rank()
         → LinkRankFalls target (above stage) (below stage) (owing_rank (below stage)) 1 end }
 {}
 
-/// A machine that sends each beat in parts carries commands and holds nothing, where the parts of a beat keep what `Expands` says.
+/// A machine that sends each beat in parts carries commands and holds nothing, where the parts of a beat keep what `Expands`
+/// says.
 pub fn expander_carries()
     ensures { (target : Target) (wide narrow : Shape) (parts : Burst → Raw → List Raw) (stands : Burst → Bool)
         → ExpandsWhile target wide narrow parts stands → PartsCarryCommands target wide narrow parts }
@@ -61,7 +62,8 @@ pub fn beat_is_selected()
         → operations_of narrow target span beat ≡ operations_of wide target span (select_of target.word_bytes beat) }
 {}
 
-/// What a lane selector sends for a command of one beat keeps what an expander needs, where the lanes lie in one wide word and the byte enables fit their port.
+/// What a lane selector sends for a command of one beat keeps what an expander needs, where the lanes lie in one wide word and
+/// the byte enables fit their port.
 pub fn select_expands()
     ensures { (target : Target) (narrow wide : Shape) (burst : Burst) (raw : Raw) (below : Burst)
         → MaySelectBeat target narrow wide burst raw below

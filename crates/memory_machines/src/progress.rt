@@ -20,9 +20,12 @@ pub fn link_keeps_rank()
 
 /// Work of a link goes away by a move alone.
 pub fn work_lasts()
-    ensures { (target : Target) (ports : ℕ → Port) (i from size : ℕ) → AreLegalAt (ports (suc i)) (from + size + 1) → (c : ℕ) → c < size
-        → IsTrue ((link_part target ports i (λ c. 0) 0 from).works c) → IsFalse ((link_part target ports i (λ c. 0) 0 from).moves c)
-        → IsTrue ((link_part target ports i (λ c. 0) 0 from).works (suc c) || (link_part target ports i (λ c. 0) 0 from).moves (suc c)) }
+    ensures { (target : Target) (ports : ℕ → Port) (i from size : ℕ) → AreLegalAt (ports (suc i)) (from + size + 1) → (c : ℕ)
+        → c < size
+        → IsTrue ((link_part target ports i (λ c. 0) 0 from).works c)
+        → IsFalse ((link_part target ports i (λ c. 0) 0 from).moves c)
+        → IsTrue
+        ((link_part target ports i (λ c. 0) 0 from).works (suc c) || (link_part target ports i (λ c. 0) 0 from).moves (suc c)) }
 {}
 
 /// By the order of the operations, a word that is owed above a link isn't wholly asked below it, or has come, or is owed below.
@@ -32,7 +35,8 @@ pub fn owed_words_flow()
         → IsTrue (is_owed up c) → IsTrue (is_on_its_way target up down c) }
 {}
 
-/// A chain of links whose ranks fall isn't stuck for longer than the ranks allow, before an agent that neither waits nor owes a word.
+/// A chain of links whose ranks fall isn't stuck for longer than the ranks allow, before an agent that neither waits nor owes a
+/// word.
 pub fn chain_is_short()
     ensures { (target : Target) (ports : ℕ → Port) (rank : ℕ → ℕ → ℕ) (largest few : ℕ → ℕ) (n from size : ℕ)
         → IsStuckChain target ports rank largest few n from size
@@ -47,7 +51,8 @@ pub fn register_falls()
         → LinkRankFalls target up down (λ c. 0) 0 end }
 {}
 
-/// Where an arbiter keeps the turn rule, a host that asks, and none of whose commands begins, is passed by at most as many commands of others as they have shares together.
+/// Where an arbiter keeps the turn rule, a host that asks, and none of whose commands begins, is passed by at most as many
+/// commands of others as they have shares together.
 pub fn turn_rule_is_fair()
     ensures { (seats : List Seat) (up : ℕ → Port) (down : Port) (end : ℕ) → IsFairArbiter seats up down end
         → (host from size : ℕ) → AsksInVain seats up down end host from size

@@ -7,14 +7,16 @@ ghost use Rattle.memory_machines.specs.Lines.{Inside, Holds, Wired};
 ghost use Rattle.memory_machines.specs.Settled.{IsSettled};
 ghost use Rattle.memory_machines.specs.Begun.{IsMatched};
 
-/// Where the parts keep their lines and the components are legal, each boundary carries legal commands and owed answers, and each agent takes what its arbiter shows, in order.
+/// Where the parts keep their lines and the components are legal, each boundary carries legal commands and owed answers, and each
+/// agent takes what its arbiter shows, in order.
 pub fn lines_settle()
     ensures { (responses : Responses) (system : System) (run : Run) (inside : Inside) (holds : Holds) (end : ℕ)
         → (wired : Wired responses system run inside holds end) → IsLegalRun system run end
         → IsSettled system run inside wired.room end }
 {}
 
-/// There, too, the operations that an agent has taken match, in order, those behind its arbiter, the pipe hands on in order, and commands stand whole behind the arbiter.
+/// There, too, the operations that an agent has taken match, in order, those behind its arbiter, the pipe hands on in order, and
+/// commands stand whole behind the arbiter.
 pub fn agents_take_by_turns()
     ensures { (responses : Responses) (system : System) (run : Run) (inside : Inside) (holds : Holds) (end agent : ℕ)
         → Wired responses system run inside holds end → IsLegalRun system run end → agent < system.agents

@@ -1,4 +1,5 @@
-//! Packed reads in whole systems of machines: each word of an agent that a host's read touches is read once. From rows of links to the ports of a system.
+//! Packed reads in whole systems of machines: each word of an agent that a host's read touches is read once. From rows of links
+//! to the ports of a system.
 #![tactic(auto)]
 
 pub mod agree;
@@ -19,20 +20,28 @@ ghost use Rattle.memory_awake.specs.Theorem.{States, ArePlanned, AreMachines};
 ghost use Rattle.memory_awake.specs.Wires.{IsWire};
 ghost use Rattle.memory_packed.specs.Packed.{KeepsSizes, RowPacks, RowsPack};
 
-/// A wire hands each beat on with its operations. What drops beats without a lane hands on the others, and a splitter that stands between equal words those that have an operation.
+/// A wire hands each beat on with its operations. What drops beats without a lane hands on the others, and a splitter that stands
+/// between equal words those that have an operation.
 pub fn links_keep_sizes()
     ensures wire { (target : Target) (up down : Port) (end : ℕ) → IsWire up down → KeepsSizes target up down end }
-    ensures drop { (target : Target) (room : ℕ) (up down : Port) (state : DropState) (end : ℕ) → IsDropPlan target up.shape down.shape
+    ensures drop { (target : Target) (room : ℕ) (up down : Port) (state : DropState) (end : ℕ)
+        → IsDropPlan target up.shape down.shape
         → RunsAsDrop room up down state → KeepsSizes target up down end }
-    ensures split { (target : Target) (room count : ℕ) (up down : Port) (state : SplitState) (end : ℕ) → MaySplit target up.shape down.shape count
-        → RunsAsSplit room up down state → AreLegalAt up end → up.shape.word_bytes ≤ target.shape.word_bytes → KeepsSizes target up down end }
+    ensures split { (target : Target) (room count : ℕ) (up down : Port) (state : SplitState) (end : ℕ)
+        → MaySplit target up.shape down.shape count
+        → RunsAsSplit room up down state → AreLegalAt up end → up.shape.word_bytes ≤ target.shape.word_bytes
+        → KeepsSizes target up down end }
 {}
 
 /// A row packs reads where the host's word is no larger than the agent's, and the span is a whole number of these.
 pub fn rows_pack_reads()
-    ensures { (target : Target) (top middle low down : Port) (end : ℕ) (cuts : CutsBursts top middle) (fits : FitsWords target middle low) → DropsBeats target low down
-        → GathersBelowCut cuts fits → RowPacks cuts fits → top.shape.word_bytes ≤ target.shape.word_bytes → down.shape.word_bytes ≡ target.shape.word_bytes
-        → (times : ℕ) → 0 < times → target.span ≡ times * target.shape.word_bytes → EnablesFit top end → AreLegalAt top end → PacksReads target top down end }
+    ensures { (target : Target) (top middle low down : Port) (end : ℕ) (cuts : CutsBursts top middle)
+        (fits : FitsWords target middle low)
+        → DropsBeats target low down
+        → GathersBelowCut cuts fits → RowPacks cuts fits → top.shape.word_bytes ≤ target.shape.word_bytes
+        → down.shape.word_bytes ≡ target.shape.word_bytes
+        → (times : ℕ) → 0 < times → target.span ≡ times * target.shape.word_bytes → EnablesFit top end → AreLegalAt top end
+        → PacksReads target top down end }
 {
     memory_links::packs::packed_rows();
     memory_links::packs::equal_words_pack();

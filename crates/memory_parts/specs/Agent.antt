@@ -22,7 +22,8 @@ is_full side state c = side.has_readdatavalid && not (nat_lt (length (state.queu
 
 -- the agent doesn't accept what it is shown: by waitrequest, or until its wait states are over
 abbrev pub is_busy : AgentSide → AgentView → AgentState → ℕ → Bool
-is_busy side view state c = if side.has_waitrequest then is_raised (view.waitrequest c) else not (nat_eq (state.stood c) (wait_time side view c))
+is_busy side view state c =
+    if side.has_waitrequest then is_raised (view.waitrequest c) else not (nat_eq (state.stood c) (wait_time side view c))
 
 abbrev pub code_by : Responses → ℕ → ℕ
 code_by AreZero code = 0
@@ -47,10 +48,13 @@ pub record ShowsToAgent (side : AgentSide) (view : AgentView) (up : TaggedPort) 
   pub count : (c : ℕ) → c < end → view.count c ≡ (if side.has_burst then up.commands.count c else 1)
   pub grant : (c : ℕ) → c < end → view.grant c ≡ up.commands.tag c
   -- a beat is taken above exactly when the agent accepts it
-  pub wait : (c : ℕ) → c < end → is_raised (up.commands.waitrequest c) ≡ (is_full side state c && is_raised (up.commands.read c)) || is_busy side view state c
+  pub wait : (c : ℕ) → c < end
+      → is_raised (up.commands.waitrequest c)
+      ≡ (is_full side state c && is_raised (up.commands.read c)) || is_busy side view state c
   -- without waitrequest: a count of the cycles in which the beat has stood
   pub stood_first : state.stood 0 ≡ 0
-  pub stood_next : (c : ℕ) → suc c < end → IsFalse side.has_waitrequest → state.stood (suc c) ≡ stood_after side view c (state.stood c)
+  pub stood_next : (c : ℕ) → suc c < end → IsFalse side.has_waitrequest
+      → state.stood (suc c) ≡ stood_after side view c (state.stood c)
   -- with readdatavalid: the queue of unanswered reads
   pub queues : IsTrue side.has_readdatavalid → QueuesReads up.port view.readdatavalid state.queue end
 
@@ -67,7 +71,8 @@ row_places side = max 1 side.read_latency
 
 -- without readdatavalid: a row of registers hands on the tag of each read, and the word goes up at its end.
 -- At latency 0 the word waits for one cycle in a register, since no word may come in the cycle of its read
-pub record GivesFixed (responses : Responses) (side : AgentSide) (view : AgentView) (up : TaggedPort) (state : AgentState) (end : ℕ) : Type 0 where
+pub record GivesFixed (responses : Responses) (side : AgentSide) (view : AgentView) (up : TaggedPort) (state : AgentState)
+    (end : ℕ) : Type 0 where
   pub empty : (i : ℕ) → state.row 0 i ≡ None
   pub first : (c : ℕ) → suc c < end → state.row (suc c) 0 ≡ (if takes_read up.port c then Some (up.commands.tag c) else None)
   pub next : (c i : ℕ) → suc c < end → state.row (suc c) (suc i) ≡ state.row c i
@@ -78,7 +83,8 @@ pub record GivesFixed (responses : Responses) (side : AgentSide) (view : AgentVi
   pub word_late : (c : ℕ) → suc c < end → side.read_latency ≡ 0 → up.answers.word (suc c) ≡ view.readdata c
   pub code_late : (c : ℕ) → suc c < end → side.read_latency ≡ 0 → up.answers.code (suc c) ≡ code_by responses (view.response c)
 
-pub record IsAgentMachine (responses : Responses) (side : AgentSide) (view : AgentView) (up : TaggedPort) (state : AgentState) (end : ℕ) : Type 0 where
+pub record IsAgentMachine (responses : Responses) (side : AgentSide) (view : AgentView) (up : TaggedPort) (state : AgentState)
+    (end : ℕ) : Type 0 where
   pub commands : ShowsToAgent side view up state end
   pub queued : IsTrue side.has_readdatavalid → GivesQueued responses view up state end
   pub fixed : IsFalse side.has_readdatavalid → GivesFixed responses side view up state end

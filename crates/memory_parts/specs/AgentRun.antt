@@ -27,7 +27,8 @@ abbrev pub agent_at_rest : AgentRegisters
 agent_at_rest = record { queue = []; row = λ place. None; stood = 0 }
 
 abbrev pub agent_state : (ℕ → AgentRegisters) → AgentState
-agent_state registers = record { queue = λ c. (registers c).queue; row = λ c. (registers c).row; stood = λ c. (registers c).stood }
+agent_state registers =
+    record { queue = λ c. (registers c).queue; row = λ c. (registers c).row; stood = λ c. (registers c).stood }
 
 -- what the agent is shown
 abbrev pub agent_view : AgentSide → AgentInputs → AgentState → AgentView
@@ -56,14 +57,20 @@ abbrev pub agent_upper : Responses → AgentSide → AgentInputs → AgentState 
 agent_upper responses side inputs state = record {
   port = record {
     shape = inputs.shape;
-    commands = with_wait inputs.commands (λ c. one_if ((is_full side state c && is_raised (inputs.commands.signals.read c)) || is_busy side (agent_view side inputs state) state c));
+    commands =
+        with_wait inputs.commands (λ c. one_if
+        ((is_full side state c && is_raised (inputs.commands.signals.read c))
+        || is_busy side (agent_view side inputs state) state c));
     answers = record {
-      valid = λ c. if side.has_readdatavalid then inputs.readdatavalid c else one_if (is_some (state.row c (row_places side - 1)));
+      valid =
+          λ c. if side.has_readdatavalid then inputs.readdatavalid c else one_if (is_some (state.row c (row_places side - 1)));
       word = timed side inputs.readdata;
       code = timed side (λ c. code_by responses (inputs.response c));
     };
   };
-  answer_tag = λ c. if side.has_readdatavalid then head_tag (state.queue c) else by_option (state.row c (row_places side - 1)) 0 (λ tag. tag);
+  answer_tag =
+      λ c. if side.has_readdatavalid then head_tag (state.queue c)
+      else by_option (state.row c (row_places side - 1)) 0 (λ tag. tag);
 }
 
 -- a row of registers one place on

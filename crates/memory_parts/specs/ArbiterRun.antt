@@ -55,7 +55,10 @@ arbiter_lower inputs grant = record {
 abbrev pub arbiter_upper : ArbiterInputs → (ℕ → Grant) → ℕ → Port
 arbiter_upper inputs grant host = record {
   shape = inputs.shape;
-  commands = with_wait (inputs.asker host) (λ c. one_if (not (is_agent host (chosen (grant c) (asks_now inputs c)).host) || is_raised (inputs.waitrequest c)));
+  commands =
+      with_wait
+      (inputs.asker host) (λ c. one_if
+      (not (is_agent host (chosen (grant c) (asks_now inputs c)).host) || is_raised (inputs.waitrequest c)));
   answers = record {
     valid = λ c. one_if (is_raised (inputs.answers.valid c) && nat_eq (inputs.answer_tag c) host);
     word = inputs.answers.word;
@@ -63,20 +66,25 @@ arbiter_upper inputs grant host = record {
   };
 }
 
--- what the registers hold in one cycle. Where each asker's burst stands is told by what it has had taken, and is of no register in nets
+-- what the registers hold in one cycle. Where each asker's burst stands is told by what it has had taken, and is of no register
+-- in nets
 pub record ArbiterRegisters : Type 0 where
   pub grant : Grant
   pub bursts : ℕ → Burst
 
 abbrev pub arbiter_at_rest : List Seat → ArbiterRegisters
-arbiter_at_rest seats = record { grant = record { open_host = None; round = record { left = 0; ring = seats } }; bursts = λ host. idle }
+arbiter_at_rest seats =
+    record { grant = record { open_host = None; round = record { left = 0; ring = seats } }; bursts = λ host. idle }
 
 abbrev pub arbiter_step : ArbiterInputs → ArbiterRegisters → ℕ → ArbiterRegisters
 arbiter_step inputs now c =
     let up = arbiter_upper inputs (λ _. now.grant) in
     let down = arbiter_lower inputs (λ _. now.grant) in
     record {
-      grant = grant_after now.grant (chosen now.grant (asks_now inputs c)) (λ host. takes down.port c && closes (mark inputs.shape (now.bursts host) (raw_at (up host) c)));
+      grant =
+          grant_after now.grant
+          (chosen now.grant (asks_now inputs c)) (λ host. takes down.port c
+          && closes (mark inputs.shape (now.bursts host) (raw_at (up host) c)));
       bursts = λ host. burst_after inputs.shape (levels_at (inputs.asker host).signals c) (takes (up host) c) (now.bursts host);
     }
 

@@ -33,7 +33,8 @@ response_by AreCodes side answers c = if side.has_response && is_raised (answers
 abbrev pub left_past : HostView → HostState → ℕ → ℕ
 left_past view state c = if nat_eq (state.left c) 0 then view.count c - 1 else state.left c - 1
 
-pub record IsHostMachine (responses : Responses) (side : HostSide) (view : HostView) (down : Port) (state : HostState) (end : ℕ) : Type 0 where
+pub record IsHostMachine (responses : Responses) (side : HostSide) (view : HostView) (down : Port) (state : HostState)
+    (end : ℕ) : Type 0 where
   pub words : down.shape.word_bytes ≡ side.word_bytes
   pub units : down.shape.unit_bytes ≡ 1
   pub bursts : down.shape.burst_bits ≡ side.burst_bits
@@ -47,18 +48,25 @@ pub record IsHostMachine (responses : Responses) (side : HostSide) (view : HostV
   pub more : (c : ℕ) → c < end → down.commands.more c ≡ one_if (not (ends_now view state c))
   pub tag : (c : ℕ) → c < end → down.commands.tag c ≡ 0
   -- without readdatavalid a read waits until its word comes
-  pub wait : (c : ℕ) → c < end → is_raised (view.waitrequest c) ≡ (if is_raised (view.read c) && not side.has_readdatavalid then not (state.asked c && is_raised (down.answers.valid c)) else (is_shut side state c && is_raised (view.read c)) || is_raised (down.commands.waitrequest c))
+  pub wait : (c : ℕ) → c < end
+      → is_raised (view.waitrequest c)
+      ≡ (if is_raised (view.read c) && not side.has_readdatavalid then not (state.asked c && is_raised (down.answers.valid c))
+      else (is_shut side state c && is_raised (view.read c)) || is_raised (down.commands.waitrequest c))
   -- the registers
   pub starts : state.left 0 ≡ 0
-  pub lasts : (c : ℕ) → suc c < end → state.left (suc c) ≡ (if takes down c && is_raised (view.write c) then left_past view state c else state.left c)
+  pub lasts : (c : ℕ) → suc c < end
+      → state.left (suc c) ≡ (if takes down c && is_raised (view.write c) then left_past view state c else state.left c)
   pub quiet : state.asked 0 ≡ false
-  pub asks : (c : ℕ) → suc c < end → IsFalse side.has_readdatavalid → state.asked (suc c) ≡ (state.asked c || takes_read down c) && not (is_raised (down.answers.valid c))
+  pub asks : (c : ℕ) → suc c < end → IsFalse side.has_readdatavalid
+      → state.asked (suc c) ≡ (state.asked c || takes_read down c) && not (is_raised (down.answers.valid c))
   pub queues : IsTrue side.has_readdatavalid → QueuesReads down down.answers.valid state.queue end
   -- the answers
-  pub valid : (c : ℕ) → c < end → IsTrue side.has_readdatavalid → is_raised (view.readdatavalid c) ≡ is_raised (down.answers.valid c)
+  pub valid : (c : ℕ) → c < end → IsTrue side.has_readdatavalid
+      → is_raised (view.readdatavalid c) ≡ is_raised (down.answers.valid c)
   pub answer : (c : ℕ) → c < end → IsTrue (is_raised (down.answers.valid c)) → view.readdata c ≡ down.answers.word c
   pub response : (c : ℕ) → c < end → view.response c ≡ response_by responses side down.answers c
 
 -- a host without readdatavalid reads one word at a time: bursts of reads need readdatavalid
 abbrev pub ReadsWords : HostSide → HostView → ℕ → Type 0
-ReadsWords side view end = IsFalse side.has_readdatavalid → (c : ℕ) → c < end → IsTrue (is_raised (view.read c)) → view.count c ≡ 1
+ReadsWords side view end =
+    IsFalse side.has_readdatavalid → (c : ℕ) → c < end → IsTrue (is_raised (view.read c)) → view.count c ≡ 1

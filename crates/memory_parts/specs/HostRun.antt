@@ -24,7 +24,8 @@ abbrev pub host_at_rest : HostRegisters
 host_at_rest = record { queue = []; left = 0; asked = false }
 
 abbrev pub host_state : (ℕ → HostRegisters) → HostState
-host_state registers = record { queue = λ c. (registers c).queue; left = λ c. (registers c).left; asked = λ c. (registers c).asked }
+host_state registers =
+    record { queue = λ c. (registers c).queue; left = λ c. (registers c).left; asked = λ c. (registers c).asked }
 
 -- what stands below; of the host's port it reads the commands alone
 abbrev pub host_lower : HostSide → HostInputs → HostView → HostState → Port
@@ -48,7 +49,8 @@ host_lower side inputs view state = record {
 
 abbrev pub host_waits : HostSide → HostInputs → HostState → ℕ → Bool
 host_waits side inputs state c =
-    if is_raised (inputs.signals.read c) && not side.has_readdatavalid then not (state.asked c && is_raised (inputs.answers.valid c))
+    if is_raised (inputs.signals.read c) && not side.has_readdatavalid
+    then not (state.asked c && is_raised (inputs.answers.valid c))
     else (is_shut side state c && is_raised (inputs.signals.read c)) || is_raised (inputs.waitrequest c)
 
 -- the host's port

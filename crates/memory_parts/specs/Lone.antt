@@ -5,7 +5,8 @@ use Rattle.memory_runs.specs.Commands.{shows}
 use Rattle.memory_machines.specs.Link.{Port}
 use Rattle.memory_machines.specs.Lines.{TaggedPort}
 
--- the host's port is the one below, and each word that comes bears its tag. Whoever else is there asks nothing and is given no word
+-- the host's port is the one below, and each word that comes bears its tag. Whoever else is there asks nothing and is given no
+-- word
 pub record IsLoneWire (host hosts : ℕ) (up : ℕ → Port) (down : TaggedPort) (end : ℕ) : Type 0 where
   pub one : up host ≡ down.port
   pub tag : (c : ℕ) → c < end → IsTrue (is_raised (down.answers.valid c)) → down.answer_tag c ≡ host

@@ -33,7 +33,8 @@ is_same_place (Some place) other = is_agent place other
 
 -- a read goes on where nothing is owed by another place; by registers alone
 abbrev pub is_open : System → ℕ → Port → RouteState → ℕ → Bool
-is_open system host up state c = is_raised (up.commands.write c) || nat_eq (state.owed c) 0 || is_same_place (state.owing c) (place_now system host up state c)
+is_open system host up state c =
+    is_raised (up.commands.write c) || nat_eq (state.owed c) 0 || is_same_place (state.owing c) (place_now system host up state c)
 
 abbrev pub goes_to : System → ℕ → Port → RouteState → ℕ → ℕ → Bool
 goes_to system host up state a c = is_agent a (place_now system host up state c) && is_open system host up state c
@@ -46,37 +47,52 @@ default_code_by AreZero = 0
 default_code_by AreCodes = 3
 
 -- `room`: the register `owed` counts below it
-pub record IsRouteMachine (responses : Responses) (system : System) (host room : ℕ) (up : Port) (down : ℕ → Port) (state : RouteState) (end : ℕ) : Type 0 where
+pub record IsRouteMachine (responses : Responses) (system : System) (host room : ℕ) (up : Port) (down : ℕ → Port)
+    (state : RouteState) (end : ℕ) : Type 0 where
   pub shapes : (a : ℕ) → a < system.agents → (down a).shape ≡ up.shape
   -- the commands: shown to the place of their first address, with the host's number as their tag
-  pub read : (a c : ℕ) → a < system.agents → c < end → (down a).commands.read c ≡ (if goes_to system host up state a c then up.commands.read c else 0)
-  pub write : (a c : ℕ) → a < system.agents → c < end → (down a).commands.write c ≡ (if goes_to system host up state a c then up.commands.write c else 0)
+  pub read : (a c : ℕ) → a < system.agents → c < end
+      → (down a).commands.read c ≡ (if goes_to system host up state a c then up.commands.read c else 0)
+  pub write : (a c : ℕ) → a < system.agents → c < end
+      → (down a).commands.write c ≡ (if goes_to system host up state a c then up.commands.write c else 0)
   pub address : (a c : ℕ) → a < system.agents → c < end → (down a).commands.address c ≡ up.commands.address c
   pub word : (a c : ℕ) → a < system.agents → c < end → (down a).commands.word c ≡ up.commands.word c
   pub enables : (a c : ℕ) → a < system.agents → c < end → (down a).commands.enables c ≡ up.commands.enables c
   pub count : (a c : ℕ) → a < system.agents → c < end → (down a).commands.count c ≡ up.commands.count c
   pub more : (a c : ℕ) → a < system.agents → c < end → (down a).commands.more c ≡ up.commands.more c
   pub tag : (a c : ℕ) → a < system.agents → c < end → (down a).commands.tag c ≡ host
-  pub wait : (c : ℕ) → c < end → is_raised (up.commands.waitrequest c) ≡ not (is_open system host up state c) || by_option (place_now system host up state c) false (λ a. is_raised ((down a).commands.waitrequest c))
+  pub wait : (c : ℕ) → c < end
+      → is_raised (up.commands.waitrequest c)
+      ≡ not (is_open system host up state c)
+      || by_option (place_now system host up state c) false (λ a. is_raised ((down a).commands.waitrequest c))
   -- the registers
   pub outside : state.inside 0 ≡ false
-  pub stays : (c : ℕ) → suc c < end → state.inside (suc c) ≡ (if takes up c then is_raised (up.commands.more c) else state.inside c)
+  pub stays : (c : ℕ) → suc c < end
+      → state.inside (suc c) ≡ (if takes up c then is_raised (up.commands.more c) else state.inside c)
   pub keeps : (c : ℕ) → suc c < end → state.kept (suc c) ≡ place_now system host up state c
   pub nothing : state.owed 0 ≡ 0
   pub nobody : state.owing 0 ≡ None
-  pub counts : (c : ℕ) → suc c < end → state.owed c + read_count up c < room → one_if (is_raised (up.answers.valid c)) ≤ state.owed c + read_count up c →
+  pub counts : (c : ℕ) → suc c < end → state.owed c + read_count up c < room
+      → one_if (is_raised (up.answers.valid c)) ≤ state.owed c + read_count up c →
       state.owed (suc c) + one_if (is_raised (up.answers.valid c)) ≡ state.owed c + read_count up c
-  pub owes : (c : ℕ) → suc c < end → state.owing (suc c) ≡ (if takes_read up c then place_now system host up state c else state.owing c)
+  pub owes : (c : ℕ) → suc c < end
+      → state.owing (suc c) ≡ (if takes_read up c then place_now system host up state c else state.owing c)
   -- the answers: those of the place that owes; the default agent gives a word in each cycle in which it owes one
-  pub valid : (c : ℕ) → c < end → is_raised (up.answers.valid c) ≡ by_option (state.owing c) (nat_lt 0 (state.owed c)) (λ a. is_raised ((down a).answers.valid c))
-  pub answer : (c : ℕ) → c < end → IsTrue (is_raised (up.answers.valid c)) → up.answers.word c ≡ by_option (state.owing c) 0 (λ a. (down a).answers.word c)
-  pub code : (c : ℕ) → c < end → IsTrue (is_raised (up.answers.valid c)) → up.answers.code c ≡ by_option (state.owing c) (default_code_by responses) (λ a. (down a).answers.code c)
+  pub valid : (c : ℕ) → c < end
+      → is_raised (up.answers.valid c)
+      ≡ by_option (state.owing c) (nat_lt 0 (state.owed c)) (λ a. is_raised ((down a).answers.valid c))
+  pub answer : (c : ℕ) → c < end → IsTrue (is_raised (up.answers.valid c))
+      → up.answers.word c ≡ by_option (state.owing c) 0 (λ a. (down a).answers.word c)
+  pub code : (c : ℕ) → c < end → IsTrue (is_raised (up.answers.valid c))
+      → up.answers.code c ≡ by_option (state.owing c) (default_code_by responses) (λ a. (down a).answers.code c)
 
 -- what the map says of the places of a host
 pub record IsRoutePlan (system : System) (host : ℕ) (shape : Shape) : Type 0 where
   pub words : shape.word_bytes ≡ (system.host host).word_bytes
   pub agents : (kind : Kind) (address a : ℕ) → system.place host kind address ≡ Some a → a < system.agents
-  pub serves : (kind : Kind) (address a : ℕ) → system.place host kind address ≡ Some a → IsTrue (serves_kind (system.agent a) kind)
+  pub serves : (kind : Kind) (address a : ℕ) → system.place host kind address ≡ Some a
+      → IsTrue (serves_kind (system.agent a) kind)
   pub joined : (kind : Kind) (address a : ℕ) → system.place host kind address ≡ Some a → IsTrue (is_joined system a host)
   -- the base is a whole number of spans
-  pub base : (kind : Kind) (address a : ℕ) → system.place host kind address ≡ Some a → (spans : ℕ) × (system.base host a ≡ spans * (system.agent a).span) × (system.base host a ≤ address)
+  pub base : (kind : Kind) (address a : ℕ) → system.place host kind address ≡ Some a
+      → (spans : ℕ) × (system.base host a ≡ spans * (system.agent a).span) × (system.base host a ≤ address)

@@ -36,7 +36,8 @@ from_base base beat = record beat { address = beat.address - base }
 
 abbrev pub beat_operations : System → ℕ → ℕ → Beat → List Operation
 beat_operations system host agent beat =
-    operations_of (system.host host).shape (system.agent agent).shape (system.agent agent).span (from_base (system.base host agent) beat)
+    operations_of (system.host host).shape (system.agent agent).shape (system.agent agent).span
+    (from_base (system.base host agent) beat)
 
 abbrev pub transfer_operations : System → ℕ → ℕ → Transfer → List Operation
 transfer_operations system host agent transfer = flat_map (beat_operations system host agent) transfer.beats
@@ -49,7 +50,8 @@ issued system run host agent cycle =
 -- what an agent accepts in a cycle
 abbrev pub taken_transfers_in : System → Run → ℕ → ℕ → List Transfer
 taken_transfers_in system run agent cycle =
-    accepted_in (system.agent agent).shape (run.at_agent agent).signals (agent_accepts (system.agent agent) (run.at_agent agent)) cycle
+    accepted_in (system.agent agent).shape (run.at_agent agent).signals
+    (agent_accepts (system.agent agent) (run.at_agent agent)) cycle
 
 -- an accepted beat with the tag that grant shows
 pub record TaggedBeat : Type 0 where
@@ -58,14 +60,16 @@ pub record TaggedBeat : Type 0 where
 
 abbrev pub beats_taken_in : System → Run → ℕ → ℕ → List TaggedBeat
 beats_taken_in system run agent cycle =
-    map (λ b. record { tag = (run.at_agent agent).grant cycle; beat = b }) (flat_map (λ t. t.beats) (taken_transfers_in system run agent cycle))
+    map (λ b. record { tag = (run.at_agent agent).grant cycle; beat = b })
+    (flat_map (λ t. t.beats) (taken_transfers_in system run agent cycle))
 
 abbrev pub beats_taken : System → Run → ℕ → ℕ → List TaggedBeat
 beats_taken system run agent cycle = before (beats_taken_in system run agent) cycle
 
 abbrev pub operations_at : System → ℕ → TaggedBeat → List Tagged
 operations_at system agent tagged =
-    map (λ o. record { tag = tagged.tag; operation = o }) (own_operations (system.agent agent).shape (system.agent agent).span tagged.beat)
+    map (λ o. record { tag = tagged.tag; operation = o })
+    (own_operations (system.agent agent).shape (system.agent agent).span tagged.beat)
 
 -- the operations that an agent has taken before a cycle, each with its tag
 abbrev pub taken : System → Run → ℕ → ℕ → List Tagged
@@ -94,7 +98,8 @@ numbers_by_ends number (t ∷ later) = number ∷ numbers_by_ends (if t.ends the
 abbrev pub owners : System → Run → ℕ → ℕ → ℕ → List ℕ
 owners system run host agent cycle =
     let transfers = host_transfers system run host cycle in
-    flat_map (λ p. if is_agent agent (place_of system host p.1) then replicate (length (transfer_operations system host agent p.1)) p.0 else [])
+    flat_map (λ p. if is_agent agent (place_of system host p.1)
+    then replicate (length (transfer_operations system host agent p.1)) p.0 else [])
     (zip (numbers_by_ends 1 transfers) transfers)
 
 -- a taken operation's host, and the number of its command
@@ -151,10 +156,13 @@ is_joined system agent host = list_any (nat_eq host) (system.joined agent)
 
 -- an agent's operations stand in each host's order, whole commands, with no beat too many
 pub record ServesInGrantedOrder (system : System) (run : Run) (agent end : ℕ) : Type 0 where
-  pub tags : (c : ℕ) → c < end → IsTrue (agent_accepts (system.agent agent) (run.at_agent agent) c) → IsTrue (is_joined system agent ((run.at_agent agent).grant c))
-  pub in_order : (c host : ℕ) → c ≤ end → host < system.hosts → IsPrefix (of_host host (taken system run agent c)) (issued system run host agent (c - system.stages))
+  pub tags : (c : ℕ) → c < end → IsTrue (agent_accepts (system.agent agent) (run.at_agent agent) c)
+      → IsTrue (is_joined system agent ((run.at_agent agent).grant c))
+  pub in_order : (c host : ℕ) → c ≤ end → host < system.hosts
+      → IsPrefix (of_host host (taken system run agent c)) (issued system run host agent (c - system.stages))
   pub together : (c : ℕ) → c ≤ end → IsTrue (are_together (owners_taken system run agent c))
-  pub beats : (c host : ℕ) → c ≤ end → host < system.hosts → length (filter (λ b. nat_eq b.tag host) (beats_taken system run agent c)) ≤ words_covered system run host agent c
+  pub beats : (c host : ℕ) → c ≤ end → host < system.hosts
+      → length (filter (λ b. nat_eq b.tag host) (beats_taken system run agent c)) ≤ words_covered system run host agent c
 
 -- one word that an agent gives
 abbrev pub words_given_in : System → Run → ℕ → ℕ → List Word
@@ -163,7 +171,8 @@ words_given_in system run agent cycle =
     let view = run.at_agent agent in
     only_if
     (if side.has_readdatavalid then is_raised (view.readdatavalid cycle)
-    else nat_le side.read_latency cycle && is_raised (view.read (cycle - side.read_latency)) && agent_accepts side view (cycle - side.read_latency))
+    else nat_le side.read_latency cycle && is_raised (view.read (cycle - side.read_latency))
+    && agent_accepts side view (cycle - side.read_latency))
     (record { word = view.readdata cycle; code = view.response cycle })
 
 -- the byte that answers a read operation, with the tag of the operation and the code of its word
@@ -243,15 +252,18 @@ HasCodeOf system run host cycle number code (Some question) =
     MatchOption question.place (code ≡ 3) (λ agent.
     let lanes = filled_lanes (system.host host).shape (system.agent agent).shape question.beat.enables in
     0 < length lanes →
-    code ≡ greatest_code (take (length lanes) (drop (reads_for system host agent (take number (asked system run host (suc cycle))))
+    code
+    ≡ greatest_code (take (length lanes) (drop (reads_for system host agent (take number (asked system run host (suc cycle))))
     (answers_to host (answers system run agent (suc cycle - system.stages))))))
 
 -- `response` bears the code of the word that is given, and is 0 where none is
 pub record HasResponses (system : System) (run : Run) (host end : ℕ) : Type 0 where
-  pub of_words : (c : ℕ) → c < end → IsTrue (system.host host).has_response → IsTrue (gives_word (system.host host) (run.at_host host) c) →
+  pub of_words : (c : ℕ) → c < end → IsTrue (system.host host).has_response
+      → IsTrue (gives_word (system.host host) (run.at_host host) c) →
       HasCodeOf system run host c (length (given (system.host host) (run.at_host host) c)) ((run.at_host host).response c)
       (slice_get (asked system run host (suc c)) (length (given (system.host host) (run.at_host host) c)))
-  pub quiet : (c : ℕ) → c < end → IsTrue (system.host host).has_response → IsTrue (not (gives_word (system.host host) (run.at_host host) c)) → (run.at_host host).response c ≡ 0
+  pub quiet : (c : ℕ) → c < end → IsTrue (system.host host).has_response
+      → IsTrue (not (gives_word (system.host host) (run.at_host host) c)) → (run.at_host host).response c ≡ 0
   pub absent : (c : ℕ) → c < end → IsTrue (not (system.host host).has_response) → (run.at_host host).response c ≡ 0
 
 -- what a host's `response` carries
@@ -263,20 +275,24 @@ RespondsBy AreCodes system run host end = HasResponses system run host end
 abbrev pub ActsAsMemory : System → Run → (ℕ → ℕ) → ℕ → ℕ → Type 0
 ActsAsMemory system run contents agent end =
     (c : ℕ) → c ≤ end →
-    IsPrefix (map (λ a. a.byte) (answers system run agent c)) (bytes_read contents (map (λ t. t.operation) (taken system run agent c)))
+    IsPrefix (map (λ a. a.byte) (answers system run agent c))
+    (bytes_read contents (map (λ t. t.operation) (taken system run agent c)))
 
 -- the limiter: when an agent takes a read of a host, the host has been given all earlier words for other places
 abbrev pub KeepsReadOrder : System → Run → ℕ → ℕ → ℕ → Type 0
 KeepsReadOrder system run host agent end =
     (c number : ℕ) → c < end → number < length (asked system run host (suc c)) →
     MatchOption (slice_get (asked system run host (suc c)) number) ⊤ (λ q. IsTrue (not (is_agent agent q.place))) →
-    reads_for system host agent (take number (asked system run host (suc c))) < length (filter is_read (of_host host (taken system run agent (suc c)))) →
+    reads_for system host agent (take number (asked system run host (suc c)))
+    < length (filter is_read (of_host host (taken system run agent (suc c)))) →
     number < length (given (system.host host) (run.at_host host) (suc c))
 
 -- presented write beats and read commands of a host for an agent with an operation that isn't taken yet
 abbrev pub untaken : System → Run → ℕ → ℕ → ℕ → ℕ
 untaken system run host agent cycle =
-    unreached (map (λ t. length (transfer_operations system host agent t)) (for_agent system host agent (host_transfers system run host cycle)))
+    unreached
+    (map (λ t. length (transfer_operations system host agent t))
+    (for_agent system host agent (host_transfers system run host cycle)))
     (length (of_host host (taken system run agent cycle)))
 
 -- the largest number of them that is promised
@@ -299,7 +315,9 @@ IsWordFromMemory system run host agent contents cycle number given question =
     MatchOption question ⊥ (λ q. IsTrue (is_agent agent q.place) →
     let lanes = filled_lanes (system.host host).shape (system.agent agent).shape q.beat.enables in
     map (byte_at given.word) lanes
-    ≡ take (length lanes) (drop (reads_for system host agent (take number (asked system run host (suc cycle)))) (bytes_for host contents (taken system run agent (suc cycle - system.stages)))))
+    ≡ take (length lanes)
+    (drop (reads_for system host agent (take number (asked system run host (suc cycle))))
+    (bytes_for host contents (taken system run agent (suc cycle - system.stages)))))
 
 abbrev pub ReadsFromMemory : System → Run → ℕ → ℕ → (ℕ → ℕ) → ℕ → Type 0
 ReadsFromMemory system run host agent contents end =

@@ -9,7 +9,8 @@ use Rattle.memory_runs.specs.Onward.{NoHostHangs}
 use Rattle.memory_runs.specs.Awake.{NeverIdles, IsFair}
 use Rattle.memory_runs.specs.Whole.{IsLegalRun, IsSafe}
 
-pub legal_before : (shape : Shape) (signals : Signals) (accepts : ℕ → Bool) (shorter end : ℕ) → shorter ≤ end → AreLegal shape signals accepts end → AreLegal shape signals accepts shorter
+pub legal_before : (shape : Shape) (signals : Signals) (accepts : ℕ → Bool) (shorter end : ℕ) → shorter ≤ end
+    → AreLegal shape signals accepts end → AreLegal shape signals accepts shorter
 legal_before shape signals accepts shorter end h legal = record {
   one_kind = λ c low. legal.one_kind c (lt_of_lt_of_le low h);
   held = λ c low. legal.held c (lt_of_lt_of_le low h);
@@ -25,20 +26,23 @@ module _ (shorter end : ℕ) (h : shorter ≤ end) where
   pub agent_before : (side : AgentSide) (view : AgentView) → IsLegalAgent side view end → IsLegalAgent side view shorter
   agent_before side view legal = record { owed = λ has c low. legal.owed has c (lt_of_lt_of_le low h) }
 
-  pub proper_at_host_before : (side : HostSide) (view : HostView) → IsProperAtHost side view end → IsProperAtHost side view shorter
+  pub proper_at_host_before : (side : HostSide) (view : HostView) → IsProperAtHost side view end
+      → IsProperAtHost side view shorter
   proper_at_host_before side view proper = record {
     bounded = λ c low. proper.bounded c (lt_of_lt_of_le low h);
     later = λ has c low. proper.later has c (lt_of_lt_of_le low h);
   }
 
-  pub proper_at_agent_before : (side : AgentSide) (view : AgentView) → IsProperAtAgent side view end → IsProperAtAgent side view shorter
+  pub proper_at_agent_before : (side : AgentSide) (view : AgentView) → IsProperAtAgent side view end
+      → IsProperAtAgent side view shorter
   proper_at_agent_before side view proper = record {
     legal = legal_before _ _ _ shorter end h proper.legal;
     aligned = λ c low. proper.aligned c (lt_of_lt_of_le low h);
     bounded = λ c low. proper.bounded c (lt_of_lt_of_le low h);
   }
 
-  pub order_before : (system : System) (run : Run) (agent : ℕ) → ServesInGrantedOrder system run agent end → ServesInGrantedOrder system run agent shorter
+  pub order_before : (system : System) (run : Run) (agent : ℕ) → ServesInGrantedOrder system run agent end
+      → ServesInGrantedOrder system run agent shorter
   order_before system run agent order = record {
     tags = λ c low. order.tags c (lt_of_lt_of_le low h);
     in_order = λ c host low. order.in_order c host (le_trans low h);
@@ -46,7 +50,8 @@ module _ (shorter end : ℕ) (h : shorter ≤ end) where
     beats = λ c host low. order.beats c host (le_trans low h);
   }
 
-  responds_before : (responses : Responses) (system : System) (run : Run) (host : ℕ) → RespondsBy responses system run host end → RespondsBy responses system run host shorter
+  responds_before : (responses : Responses) (system : System) (run : Run) (host : ℕ) → RespondsBy responses system run host end
+      → RespondsBy responses system run host shorter
   responds_before AreZero system run host responds = λ c low. responds c (lt_of_lt_of_le low h)
   responds_before AreCodes system run host responds = record {
     of_words = λ c low. responds.of_words c (lt_of_lt_of_le low h);
@@ -60,7 +65,8 @@ module _ (shorter end : ℕ) (h : shorter ≤ end) where
     agents = λ agent there. agent_before _ _ (legal.agents agent there);
   }
 
-  pub safe_before : (responses : Responses) (system : System) (run : Run) → IsSafe responses system run end → IsSafe responses system run shorter
+  pub safe_before : (responses : Responses) (system : System) (run : Run) → IsSafe responses system run end
+      → IsSafe responses system run shorter
   safe_before responses system run safe = record {
     at_hosts = λ host is. proper_at_host_before _ _ (safe.at_hosts host is);
     at_agents = λ agent there. proper_at_agent_before _ _ (safe.at_agents agent there);
@@ -79,8 +85,13 @@ module _ (shorter end : ℕ) (h : shorter ≤ end) where
     hosts_at_default = λ host is from number low. awake.hosts_at_default host is from number (le_trans low h);
   }
 
-  pub onward_before : (window : ℕ → ℕ → ℕ) (system : System) (run : Run) → NoHostHangs window system run end → NoHostHangs window system run shorter
-  onward_before window system run onward = record { moves = λ agent host there is joined from number low. onward.moves agent host there is joined from number (le_trans low h) }
+  pub onward_before : (window : ℕ → ℕ → ℕ) (system : System) (run : Run) → NoHostHangs window system run end
+      → NoHostHangs window system run shorter
+  onward_before window system run onward =
+      record {
+        moves =
+            λ agent host there is joined from number low. onward.moves agent host there is joined from number (le_trans low h);
+      }
 
   pub fair_before : (system : System) (run : Run) → IsFair system run end → IsFair system run shorter
   fair_before system run fair = record {

@@ -197,7 +197,8 @@ pub fn operations_of(
     requires small { from.word_bytes ≤ 16 }
     requires span { 0 < span }
     requires address { beat.address + 16 < 2 ^ 64 }
-    ensures { IfOk result (λ operations. map seen operations.items ≡ operations_between (shape_of_end from) (shape_of_end to) span (beat_of_value beat)) }
+    ensures { IfOk result (λ operations. map seen operations.items
+        ≡ operations_between (shape_of_end from) (shape_of_end to) span (beat_of_value beat)) }
 {
     let lanes = filled_lanes(alloc, from, to, beat.enables)?;
     operations_at(alloc, span, beat, &lanes)
@@ -213,7 +214,8 @@ pub fn own_operations(
     requires small { words.word_bytes ≤ 16 }
     requires span { 0 < span }
     requires address { beat.address + 16 < 2 ^ 64 }
-    ensures { IfOk result (λ operations. map seen operations.items ≡ own_operations_of (shape_of_end words) span (beat_of_value beat)) }
+    ensures { IfOk result (λ operations. map seen operations.items
+        ≡ own_operations_of (shape_of_end words) span (beat_of_value beat)) }
 {
     let mut lanes = Vec::new(alloc);
     push_lanes(&mut lanes, 0, words.word_bytes, beat.enables, false)?;

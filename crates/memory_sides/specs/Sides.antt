@@ -15,7 +15,15 @@ burst_width bits = if nat_eq bits 0 then 1 else bits
 
 abbrev pub host_side : HostPort → HostSide
 host_side port = record {
-  shape = record { word_bytes = port.word_bytes; unit_bytes = unit_of port.byte_units port.word_bytes; burst_bits = burst_width port.burst_bits; has_enables = port.enables };
+  shape =
+      record {
+        word_bytes =
+            port.word_bytes;
+        unit_bytes =
+            unit_of port.byte_units port.word_bytes;
+        burst_bits = burst_width port.burst_bits;
+        has_enables = port.enables;
+      };
   has_burst = not (nat_eq port.burst_bits 0);
   has_readdatavalid = port.readdatavalid;
   has_response = port.response;
@@ -27,7 +35,15 @@ bound_of port = if nat_eq port.pending 0 then 1 else port.pending
 
 abbrev pub agent_side : AgentPort → AgentSide
 agent_side port = record {
-  shape = record { word_bytes = port.word_bytes; unit_bytes = unit_of port.byte_units port.word_bytes; burst_bits = burst_width port.burst_bits; has_enables = port.enables };
+  shape =
+      record {
+        word_bytes =
+            port.word_bytes;
+        unit_bytes =
+            unit_of port.byte_units port.word_bytes;
+        burst_bits = burst_width port.burst_bits;
+        has_enables = port.enables;
+      };
   has_read = port.reads;
   has_write = port.writes;
   has_burst = not (nat_eq port.burst_bits 0);

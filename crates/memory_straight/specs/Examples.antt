@@ -22,7 +22,8 @@ abbrev pub words_of : ℕ → Shape
 words_of bytes = record { word_bytes = bytes; unit_bytes = 1; burst_bits = 1; has_enables = true }
 
 abbrev pub host_with : Bool → ℕ → HostSide
-host_with has_readdatavalid bytes = record { shape = words_of bytes; has_burst = false; has_readdatavalid = has_readdatavalid; has_response = false }
+host_with has_readdatavalid bytes =
+    record { shape = words_of bytes; has_burst = false; has_readdatavalid = has_readdatavalid; has_response = false }
 
 -- it bears one read
 abbrev pub agent_of : ℕ → AgentSide
@@ -56,7 +57,9 @@ pair_of host agent = record {
 }
 
 abbrev pub commands_of : List ℕ → List ℕ → ℕ → Signals
-commands_of read write enables = record { read = signal read; write = signal write; address = always 0; word = always 7; enables = always enables; count = always 1 }
+commands_of read write enables =
+    record
+    { read = signal read; write = signal write; address = always 0; word = always 7; enables = always enables; count = always 1 }
 
 abbrev pub words_in : List ℕ → AnswerView
 words_in valid = record { valid = signal valid; word = always 0x11; code = always 0 }
@@ -71,12 +74,30 @@ port_with signals = record {
 abbrev pub host_run : HostView → Run
 host_run view = record {
   at_host = λ h. view;
-  at_agent = λ a. record { signals = commands_of [] [] 0; waitrequest = always 0; readdata = always 0; readdatavalid = always 0; response = always 0; grant = always 0 };
+  at_agent =
+      λ a. record {
+        signals =
+            commands_of [] [] 0;
+        waitrequest =
+            always 0;
+        readdata = always 0;
+        readdatavalid = always 0;
+        response = always 0;
+        grant = always 0;
+      };
 }
 
 abbrev pub agent_run : AgentView → Run
 agent_run view = record {
-  at_host = λ h. record { signals = commands_of [] [] 0; waitrequest = always 0; readdata = always 0; readdatavalid = always 0; response = always 0 };
+  at_host =
+      λ h. record {
+        signals =
+            commands_of [] [] 0;
+        waitrequest = always 0;
+        readdata = always 0;
+        readdatavalid = always 0;
+        response = always 0;
+      };
   at_agent = λ a. view;
 }
 
@@ -104,7 +125,16 @@ write_behind = host_in (1 ∷ 1 ∷ 1 ∷ []) (0 ∷ 0 ∷ 0 ∷ 1 ∷ []) (0 �
 
 -- a host whose write stands for two cycles
 abbrev pub writing : HostView
-writing = record { signals = commands_of [] (1 ∷ 1 ∷ []) 15; waitrequest = signal (1 ∷ []); readdata = always 0; readdatavalid = always 0; response = always 0 }
+writing =
+    record {
+      signals =
+          commands_of [] (1 ∷ 1 ∷ []) 15;
+      waitrequest =
+          signal (1 ∷ []);
+      readdata = always 0;
+      readdatavalid = always 0;
+      response = always 0;
+    }
 
 -- it is shown one cycle late
 abbrev pub late : Port
@@ -160,4 +190,14 @@ above_agent inputs = agent_upper AreCodes (agent_of 4) inputs (agent_state (agen
 
 -- it is shown nothing
 abbrev pub idle : AgentView
-idle = record { signals = commands_of [] [] 15; waitrequest = always 0; readdata = always 0; readdatavalid = always 0; response = always 0; grant = always 0 }
+idle =
+    record {
+      signals =
+          commands_of [] [] 15;
+      waitrequest =
+          always 0;
+      readdata = always 0;
+      readdatavalid = always 0;
+      response = always 0;
+      grant = always 0;
+    }

@@ -10,12 +10,16 @@ ghost use Rattle.memory_runs.specs.Commands.{shows};
 
 /// A write goes straight on while the word of a read before it is owed, and without readdatavalid once that word has come.
 pub fn straight_hosts()
-    ensures ahead { HostGoesStraightThrough (host_with true 4) (at_host (host_with true 4) write_ahead) 0 (below_host (host_with true 4) write_ahead) 3 }
-    ensures prompt { HostIsPrompt 0 (host_with true 4) (at_host (host_with true 4) write_ahead) 0 (below_host (host_with true 4) write_ahead) 3 }
+    ensures ahead { HostGoesStraightThrough (host_with true 4) (at_host (host_with true 4) write_ahead) 0
+        (below_host (host_with true 4) write_ahead) 3 }
+    ensures prompt { HostIsPrompt 0 (host_with true 4) (at_host (host_with true 4) write_ahead) 0
+        (below_host (host_with true 4) write_ahead) 3 }
     ensures asked { let up = above_host (host_with true 4) write_ahead in
         IsTrue (shows_plain up 1 && host_may_go_on up (below_host (host_with true 4) write_ahead) 1 && not (are_answered up (earlier_shown up 1) 1)) }
-    ensures behind { HostGoesStraightThrough (host_with false 4) (at_host (host_with false 4) write_behind) 0 (below_host (host_with false 4) write_behind) 4 }
-    ensures prompt_behind { HostIsPrompt 0 (host_with false 4) (at_host (host_with false 4) write_behind) 0 (below_host (host_with false 4) write_behind) 4 }
+    ensures behind { HostGoesStraightThrough (host_with false 4) (at_host (host_with false 4) write_behind) 0
+        (below_host (host_with false 4) write_behind) 4 }
+    ensures prompt_behind { HostIsPrompt 0 (host_with false 4) (at_host (host_with false 4) write_behind) 0
+        (below_host (host_with false 4) write_behind) 4 }
     ensures asked_behind { let up = above_host (host_with false 4) write_behind in
         IsTrue (shows_plain up 3 && host_may_go_on up (below_host (host_with false 4) write_behind) 3 && are_answered up (earlier_shown up 3) 3) }
 {
@@ -24,9 +28,11 @@ pub fn straight_hosts()
     memory_parts::runs::host_machine_runs()
 }
 
-/// A write goes straight on to the agent that owes a word. Where words don't fit, one on the last lane comes to nothing there, so nothing of it is shown promptly.
+/// A write goes straight on to the agent that owes a word. Where words don't fit, one on the last lane comes to nothing there, so
+/// nothing of it is shown promptly.
 pub fn straight_routes()
-    ensures ahead { RouteGoesStraightThrough even_pair 0 0 (above_route even_pair routed_ahead) (below_route even_pair routed_ahead) 3 }
+    ensures ahead { RouteGoesStraightThrough even_pair 0 0 (above_route even_pair routed_ahead)
+        (below_route even_pair routed_ahead) 3 }
     ensures prompt { RouteIsPrompt 0 even_pair 0 0 (above_route even_pair routed_ahead) (below_route even_pair routed_ahead) 3 }
     ensures asked { let up = above_route even_pair routed_ahead in
         IsTrue (route_may_go_on even_pair 0 0 up (below_route even_pair routed_ahead) 1 && not (are_answered up (earlier_shown up 1) 1)) }
@@ -40,8 +46,12 @@ pub fn straight_routes()
 /// A read is shown to an agent that bears one more, and a write to one that bears none.
 pub fn agents_shown_at_once()
     ensures shows { ShowsWhatItIsAsked even_pair (agent_run (at_agent asked_twice)) 0 (above_agent asked_twice) 3 }
-    ensures read { IsTrue (shows (above_agent asked_twice).commands.signals 0 && has_room_at_agent even_pair (agent_run (at_agent asked_twice)) 0 0) }
-    ensures write { IsTrue (shows (above_agent asked_twice).commands.signals 1 && not (has_room_at_agent even_pair (agent_run (at_agent asked_twice)) 0 1)) }
+    ensures read { IsTrue
+        (shows (above_agent asked_twice).commands.signals 0
+        && has_room_at_agent even_pair (agent_run (at_agent asked_twice)) 0 0) }
+    ensures write { IsTrue
+        (shows (above_agent asked_twice).commands.signals 1
+        && not (has_room_at_agent even_pair (agent_run (at_agent asked_twice)) 0 1)) }
 {
     crate::agents::agent_shows_what_it_is_asked();
     memory_parts::runs::agent_machine_runs()

@@ -9,9 +9,11 @@ ghost use Rattle.memory_machines.specs.Straight.{RouteGoesStraightThrough, Route
 ghost use Rattle.memory_parts.specs.Route.{RouteState, IsRoutePlan, IsRouteMachine};
 ghost use Rattle.memory_straight.specs.Fits.{FitsPieces};
 
-/// A plain command for an agent is shown to it in its own cycle, and accepted with it, where all words that are owed are owed by this agent, or none is.
+/// A plain command for an agent is shown to it in its own cycle, and accepted with it, where all words that are owed are owed by
+/// this agent, or none is.
 pub fn route_goes_straight()
-    ensures { (responses : Responses) (system : System) (host agent room : ℕ) (up : Port) (down : ℕ → Port) (state : RouteState) (end : ℕ)
+    ensures { (responses : Responses) (system : System) (host agent room : ℕ) (up : Port) (down : ℕ → Port) (state : RouteState)
+        (end : ℕ)
         → IsRoutePlan system host up.shape → AreLegalAt up end → AreSingle up end → OwesBelow room up end
         → ((a : ℕ) → a < system.agents → AnswersAreOwed (down a) end)
         → IsRouteMachine responses system host room up down state end → RouteGoesStraightThrough system host agent up down end }
@@ -20,9 +22,12 @@ pub fn route_goes_straight()
     memory_parts::steps::route_machine_is_a_part()
 }
 
-/// It shows a command for an agent in the first cycle in which all earlier ones are taken and answered, whatever waits below, where the words of host and agent fit. Of a write without an enabled lane no beat is left to be taken once its last one is accepted.
+/// It shows a command for an agent in the first cycle in which all earlier ones are taken and answered, whatever waits below,
+/// where the words of host and agent fit. Of a write without an enabled lane no beat is left to be taken once its last one is
+/// accepted.
 pub fn route_is_prompt()
-    ensures { (responses : Responses) (system : System) (host agent room : ℕ) (up : Port) (down : ℕ → Port) (state : RouteState) (end : ℕ)
+    ensures { (responses : Responses) (system : System) (host agent room : ℕ) (up : Port) (down : ℕ → Port) (state : RouteState)
+        (end : ℕ)
         → FitsPieces (system.host host).shape (system.agent agent).shape
         → IsRoutePlan system host up.shape → AreLegalAt up end → AreSingle up end → OwesBelow room up end
         → ((a : ℕ) → a < system.agents → AnswersAreOwed (down a) end)

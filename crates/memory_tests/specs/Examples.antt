@@ -55,7 +55,17 @@ quiet = record { read = always 0; write = always 0; address = always 0; word = a
 -- a host that only writes
 abbrev pub writer : List ℕ → List ℕ → List ℕ → ℕ → ℕ → List ℕ → HostView
 writer write address word enables count wait = record {
-  signals = record { read = always 0; write = signal write; address = signal address; word = signal word; enables = always enables; count = always count };
+  signals =
+      record {
+        read =
+            always 0;
+        write =
+            signal write;
+        address = signal address;
+        word = signal word;
+        enables = always enables;
+        count = always count;
+      };
   waitrequest = signal wait;
   readdata = always 0;
   readdatavalid = always 0;
@@ -65,7 +75,16 @@ writer write address word enables count wait = record {
 -- an agent that takes writes of one beat
 abbrev pub written_to : List ℕ → List ℕ → List ℕ → ℕ → List ℕ → AgentView
 written_to write address word enables grant = record {
-  signals = record { read = always 0; write = signal write; address = signal address; word = signal word; enables = always enables; count = always 1 };
+  signals =
+      record {
+        read =
+            always 0;
+        write = signal write;
+        address = signal address;
+        word = signal word;
+        enables = always enables;
+        count = always 1;
+      };
   waitrequest = always 0;
   readdata = always 0;
   readdatavalid = always 0;
@@ -94,7 +113,10 @@ narrow_run = run_of narrow_host no_host (written_to (1 ∷ 1 ∷ []) (5 ∷ 6 �
 
 -- the same with a piece for every lane
 abbrev pub all_lanes_run : Run
-all_lanes_run = run_of (writer (1 ∷ 1 ∷ 1 ∷ 1 ∷ []) (4 ∷ 4 ∷ 4 ∷ 4 ∷ []) (0xaabbccdd ∷ 0xaabbccdd ∷ 0xaabbccdd ∷ 0xaabbccdd ∷ []) 6 1 (1 ∷ 1 ∷ 1 ∷ 0 ∷ []))
+all_lanes_run =
+    run_of
+    (writer (1 ∷ 1 ∷ 1 ∷ 1 ∷ []) (4 ∷ 4 ∷ 4 ∷ 4 ∷ []) (0xaabbccdd ∷ 0xaabbccdd ∷ 0xaabbccdd ∷ 0xaabbccdd ∷ []) 6 1
+    (1 ∷ 1 ∷ 1 ∷ 0 ∷ []))
     no_host (written_to (1 ∷ 1 ∷ 1 ∷ 1 ∷ []) (4 ∷ 5 ∷ 6 ∷ 7 ∷ []) (0xdd ∷ 0xcc ∷ 0xbb ∷ 0xaa ∷ []) 1 (0 ∷ 0 ∷ 0 ∷ 0 ∷ []))
 
 -- a write under a tag that no host has
@@ -110,7 +132,9 @@ abbrev pub burst_host : HostView
 burst_host = writer (1 ∷ 1 ∷ 1 ∷ 1 ∷ []) (0xf8 ∷ 0 ∷ 0 ∷ 0 ∷ []) (1 ∷ 2 ∷ 3 ∷ 4 ∷ []) 1 4 (0 ∷ 0 ∷ 0 ∷ 0 ∷ [])
 
 abbrev pub wrap_run : Run
-wrap_run = run_of burst_host no_host (written_to (1 ∷ 1 ∷ 1 ∷ 1 ∷ []) (0x3e ∷ 0x3f ∷ 0 ∷ 1 ∷ []) (1 ∷ 2 ∷ 3 ∷ 4 ∷ []) 1 (0 ∷ 0 ∷ 0 ∷ 0 ∷ []))
+wrap_run =
+    run_of burst_host no_host
+    (written_to (1 ∷ 1 ∷ 1 ∷ 1 ∷ []) (0x3e ∷ 0x3f ∷ 0 ∷ 1 ∷ []) (1 ∷ 2 ∷ 3 ∷ 4 ∷ []) 1 (0 ∷ 0 ∷ 0 ∷ 0 ∷ []))
 
 -- two hosts each write a burst of two words; one burst after the other, or one within the other
 abbrev pub first_pair : HostView
@@ -135,7 +159,16 @@ packed_system = system_of (host_of 1 false) (agent_of 8 true 256) (0 ∷ [])
 
 abbrev pub reader : HostView
 reader = record {
-  signals = record { read = signal (1 ∷ []); write = always 0; address = signal (5 ∷ []); word = always 0; enables = always 1; count = always 1 };
+  signals =
+      record {
+        read =
+            signal (1 ∷ []);
+        write = always 0;
+        address = signal (5 ∷ []);
+        word = always 0;
+        enables = always 1;
+        count = always 1;
+      };
   waitrequest = always 0;
   readdata = signal (0 ∷ 0x15 ∷ []);
   readdatavalid = signal (0 ∷ 1 ∷ []);
@@ -144,7 +177,16 @@ reader = record {
 
 abbrev pub read_from : AgentView
 read_from = record {
-  signals = record { read = signal (1 ∷ []); write = always 0; address = always 0; word = always 0; enables = signal (0x20 ∷ []); count = always 1 };
+  signals =
+      record {
+        read =
+            signal (1 ∷ []);
+        write = always 0;
+        address = always 0;
+        word = always 0;
+        enables = signal (0x20 ∷ []);
+        count = always 1;
+      };
   waitrequest = always 0;
   readdata = signal (0 ∷ 0x1716151413121110 ∷ []);
   readdatavalid = signal (0 ∷ 1 ∷ []);

@@ -22,7 +22,8 @@ is_excused_lax up down c =
     || (is_under_way up.shape up.commands.signals (takes up) c && not (shows up.commands.signals c))
 
 abbrev pub FallsLax : Target → Port → Port → (ℕ → ℕ) → ℕ → ℕ → Type 0
-FallsLax target up down rank largest end = Falls (has_work target up down) (moves up down) (is_excused_lax up down) rank largest end
+FallsLax target up down rank largest end =
+    Falls (has_work target up down) (moves up down) (is_excused_lax up down) rank largest end
 
 -- the first exception alone is tight
 abbrev pub is_excused_half : Port → Port → ℕ → Bool
@@ -31,8 +32,10 @@ is_excused_half up down c =
     || (is_under_way up.shape up.commands.signals (takes up) c && not (shows up.commands.signals c))
 
 abbrev pub FallsHalf : Target → Port → Port → (ℕ → ℕ) → ℕ → ℕ → Type 0
-FallsHalf target up down rank largest end = Falls (has_work target up down) (moves up down) (is_excused_half up down) rank largest end
+FallsHalf target up down rank largest end =
+    Falls (has_work target up down) (moves up down) (is_excused_half up down) rank largest end
 
 -- all exceptions are tight, and words are moves
 abbrev pub FallsByWords : Target → Port → Port → (ℕ → ℕ) → ℕ → ℕ → Type 0
-FallsByWords target up down rank largest end = Falls (has_work target up down) (moves up down) (is_excused up down) rank largest end
+FallsByWords target up down rank largest end =
+    Falls (has_work target up down) (moves up down) (is_excused up down) rank largest end

@@ -10,18 +10,27 @@ use Rattle.memory_tests.specs.Joint.{no_answers}
 -- a side of one byte, with this `more` and this tag in each cycle
 abbrev pub marked_side : Signals → ℕ → ℕ → Port
 marked_side signals more tag =
-    record { shape = shape_of 1 1 true; commands = record { signals = signals; more = always more; tag = always tag; waitrequest = always 0 }; answers = no_answers }
+    record {
+      shape =
+          shape_of 1 1 true;
+      commands =
+          record { signals = signals; more = always more; tag = always tag; waitrequest = always 0 };
+      answers = no_answers;
+    }
 
 -- a write of one beat without a lane
 abbrev pub empty_write : Signals
-empty_write = record { read = always 0; write = signal (1 ∷ []); address = always 0; word = always 0; enables = always 0; count = always 1 }
+empty_write =
+    record { read = always 0; write = signal (1 ∷ []); address = always 0; word = always 0; enables = always 0; count = always 1 }
 
 -- host 0 asks under a tag that isn't its own; its beat has no operation
 abbrev pub mistagged : ℕ → Port
 mistagged h = if nat_eq h 0 then marked_side empty_write 0 7 else marked_side quiet 0 1
 
 abbrev pub some_reads : Signals
-some_reads = record { read = signal (1 ∷ 1 ∷ []); write = always 0; address = always 0; word = always 0; enables = always 1; count = always 1 }
+some_reads =
+    record
+    { read = signal (1 ∷ 1 ∷ []); write = always 0; address = always 0; word = always 0; enables = always 1; count = always 1 }
 
 -- an agent that only writes, with bursts
 abbrev pub writing_agent : AgentSide
@@ -33,7 +42,8 @@ written_place Writes address = if nat_lt address 256 then Some 0 else None
 
 -- one host joined to it
 abbrev pub writing_system : System
-writing_system = record (system_of (host_of 4 true) writing_agent (0 ∷ [])) { hosts = 1; place = λ h kind address. written_place kind address }
+writing_system =
+    record (system_of (host_of 4 true) writing_agent (0 ∷ [])) { hosts = 1; place = λ h kind address. written_place kind address }
 
 -- words of three bytes
 abbrev pub odd_system : System
@@ -41,14 +51,24 @@ odd_system = record writing_system { host = λ h. host_of 3 true }
 
 -- an agent with `response` answers a read with code 2, while the codes inside are constants 0
 abbrev pub one_answer : Signals
-one_answer = record { read = signal (1 ∷ []); write = always 0; address = always 0; word = always 0; enables = always 1; count = always 1 }
+one_answer =
+    record { read = signal (1 ∷ []); write = always 0; address = always 0; word = always 0; enables = always 1; count = always 1 }
 
 abbrev pub answering_system : System
 answering_system = system_of (host_of 1 true) (record (agent_of 1 true 16) { has_response = true }) (0 ∷ [])
 
 abbrev pub answering_run : Run
 answering_run = run_of no_host no_host
-    (record { signals = one_answer; waitrequest = always 0; readdata = always 0x77; readdatavalid = signal (0 ∷ 1 ∷ []); response = always 2; grant = always 0 })
+    (record {
+      signals =
+          one_answer;
+      waitrequest =
+          always 0;
+      readdata = always 0x77;
+      readdatavalid = signal (0 ∷ 1 ∷ []);
+      response = always 2;
+      grant = always 0;
+    })
 
 abbrev pub answered_side : TaggedPort
 answered_side = record {

@@ -1,4 +1,5 @@
--- Small runs of links, right and wrong: a wire, a pipe, a lane selector, a splitter, a cutter of bursts, and what keeps beats without a lane from an agent.
+-- Small runs of links, right and wrong: a wire, a pipe, a lane selector, a splitter, a cutter of bursts, and what keeps beats
+-- without a lane from an agent.
 use Rattle.std.specs.Prelude.{ℕ, true, List, [], ◌∷◌}
 use Rattle.memory_runs.specs.Views.{Shape}
 use Rattle.memory_machines.specs.Link.{Port, Target}
@@ -44,7 +45,9 @@ half_words = record {
   more = always 0;
   tag = always 0;
   waitrequest = always 0;
-  answers = record { valid = signal (0 ∷ 0 ∷ 0 ∷ 1 ∷ 1 ∷ []); word = signal (0 ∷ 0 ∷ 0 ∷ 0x44332211 ∷ 0x88776655 ∷ []); code = always 0 };
+  answers =
+      record
+      { valid = signal (0 ∷ 0 ∷ 0 ∷ 1 ∷ 1 ∷ []); word = signal (0 ∷ 0 ∷ 0 ∷ 0x44332211 ∷ 0x88776655 ∷ []); code = always 0 };
 }
 
 abbrev pub selecting : ℕ → SelectInputs
@@ -55,7 +58,17 @@ abbrev pub read_port : ℕ → ℕ → ℕ → ℕ → Port
 read_port bytes address enables word = record {
   shape = lane_shape bytes;
   commands = record {
-    signals = record { read = signal (1 ∷ []); write = always 0; address = signal (address ∷ []); word = always 0; enables = always enables; count = always 1 };
+    signals =
+        record {
+          read =
+              signal (1 ∷ []);
+          write =
+              always 0;
+          address = signal (address ∷ []);
+          word = always 0;
+          enables = always enables;
+          count = always 1;
+        };
     more = always 0;
     tag = always 0;
     waitrequest = always 0;
@@ -71,7 +84,18 @@ three_writes = record {
   stages = 2;
   shape = lane_shape 1;
   inputs = record {
-    signals = record { read = always 0; write = signal (1 ∷ 1 ∷ 1 ∷ []); address = signal (1 ∷ 2 ∷ 3 ∷ []); word = signal (0xaa ∷ 0xbb ∷ 0xcc ∷ []); enables = always 1; count = always 1 };
+    signals =
+        record {
+          read =
+              always 0;
+          write =
+              signal (1 ∷ 1 ∷ 1 ∷ []);
+          address =
+              signal (1 ∷ 2 ∷ 3 ∷ []);
+          word = signal (0xaa ∷ 0xbb ∷ 0xcc ∷ []);
+          enables = always 1;
+          count = always 1;
+        };
     more = always 0;
     tag = always 0;
     waitrequest = signal (0 ∷ 0 ∷ 1 ∷ []);
@@ -82,7 +106,9 @@ three_writes = record {
 
 -- the same through four stages; the agent waits in the two cycles in which the first write stands before it
 abbrev pub stalled_writes : PipeInputs
-stalled_writes = record three_writes { stages = 4; inputs = record (three_writes.inputs) { waitrequest = signal (0 ∷ 0 ∷ 0 ∷ 0 ∷ 1 ∷ 1 ∷ []) } }
+stalled_writes =
+    record three_writes
+    { stages = 4; inputs = record (three_writes.inputs) { waitrequest = signal (0 ∷ 0 ∷ 0 ∷ 0 ∷ 1 ∷ 1 ∷ []) } }
 
 abbrev pub tagged_port : Port → TaggedPort
 tagged_port port = record { port = port; answer_tag = always 0 }
@@ -110,7 +136,16 @@ gathering = record {
   narrow = lane_shape 1;
   room = 16;
   inputs = record {
-    signals = record { read = signal (1 ∷ 1 ∷ []); write = always 0; address = always 4; word = always 0; enables = always 6; count = always 1 };
+    signals =
+        record {
+          read =
+              signal (1 ∷ 1 ∷ []);
+          write = always 0;
+          address = always 4;
+          word = always 0;
+          enables = always 6;
+          count = always 1;
+        };
     more = always 0;
     tag = always 0;
     waitrequest = always 0;
@@ -125,7 +160,8 @@ empty_writes = record {
   narrow = lane_shape 1;
   room = 16;
   inputs = record {
-    signals = record { read = always 0; write = always 1; address = always 4; word = always 7; enables = always 0; count = always 1 };
+    signals =
+        record { read = always 0; write = always 1; address = always 4; word = always 7; enables = always 0; count = always 1 };
     more = always 1;
     tag = always 0;
     waitrequest = always 0;
@@ -138,7 +174,17 @@ abbrev pub byte_reads : Port
 byte_reads = record {
   shape = lane_shape 1;
   commands = record {
-    signals = record { read = signal (1 ∷ 1 ∷ []); write = always 0; address = signal (5 ∷ 6 ∷ []); word = always 0; enables = always 1; count = always 1 };
+    signals =
+        record {
+          read =
+              signal (1 ∷ 1 ∷ []);
+          write =
+              always 0;
+          address = signal (5 ∷ 6 ∷ []);
+          word = always 0;
+          enables = always 1;
+          count = always 1;
+        };
     more = signal (1 ∷ []);
     tag = always 0;
     waitrequest = always 0;
@@ -150,7 +196,16 @@ abbrev pub swaps_bytes : Port
 swaps_bytes = record {
   shape = lane_shape 4;
   commands = record {
-    signals = record { read = signal (1 ∷ 1 ∷ []); write = always 0; address = always 4; word = always 0; enables = always 6; count = always 1 };
+    signals =
+        record {
+          read =
+              signal (1 ∷ 1 ∷ []);
+          write = always 0;
+          address = always 4;
+          word = always 0;
+          enables = always 6;
+          count = always 1;
+        };
     more = always 0;
     tag = always 0;
     waitrequest = signal (1 ∷ []);
@@ -194,7 +249,16 @@ abbrev pub two_bytes : List ℕ → Port
 two_bytes waits = record {
   shape = burst_shape 1;
   commands = record {
-    signals = record { read = signal (1 ∷ waits); write = always 0; address = always 2; word = always 0; enables = always 1; count = always 2 };
+    signals =
+        record {
+          read =
+              signal (1 ∷ waits);
+          write = always 0;
+          address = always 2;
+          word = always 0;
+          enables = always 1;
+          count = always 2;
+        };
     more = always 0;
     tag = always 0;
     waitrequest = signal waits;
@@ -207,7 +271,17 @@ abbrev pub two_beats : ℕ → Port
 two_beats more = record {
   shape = lane_shape 1;
   commands = record {
-    signals = record { read = signal (1 ∷ 1 ∷ []); write = always 0; address = signal (2 ∷ 3 ∷ []); word = always 0; enables = always 1; count = always 1 };
+    signals =
+        record {
+          read =
+              signal (1 ∷ 1 ∷ []);
+          write =
+              always 0;
+          address = signal (2 ∷ 3 ∷ []);
+          word = always 0;
+          enables = always 1;
+          count = always 1;
+        };
     more = signal (more ∷ []);
     tag = always 0;
     waitrequest = always 0;
@@ -223,7 +297,18 @@ behind_empty = record {
   shape = burst_shape 1;
   below = lane_shape 1;
   inputs = record {
-    signals = record { read = signal (1 ∷ []); write = signal (0 ∷ 1 ∷ []); address = signal (2 ∷ 5 ∷ []); word = always 7; enables = signal (0 ∷ 1 ∷ []); count = signal (2 ∷ 1 ∷ []) };
+    signals =
+        record {
+          read =
+              signal (1 ∷ []);
+          write =
+              signal (0 ∷ 1 ∷ []);
+          address =
+              signal (2 ∷ 5 ∷ []);
+          word = always 7;
+          enables = signal (0 ∷ 1 ∷ []);
+          count = signal (2 ∷ 1 ∷ []);
+        };
     more = always 0;
     tag = always 0;
     waitrequest = always 0;
@@ -264,7 +349,17 @@ abbrev pub byte_bursts : Shape → List ℕ → List ℕ → Port
 byte_bursts shape reads counts = record {
   shape = shape;
   commands = record {
-    signals = record { read = signal reads; write = always 0; address = signal (2 ∷ 4 ∷ []); word = always 0; enables = always 1; count = signal counts };
+    signals =
+        record {
+          read =
+              signal reads;
+          write =
+              always 0;
+          address = signal (2 ∷ 4 ∷ []);
+          word = always 0;
+          enables = always 1;
+          count = signal counts;
+        };
     more = always 0;
     tag = always 0;
     waitrequest = always 0;
@@ -308,7 +403,8 @@ near_pairs = record {
   answers = two_pairs.answers;
 }
 
--- a read of four bytes without an enabled lane, and behind it a plain write, which comes while the second burst of the read is sent
+-- a read of four bytes without an enabled lane, and behind it a plain write, which comes while the second burst of the read is
+-- sent
 abbrev pub behind_pairs : CutInputs
 behind_pairs = record {
   reach = reach_longest 2;
@@ -339,7 +435,14 @@ dropping = record {
     more = signal (1 ∷ 1 ∷ 1 ∷ 0 ∷ []);
     tag = always 0;
     waitrequest = always 0;
-    answers = record { valid = signal (0 ∷ 0 ∷ 0 ∷ 0 ∷ 0 ∷ 0 ∷ 1 ∷ 0 ∷ 0 ∷ 1 ∷ []); word = signal (0 ∷ 0 ∷ 0 ∷ 0 ∷ 0 ∷ 0 ∷ 0x11 ∷ 0 ∷ 0 ∷ 0x22 ∷ []); code = always 0 };
+    answers =
+        record {
+          valid =
+              signal (0 ∷ 0 ∷ 0 ∷ 0 ∷ 0 ∷ 0 ∷ 1 ∷ 0 ∷ 0 ∷ 1 ∷ []);
+          word =
+              signal (0 ∷ 0 ∷ 0 ∷ 0 ∷ 0 ∷ 0 ∷ 0x11 ∷ 0 ∷ 0 ∷ 0x22 ∷ []);
+          code = always 0;
+        };
   };
 }
 
@@ -348,7 +451,17 @@ abbrev pub lane_port : List ℕ → List ℕ → List ℕ → List ℕ → List 
 lane_port read write address enables more word = record {
   shape = lane_shape 1;
   commands = record {
-    signals = record { read = signal read; write = signal write; address = signal address; word = always 7; enables = signal enables; count = always 1 };
+    signals =
+        record {
+          read =
+              signal read;
+          write =
+              signal write;
+          address = signal address;
+          word = always 7;
+          enables = signal enables;
+          count = always 1;
+        };
     more = signal more;
     tag = always 0;
     waitrequest = always 0;
@@ -377,7 +490,18 @@ mixed_reads = record {
   below = lane_shape 1;
   room = 16;
   inputs = record {
-    signals = record { read = signal (1 ∷ 1 ∷ 1 ∷ []); write = signal (0 ∷ 0 ∷ 0 ∷ 1 ∷ []); address = signal (2 ∷ 3 ∷ 3 ∷ 5 ∷ []); word = always 7; enables = signal (1 ∷ 0 ∷ 0 ∷ 1 ∷ []); count = always 1 };
+    signals =
+        record {
+          read =
+              signal (1 ∷ 1 ∷ 1 ∷ []);
+          write =
+              signal (0 ∷ 0 ∷ 0 ∷ 1 ∷ []);
+          address =
+              signal (2 ∷ 3 ∷ 3 ∷ 5 ∷ []);
+          word = always 7;
+          enables = signal (1 ∷ 0 ∷ 0 ∷ 1 ∷ []);
+          count = always 1;
+        };
     more = signal (1 ∷ []);
     tag = always 0;
     waitrequest = always 0;
@@ -392,7 +516,8 @@ empty_reads = record {
   below = lane_shape 1;
   room = 16;
   inputs = record {
-    signals = record { read = always 1; write = always 0; address = always 2; word = always 0; enables = always 0; count = always 1 };
+    signals =
+        record { read = always 1; write = always 0; address = always 2; word = always 0; enables = always 0; count = always 1 };
     more = always 0;
     tag = always 0;
     waitrequest = always 0;
@@ -407,7 +532,9 @@ held_burst = record {
   below = lane_shape 1;
   room = 16;
   inputs = record {
-    signals = record { read = always 0; write = signal (1 ∷ []); address = always 2; word = always 7; enables = always 1; count = always 1 };
+    signals =
+        record
+        { read = always 0; write = signal (1 ∷ []); address = always 2; word = always 7; enables = always 1; count = always 1 };
     more = signal (1 ∷ []);
     tag = always 0;
     waitrequest = always 0;
@@ -420,7 +547,8 @@ abbrev pub lost_reads : Port
 lost_reads = record {
   shape = lane_shape 1;
   commands = record {
-    signals = record { read = always 1; write = always 0; address = always 2; word = always 0; enables = always 1; count = always 1 };
+    signals =
+        record { read = always 1; write = always 0; address = always 2; word = always 0; enables = always 1; count = always 1 };
     more = always 0;
     tag = always 0;
     waitrequest = always 0;
@@ -432,7 +560,8 @@ abbrev pub shows_nothing : Port
 shows_nothing = record {
   shape = lane_shape 1;
   commands = record {
-    signals = record { read = always 0; write = always 0; address = always 0; word = always 0; enables = always 0; count = always 1 };
+    signals =
+        record { read = always 0; write = always 0; address = always 0; word = always 0; enables = always 0; count = always 1 };
     more = always 0;
     tag = always 0;
     waitrequest = always 0;
@@ -445,7 +574,8 @@ shows_nothing = record {
 -- reads of a byte, one in each cycle, that get no word
 abbrev pub unanswered_reads : Inputs
 unanswered_reads = record {
-  signals = record { read = always 1; write = always 0; address = always 2; word = always 0; enables = always 1; count = always 1 };
+  signals =
+      record { read = always 1; write = always 0; address = always 2; word = always 0; enables = always 1; count = always 1 };
   more = always 0;
   tag = always 0;
   waitrequest = always 0;

@@ -1,5 +1,8 @@
--- A system with rows of several links, as `linked_systems_run` of `memory_awake` runs it: host 0 shows bursts of two words of four bytes, host 1 single words of two; agent 0 has words of eight bytes, agent 1 of two without byte enables, and both take bursts of up to four words.
--- A cutter and a lane selector lead from host 0 to agent 0; a cutter, a splitter and what drops beats to agent 1; from host 1 a lane selector to agent 0, and what drops beats to agent 1.
+-- A system with rows of several links, as `linked_systems_run` of `memory_awake` runs it: host 0 shows bursts of two words of
+-- four bytes, host 1 single words of two; agent 0 has words of eight bytes, agent 1 of two without byte enables, and both take
+-- bursts of up to four words.
+-- A cutter and a lane selector lead from host 0 to agent 0; a cutter, a splitter and what drops beats to agent 1; from host 1 a
+-- lane selector to agent 0, and what drops beats to agent 1.
 use Rattle.std.specs.Prelude.{true, false, [], ◌∷◌, nat_lt, if◌then◌else◌}
 use Rattle.memory_runs.specs.Views.{Signals, Run}
 use Rattle.memory_runs.specs.Views.Responses.{AreZero}
@@ -15,7 +18,14 @@ use Rattle.memory_tests.specs.TwoByTwo.{first_or, of_two, small_agent, two_by_tw
 abbrev pub long_plan : LinkPlan
 long_plan = record {
   system = two_by_two
-      (λ h. record { shape = record { word_bytes = first_or 4 2 h; unit_bytes = 1; burst_bits = first_or 2 1 h; has_enables = true }; has_burst = first_or true false h; has_readdatavalid = true; has_response = false })
+      (λ h. record {
+        shape =
+            record { word_bytes = first_or 4 2 h; unit_bytes = 1; burst_bits = first_or 2 1 h; has_enables = true };
+        has_burst =
+            first_or true false h;
+        has_readdatavalid = true;
+        has_response = false;
+      })
       (λ a. small_agent (first_or 8 2 a) (first_or true false a)) 0;
   cutter = λ h a. of_two (Cuts (reach_longest 1) 1 1) Uncut Uncut h;
   fitter = λ h a. of_two (first_or Selects Splits a) (first_or Selects Unfitted a) Unfitted h;
@@ -50,7 +60,9 @@ abbrev pub long_outside : Outside
 long_outside = record {
   host = λ h. of_two first_host second_host quiet h;
   waitrequest = λ a. signal (first_or (0 ∷ 1 ∷ []) (0 ∷ 0 ∷ 0 ∷ 1 ∷ []) a);
-  readdata = λ a. signal (first_or (0 ∷ 0 ∷ 0 ∷ 0 ∷ 0xeedd0000 ∷ []) (0 ∷ 0 ∷ 0 ∷ 0 ∷ 0 ∷ 0 ∷ 0 ∷ 0 ∷ 0x2211 ∷ 0x4433 ∷ 0 ∷ 0x6655 ∷ []) a);
+  readdata =
+      λ a. signal
+      (first_or (0 ∷ 0 ∷ 0 ∷ 0 ∷ 0xeedd0000 ∷ []) (0 ∷ 0 ∷ 0 ∷ 0 ∷ 0 ∷ 0 ∷ 0 ∷ 0 ∷ 0x2211 ∷ 0x4433 ∷ 0 ∷ 0x6655 ∷ []) a);
   readdatavalid = λ a. signal (first_or (0 ∷ 0 ∷ 0 ∷ 0 ∷ 1 ∷ []) (0 ∷ 0 ∷ 0 ∷ 0 ∷ 0 ∷ 0 ∷ 0 ∷ 0 ∷ 1 ∷ 1 ∷ 0 ∷ 1 ∷ 1 ∷ []) a);
   response = λ a. always 0;
 }

@@ -32,7 +32,9 @@ held_writes = written_to (1 ∷ 1 ∷ 1 ∷ 1 ∷ 1 ∷ 1 ∷ []) (0 ∷ 0 ∷ 0
 -- a read in cycle 0, and words that change in each cycle
 abbrev pub late_read : AgentView
 late_read = record {
-  signals = record { read = signal (1 ∷ []); write = always 0; address = always 0; word = always 0; enables = always 15; count = always 1 };
+  signals =
+      record
+      { read = signal (1 ∷ []); write = always 0; address = always 0; word = always 0; enables = always 15; count = always 1 };
   waitrequest = always 0;
   readdata = signal (10 ∷ 11 ∷ 12 ∷ 13 ∷ []);
   readdatavalid = always 0;
@@ -43,7 +45,16 @@ late_read = record {
 -- two reads accepted one after the other, with no word
 abbrev pub two_reads : AgentView
 two_reads = record {
-  signals = record { read = signal (1 ∷ 1 ∷ []); write = always 0; address = always 0; word = always 0; enables = always 15; count = always 1 };
+  signals =
+      record {
+        read =
+            signal (1 ∷ 1 ∷ []);
+        write = always 0;
+        address = always 0;
+        word = always 0;
+        enables = always 15;
+        count = always 1;
+      };
   waitrequest = always 0;
   readdata = always 0;
   readdatavalid = always 0;
@@ -83,7 +94,17 @@ two_agents = record {
 
 abbrev pub reads_both : List ℕ → List ℕ → List ℕ → HostView
 reads_both wait valid word = record {
-  signals = record { read = signal (1 ∷ 1 ∷ 1 ∷ 0 ∷ []); write = always 0; address = signal (0 ∷ 256 ∷ 256 ∷ []); word = always 0; enables = always 15; count = always 1 };
+  signals =
+      record {
+        read =
+            signal (1 ∷ 1 ∷ 1 ∷ 0 ∷ []);
+        write =
+            always 0;
+        address = signal (0 ∷ 256 ∷ 256 ∷ []);
+        word = always 0;
+        enables = always 15;
+        count = always 1;
+      };
   waitrequest = signal wait;
   readdata = signal word;
   readdatavalid = signal valid;
@@ -92,7 +113,8 @@ reads_both wait valid word = record {
 
 abbrev pub read_once : List ℕ → List ℕ → List ℕ → AgentView
 read_once read valid word = record {
-  signals = record { read = signal read; write = always 0; address = always 0; word = always 0; enables = always 15; count = always 1 };
+  signals =
+      record { read = signal read; write = always 0; address = always 0; word = always 0; enables = always 15; count = always 1 };
   waitrequest = always 0;
   readdata = signal word;
   readdatavalid = signal valid;
@@ -106,19 +128,33 @@ two_agent_run host slow fast = record { at_host = λ h. host; at_agent = λ a. i
 -- the second read waits until the first is answered
 abbrev pub limited_run : Run
 limited_run = two_agent_run (reads_both (0 ∷ 1 ∷ 0 ∷ []) (0 ∷ 0 ∷ 1 ∷ 1 ∷ []) (0 ∷ 0 ∷ 0x11 ∷ 0x22 ∷ []))
-    (read_once (1 ∷ []) (0 ∷ 0 ∷ 1 ∷ []) (0 ∷ 0 ∷ 0x11 ∷ [])) (read_once (0 ∷ 0 ∷ 1 ∷ []) (0 ∷ 0 ∷ 0 ∷ 1 ∷ []) (0 ∷ 0 ∷ 0 ∷ 0x22 ∷ []))
+    (read_once (1 ∷ []) (0 ∷ 0 ∷ 1 ∷ []) (0 ∷ 0 ∷ 0x11 ∷ []))
+    (read_once (0 ∷ 0 ∷ 1 ∷ []) (0 ∷ 0 ∷ 0 ∷ 1 ∷ []) (0 ∷ 0 ∷ 0 ∷ 0x22 ∷ []))
 
 -- no limiter: the fast agent's word comes first, and is given as the first
 abbrev pub unlimited_run : Run
 unlimited_run = two_agent_run (record (reads_both (0 ∷ 0 ∷ []) (0 ∷ 0 ∷ 1 ∷ 1 ∷ []) (0 ∷ 0 ∷ 0x22 ∷ 0x11 ∷ [])) {
-  signals = record { read = signal (1 ∷ 1 ∷ []); write = always 0; address = signal (0 ∷ 256 ∷ []); word = always 0; enables = always 15; count = always 1 };
+  signals =
+      record {
+        read =
+            signal (1 ∷ 1 ∷ []);
+        write =
+            always 0;
+        address = signal (0 ∷ 256 ∷ []);
+        word = always 0;
+        enables = always 15;
+        count = always 1;
+      };
 })
-    (read_once (1 ∷ []) (0 ∷ 0 ∷ 0 ∷ 1 ∷ []) (0 ∷ 0 ∷ 0 ∷ 0x11 ∷ [])) (read_once (0 ∷ 1 ∷ []) (0 ∷ 0 ∷ 1 ∷ []) (0 ∷ 0 ∷ 0x22 ∷ []))
+    (read_once (1 ∷ []) (0 ∷ 0 ∷ 0 ∷ 1 ∷ []) (0 ∷ 0 ∷ 0 ∷ 0x11 ∷ []))
+    (read_once (0 ∷ 1 ∷ []) (0 ∷ 0 ∷ 1 ∷ []) (0 ∷ 0 ∷ 0x22 ∷ []))
 
 -- a read in no footprint brings zeros back
 abbrev pub default_run : Run
 default_run = two_agent_run (record (reads_both [] (0 ∷ 1 ∷ []) []) {
-  signals = record { read = signal (1 ∷ []); write = always 0; address = always 1024; word = always 0; enables = always 15; count = always 1 };
+  signals =
+      record
+      { read = signal (1 ∷ []); write = always 0; address = always 1024; word = always 0; enables = always 15; count = always 1 };
 })
     (read_once [] [] []) (read_once [] [] [])
 
@@ -164,7 +200,17 @@ abbrev pub write_port : ℕ → List ℕ → List ℕ → List ℕ → ℕ → L
 write_port word_bytes write address word enables more wait = record {
   shape = shape_of word_bytes 1 true;
   commands = record {
-    signals = record { read = always 0; write = signal write; address = signal address; word = signal word; enables = always enables; count = always 1 };
+    signals =
+        record {
+          read =
+              always 0;
+          write =
+              signal write;
+          address = signal address;
+          word = signal word;
+          enables = always enables;
+          count = always 1;
+        };
     more = signal more;
     tag = always 0;
     waitrequest = signal wait;
@@ -189,7 +235,16 @@ loose_side = write_port 1 (1 ∷ 1 ∷ []) (5 ∷ 6 ∷ []) (0xcc ∷ 0xbb ∷ [
 -- an 8-bit host reads a burst of eight bytes, which the agent answers with one word, or is asked byte by byte
 abbrev pub reads_eight : HostView
 reads_eight = record {
-  signals = record { read = signal (1 ∷ []); write = always 0; address = signal (0 ∷ []); word = always 0; enables = always 1; count = always 8 };
+  signals =
+      record {
+        read =
+            signal (1 ∷ []);
+        write = always 0;
+        address = signal (0 ∷ []);
+        word = always 0;
+        enables = always 1;
+        count = always 8;
+      };
   waitrequest = always 0;
   readdata = always 0;
   readdatavalid = always 0;
@@ -198,7 +253,9 @@ reads_eight = record {
 
 abbrev pub asked_by : List ℕ → List ℕ → AgentView
 asked_by read enables = record {
-  signals = record { read = signal read; write = always 0; address = always 0; word = always 0; enables = signal enables; count = always 1 };
+  signals =
+      record
+      { read = signal read; write = always 0; address = always 0; word = always 0; enables = signal enables; count = always 1 };
   waitrequest = always 0;
   readdata = always 0;
   readdatavalid = always 0;
@@ -231,7 +288,9 @@ taken_after write = run_of (writer (1 ∷ []) [] (7 ∷ []) 1 1 []) no_host (wri
 -- a word that comes in the cycle of its read
 abbrev pub early_word : HostView
 early_word = record {
-  signals = record { read = signal (1 ∷ []); write = always 0; address = always 0; word = always 0; enables = always 15; count = always 1 };
+  signals =
+      record
+      { read = signal (1 ∷ []); write = always 0; address = always 0; word = always 0; enables = always 15; count = always 1 };
   waitrequest = always 0;
   readdata = always 0;
   readdatavalid = signal (1 ∷ []);
@@ -244,7 +303,16 @@ fickle_host = writer (1 ∷ 1 ∷ []) (0 ∷ 4 ∷ []) [] 15 1 (1 ∷ 0 ∷ [])
 
 abbrev pub hasty_host : HostView
 hasty_host = record (writer (1 ∷ 0 ∷ []) [] [] 15 2 []) {
-  signals = record { read = signal (0 ∷ 1 ∷ []); write = signal (1 ∷ []); address = always 0; word = always 0; enables = always 15; count = always 2 };
+  signals =
+      record {
+        read =
+            signal (0 ∷ 1 ∷ []);
+        write = signal (1 ∷ []);
+        address = always 0;
+        word = always 0;
+        enables = always 15;
+        count = always 2;
+      };
 }
 
 -- an agent that answers before it is asked
@@ -254,7 +322,17 @@ eager_agent = read_once (1 ∷ []) (1 ∷ []) (9 ∷ [])
 -- byte 0 is written with 5 and read back
 abbrev pub memory_run : ℕ → Run
 memory_run byte = run_of no_host no_host (record {
-  signals = record { read = signal (0 ∷ 1 ∷ []); write = signal (1 ∷ []); address = always 0; word = signal (5 ∷ []); enables = always 1; count = always 1 };
+  signals =
+      record {
+        read =
+            signal (0 ∷ 1 ∷ []);
+        write =
+            signal (1 ∷ []);
+        address = always 0;
+        word = signal (5 ∷ []);
+        enables = always 1;
+        count = always 1;
+      };
   waitrequest = always 0;
   readdata = signal (0 ∷ 0 ∷ byte ∷ []);
   readdatavalid = signal (0 ∷ 0 ∷ 1 ∷ []);
@@ -264,13 +342,25 @@ memory_run byte = run_of no_host no_host (record {
 
 -- a 32-bit host with response reads the word at 0 of an 8-bit agent, whose byte 2 has code 2
 abbrev pub coded_system : System
-coded_system = record (system_of (record { shape = shape_of 4 1 true; has_burst = true; has_readdatavalid = true; has_response = true }) (agent_of 1 false 16) (0 ∷ [])) {
-  place = λ h kind address. if nat_lt address 16 then Some 0 else None;
-}
+coded_system =
+    record
+    (system_of (record { shape = shape_of 4 1 true; has_burst = true; has_readdatavalid = true; has_response = true })
+    (agent_of 1 false 16) (0 ∷ [])) {
+      place = λ h kind address. if nat_lt address 16 then Some 0 else None;
+    }
 
 abbrev pub coded_host : ℕ → ℕ → ℕ → HostView
 coded_host enables word code = record {
-  signals = record { read = signal (1 ∷ []); write = always 0; address = always 0; word = always 0; enables = always enables; count = always 1 };
+  signals =
+      record {
+        read =
+            signal (1 ∷ []);
+        write = always 0;
+        address = always 0;
+        word = always 0;
+        enables = always enables;
+        count = always 1;
+      };
   waitrequest = always 0;
   readdata = signal (0 ∷ 0 ∷ 0 ∷ 0 ∷ 0 ∷ word ∷ []);
   readdatavalid = signal (0 ∷ 0 ∷ 0 ∷ 0 ∷ 0 ∷ 1 ∷ []);
@@ -280,7 +370,17 @@ coded_host enables word code = record {
 -- the agent is asked for each of so many bytes, and answers in the next cycle
 abbrev pub coded_agent : ℕ → AgentView
 coded_agent bytes = record {
-  signals = record { read = signal (replicate bytes 1); write = always 0; address = signal (0 ∷ 1 ∷ 2 ∷ 3 ∷ []); word = always 0; enables = always 1; count = always 1 };
+  signals =
+      record {
+        read =
+            signal (replicate bytes 1);
+        write =
+            always 0;
+        address = signal (0 ∷ 1 ∷ 2 ∷ 3 ∷ []);
+        word = always 0;
+        enables = always 1;
+        count = always 1;
+      };
   waitrequest = always 0;
   readdata = signal (0 ∷ 0x11 ∷ 0x22 ∷ 0x33 ∷ 0x44 ∷ []);
   readdatavalid = signal (0 ∷ replicate bytes 1);
@@ -297,7 +397,17 @@ abbrev pub burst_side : Port
 burst_side = record {
   shape = shape_of 4 1 true;
   commands = record {
-    signals = record { read = always 0; write = signal (1 ∷ 1 ∷ []); address = always 0; word = always 9; enables = signal (1 ∷ 0 ∷ []); count = always 2 };
+    signals =
+        record {
+          read =
+              always 0;
+          write =
+              signal (1 ∷ 1 ∷ []);
+          address = always 0;
+          word = always 9;
+          enables = signal (1 ∷ 0 ∷ []);
+          count = always 2;
+        };
     more = always 0;
     tag = always 0;
     waitrequest = always 0;
@@ -313,12 +423,34 @@ too_early_side = write_port 1 (1 ∷ []) [] (9 ∷ []) 1 [] []
 
 -- one host and one agent of one word size without bursts
 abbrev pub plain_system : System
-plain_system = record (system_of (record { shape = record { word_bytes = 4; unit_bytes = 1; burst_bits = 1; has_enables = true }; has_burst = false; has_readdatavalid = true; has_response = false }) (agent_of 4 true 256) (0 ∷ [])) { hosts = 1 }
+plain_system =
+    record
+    (system_of
+    (record {
+      shape =
+          record { word_bytes = 4; unit_bytes = 1; burst_bits = 1; has_enables = true };
+      has_burst =
+          false;
+      has_readdatavalid = true;
+      has_response = false;
+    })
+    (agent_of 4 true 256) (0 ∷ []))
+    { hosts = 1 }
 
 -- the second read waits although the agent has room for it
 abbrev pub one_by_one_run : Run
 one_by_one_run = run_of (record {
-  signals = record { read = signal (1 ∷ 1 ∷ 1 ∷ 1 ∷ []); write = always 0; address = signal (0 ∷ 4 ∷ 4 ∷ 4 ∷ []); word = always 0; enables = always 15; count = always 1 };
+  signals =
+      record {
+        read =
+            signal (1 ∷ 1 ∷ 1 ∷ 1 ∷ []);
+        write =
+            always 0;
+        address = signal (0 ∷ 4 ∷ 4 ∷ 4 ∷ []);
+        word = always 0;
+        enables = always 15;
+        count = always 1;
+      };
   waitrequest = signal (0 ∷ 1 ∷ 1 ∷ 1 ∷ []);
   readdata = always 0;
   readdatavalid = always 0;
@@ -332,21 +464,41 @@ joined_side = write_port 1 (1 ∷ []) [] (9 ∷ []) 1 (1 ∷ []) []
 -- a read in no footprint that waits for ever
 abbrev pub stuck_at_default_run : Run
 stuck_at_default_run = two_agent_run (record {
-  signals = record { read = signal (replicate 9 1); write = always 0; address = always 1024; word = always 0; enables = always 15; count = always 1 };
+  signals =
+      record {
+        read =
+            signal (replicate 9 1);
+        write = always 0;
+        address = always 1024;
+        word = always 0;
+        enables = always 15;
+        count = always 1;
+      };
   waitrequest = signal (replicate 9 1);
   readdata = always 0;
   readdatavalid = always 0;
   response = always 0;
 }) (read_once [] [] []) (read_once [] [] [])
 
--- one plain host and two agents: a read of agent 0, which is never answered, a write to agent 1, and a second read of agent 0 that waits
+-- one plain host and two agents: a read of agent 0, which is never answered, a write to agent 1, and a second read of agent 0
+-- that waits
 -- although the agent has room for it
 abbrev pub plain_pair : System
 plain_pair = record two_agents { host = plain_system.host }
 
 abbrev pub held_read_run : Run
 held_read_run = two_agent_run (record {
-  signals = record { read = signal (1 ∷ 0 ∷ 1 ∷ 1 ∷ 1 ∷ []); write = signal (0 ∷ 1 ∷ []); address = signal (0 ∷ 256 ∷ 4 ∷ 4 ∷ 4 ∷ []); word = always 7; enables = always 15; count = always 1 };
+  signals =
+      record {
+        read =
+            signal (1 ∷ 0 ∷ 1 ∷ 1 ∷ 1 ∷ []);
+        write =
+            signal (0 ∷ 1 ∷ []);
+        address = signal (0 ∷ 256 ∷ 4 ∷ 4 ∷ 4 ∷ []);
+        word = always 7;
+        enables = always 15;
+        count = always 1;
+      };
   waitrequest = signal (0 ∷ 0 ∷ 1 ∷ 1 ∷ 1 ∷ []);
   readdata = always 0;
   readdatavalid = always 0;
@@ -355,7 +507,12 @@ held_read_run = two_agent_run (record {
 
 -- the read of eight bytes from 3 on, whose first touch is read in two beats
 abbrev pub reads_from_three : HostView
-reads_from_three = record reads_eight { signals = record { read = signal (1 ∷ []); write = always 0; address = always 3; word = always 0; enables = always 1; count = always 8 } }
+reads_from_three =
+    record reads_eight {
+      signals =
+          record
+          { read = signal (1 ∷ []); write = always 0; address = always 3; word = always 0; enables = always 1; count = always 8 };
+    }
 
 abbrev pub twice_read_run : Run
 twice_read_run = run_of reads_from_three no_host (asked_by (1 ∷ 1 ∷ []) (8 ∷ 240 ∷ []))

@@ -17,7 +17,17 @@ agent span = record { shape = shape 8 1; span = span }
 -- one read of eight bytes at byte 3
 abbrev pub one_read : Inputs
 one_read = record {
-  signals = record { read = signal (1 ∷ []); write = always 0; address = signal (3 ∷ []); word = always 0; enables = always 1; count = signal (8 ∷ []) };
+  signals =
+      record {
+        read =
+            signal (1 ∷ []);
+        write =
+            always 0;
+        address = signal (3 ∷ []);
+        word = always 0;
+        enables = always 1;
+        count = signal (8 ∷ []);
+      };
   more = always 0;
   tag = always 0;
   waitrequest = always 0;
@@ -38,7 +48,9 @@ gathering reach room = record {
     more = (cut_below (cutting reach)).commands.more;
     tag = (cut_below (cutting reach)).commands.tag;
     waitrequest = always 0;
-    answers = record { valid = signal (0 ∷ 1 ∷ 1 ∷ []); word = signal (0 ∷ 0x1716151413121110 ∷ 0x1f1e1d1c1b1a1918 ∷ []); code = always 0 };
+    answers =
+        record
+        { valid = signal (0 ∷ 1 ∷ 1 ∷ []); word = signal (0 ∷ 0x1716151413121110 ∷ 0x1f1e1d1c1b1a1918 ∷ []); code = always 0 };
   };
 }
 
@@ -47,12 +59,23 @@ abbrev pub wide_reads : List ℕ → List ℕ → List ℕ → Port
 wide_reads reads addresses enables = record {
   shape = shape 8 1;
   commands = record {
-    signals = record { read = signal reads; write = always 0; address = signal addresses; word = always 0; enables = signal enables; count = always 1 };
+    signals =
+        record {
+          read =
+              signal reads;
+          write = always 0;
+          address = signal addresses;
+          word = always 0;
+          enables = signal enables;
+          count = always 1;
+        };
     more = signal (1 ∷ []);
     tag = always 0;
     waitrequest = always 0;
   };
-  answers = record { valid = signal (0 ∷ 1 ∷ 1 ∷ []); word = signal (0 ∷ 0x1716151413121110 ∷ 0x1f1e1d1c1b1a1918 ∷ []); code = always 0 };
+  answers =
+      record
+      { valid = signal (0 ∷ 1 ∷ 1 ∷ []); word = signal (0 ∷ 0x1716151413121110 ∷ 0x1f1e1d1c1b1a1918 ∷ []); code = always 0 };
 }
 
 -- a side of one read of eight bytes at byte 3, and the words that it is given

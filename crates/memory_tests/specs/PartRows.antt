@@ -22,7 +22,9 @@ levels level cycles = map level (numbers 0 cycles)
 
 -- commands of one beat at address 0
 abbrev pub plain : List ℕ → List ℕ → Signals
-plain read write = record { read = signal read; write = signal write; address = always 0; word = always 7; enables = always 15; count = always 1 }
+plain read write =
+    record
+    { read = signal read; write = signal write; address = always 0; word = always 7; enables = always 15; count = always 1 }
 
 abbrev pub tagged : Signals → List ℕ → Commands
 tagged signals tags = record { signals = signals; more = always 0; tag = signal tags }
@@ -47,11 +49,15 @@ above_agent side inputs = agent_upper AreCodes side inputs (agent_state (agent_r
 
 -- two reads with the tags 0 and 1, whose words come two cycles after they are taken
 abbrev pub two_reads_in : AgentInputs
-two_reads_in = asks_agent (tagged (plain (1 ∷ 1 ∷ 1 ∷ 1 ∷ []) []) (0 ∷ 1 ∷ 1 ∷ 1 ∷ [])) [] (0 ∷ 0 ∷ 1 ∷ 0 ∷ 1 ∷ []) (0 ∷ 0 ∷ 0x11 ∷ 0 ∷ 0x22 ∷ [])
+two_reads_in =
+    asks_agent (tagged (plain (1 ∷ 1 ∷ 1 ∷ 1 ∷ []) []) (0 ∷ 1 ∷ 1 ∷ 1 ∷ [])) [] (0 ∷ 0 ∷ 1 ∷ 0 ∷ 1 ∷ [])
+    (0 ∷ 0 ∷ 0x11 ∷ 0 ∷ 0x22 ∷ [])
 
 -- three reads, of which an agent bears two
 abbrev pub three_reads_in : AgentInputs
-three_reads_in = asks_agent (tagged (plain (replicate 5 1) []) (0 ∷ 1 ∷ 0 ∷ 0 ∷ 0 ∷ [])) [] (0 ∷ 0 ∷ 0 ∷ 1 ∷ 0 ∷ 1 ∷ 1 ∷ []) (0 ∷ 0 ∷ 0 ∷ 0x11 ∷ 0 ∷ 0x22 ∷ 0x33 ∷ [])
+three_reads_in =
+    asks_agent (tagged (plain (replicate 5 1) []) (0 ∷ 1 ∷ 0 ∷ 0 ∷ 0 ∷ [])) [] (0 ∷ 0 ∷ 0 ∷ 1 ∷ 0 ∷ 1 ∷ 1 ∷ [])
+    (0 ∷ 0 ∷ 0 ∷ 0x11 ∷ 0 ∷ 0x22 ∷ 0x33 ∷ [])
 
 -- a write that the agent accepts in its third cycle
 abbrev pub stalled_in : AgentInputs
@@ -80,12 +86,26 @@ write_then_read_in = asks_agent (tagged (plain (0 ∷ 0 ∷ 0 ∷ 0 ∷ 1 ∷ []
 
 -- reads with the tags 0 and 1 in cycles 0 and 1, and a word of the agent in each cycle
 abbrev pub fixed_reads_in : AgentInputs
-fixed_reads_in = asks_agent (tagged (plain (1 ∷ 1 ∷ []) []) (0 ∷ 1 ∷ [])) [] [] (0x10 ∷ 0x11 ∷ 0x12 ∷ 0x13 ∷ 0x14 ∷ 0x15 ∷ 0x16 ∷ 0x17 ∷ [])
+fixed_reads_in =
+    asks_agent (tagged (plain (1 ∷ 1 ∷ []) []) (0 ∷ 1 ∷ [])) [] [] (0x10 ∷ 0x11 ∷ 0x12 ∷ 0x13 ∷ 0x14 ∷ 0x15 ∷ 0x16 ∷ 0x17 ∷ [])
 
 -- read bursts of one word to four with the tags 0 and 1 in turn, and then their ten words
 abbrev pub burst_reads_in : AgentInputs
 burst_reads_in =
-    asks_agent (tagged (record { read = signal (replicate 4 1); write = always 0; address = always 0; word = always 0; enables = always 15; count = signal (1 ∷ 2 ∷ 3 ∷ 4 ∷ []) }) (0 ∷ 1 ∷ 0 ∷ 1 ∷ [])) []
+    asks_agent
+    (tagged
+    (record {
+      read =
+          signal (replicate 4 1);
+      write =
+          always 0;
+      address = always 0;
+      word = always 0;
+      enables = always 15;
+      count = signal (1 ∷ 2 ∷ 3 ∷ 4 ∷ []);
+    })
+    (0 ∷ 1 ∷ 0 ∷ 1 ∷ []))
+    []
     (0 ∷ 0 ∷ 0 ∷ 0 ∷ 1 ∷ 1 ∷ 1 ∷ 1 ∷ 1 ∷ 1 ∷ 1 ∷ 1 ∷ 1 ∷ 1 ∷ []) []
 
 -- ---- host
@@ -105,7 +125,18 @@ below_host side inputs = host_lower side inputs (at_host side inputs) (host_stat
 -- write bursts of one beat to four; on later beats the count is free
 abbrev pub burst_writes_in : HostInputs
 burst_writes_in = record {
-  signals = record { read = always 0; write = signal (replicate 10 1); address = always 0; word = always 7; enables = always 15; count = signal (1 ∷ 2 ∷ 0 ∷ 3 ∷ 0 ∷ 9 ∷ 4 ∷ 1 ∷ 0 ∷ 2 ∷ []) };
+  signals =
+      record {
+        read =
+            always 0;
+        write =
+            signal (replicate 10 1);
+        address =
+            always 0;
+        word = always 7;
+        enables = always 15;
+        count = signal (1 ∷ 2 ∷ 0 ∷ 3 ∷ 0 ∷ 9 ∷ 4 ∷ 1 ∷ 0 ∷ 2 ∷ []);
+      };
   waitrequest = always 0;
   answers = no_answers;
 }
@@ -121,7 +152,17 @@ waiting_host = record { shape = shape_of 4 4 true; has_burst = false; has_readda
 -- its read of word 3 is taken below in the second cycle and answered in the fourth
 abbrev pub waiting_read_in : HostInputs
 waiting_read_in = record {
-  signals = record { read = signal (replicate 4 1); write = always 0; address = signal (replicate 4 3); word = always 0; enables = always 15; count = always 1 };
+  signals =
+      record {
+        read =
+            signal (replicate 4 1);
+        write =
+            always 0;
+        address = signal (replicate 4 3);
+        word = always 0;
+        enables = always 15;
+        count = always 1;
+      };
   waitrequest = signal (1 ∷ 0 ∷ []);
   answers = answers_in (0 ∷ 0 ∷ 0 ∷ 1 ∷ []) (0 ∷ 0 ∷ 0 ∷ 0x11 ∷ []);
 }
@@ -139,12 +180,24 @@ abbrev pub other_read_in : RouteInputs
 other_read_in = record {
   shape = shape_of 4 1 true;
   commands = record {
-    signals = record { read = signal (replicate 4 1); write = always 0; address = signal (0 ∷ 256 ∷ 256 ∷ 256 ∷ []); word = always 0; enables = always 15; count = always 1 };
+    signals =
+        record {
+          read =
+              signal (replicate 4 1);
+          write =
+              always 0;
+          address = signal (0 ∷ 256 ∷ 256 ∷ 256 ∷ []);
+          word = always 0;
+          enables = always 15;
+          count = always 1;
+        };
     more = always 0;
     tag = always 0;
   };
   waitrequest = λ a. always 0;
-  answers = λ a. if nat_eq a 0 then answers_in (0 ∷ 0 ∷ 1 ∷ []) (0 ∷ 0 ∷ 0x11 ∷ []) else answers_in (0 ∷ 0 ∷ 0 ∷ 0 ∷ 1 ∷ []) (0 ∷ 0 ∷ 0 ∷ 0 ∷ 0x22 ∷ []);
+  answers =
+      λ a. if nat_eq a 0 then answers_in (0 ∷ 0 ∷ 1 ∷ []) (0 ∷ 0 ∷ 0x11 ∷ [])
+      else answers_in (0 ∷ 0 ∷ 0 ∷ 0 ∷ 1 ∷ []) (0 ∷ 0 ∷ 0 ∷ 0 ∷ 0x22 ∷ []);
 }
 
 -- a read burst of three words in no footprint
@@ -152,7 +205,16 @@ abbrev pub default_read_in : RouteInputs
 default_read_in = record {
   shape = shape_of 4 1 true;
   commands = record {
-    signals = record { read = signal (1 ∷ []); write = always 0; address = always 1024; word = always 0; enables = always 15; count = always 3 };
+    signals =
+        record {
+          read =
+              signal (1 ∷ []);
+          write = always 0;
+          address = always 1024;
+          word = always 0;
+          enables = always 15;
+          count = always 3;
+        };
     more = always 0;
     tag = always 0;
   };
@@ -165,7 +227,18 @@ abbrev pub placed_burst_in : RouteInputs
 placed_burst_in = record {
   shape = shape_of 4 1 true;
   commands = record {
-    signals = record { read = always 0; write = signal (replicate 4 1); address = signal (256 ∷ 0 ∷ 0 ∷ 0 ∷ []); word = always 7; enables = always 15; count = signal (3 ∷ 0 ∷ 0 ∷ 1 ∷ []) };
+    signals =
+        record {
+          read =
+              always 0;
+          write =
+              signal (replicate 4 1);
+          address =
+              signal (256 ∷ 0 ∷ 0 ∷ 0 ∷ []);
+          word = always 7;
+          enables = always 15;
+          count = signal (3 ∷ 0 ∷ 0 ∷ 1 ∷ []);
+        };
     more = signal (1 ∷ 1 ∷ 0 ∷ 0 ∷ []);
     tag = always 0;
   };
@@ -183,7 +256,8 @@ abbrev pub two_writers_in : List ℕ → List ℕ → List ℕ → ArbiterInputs
 two_writers_in wait valid answer_tag = record {
   shape = shape_of 4 1 true;
   asker = λ host. record {
-    signals = record { read = always 0; write = always 1; address = always 0; word = always 7; enables = always 15; count = always 1 };
+    signals =
+        record { read = always 0; write = always 1; address = always 0; word = always 7; enables = always 15; count = always 1 };
     more = always 0;
     tag = always host;
   };
@@ -229,7 +303,16 @@ both_write = record {
 abbrev pub both_read : Outside
 both_read = record {
   host = λ h.
-      record { read = signal (if nat_eq h 0 then 1 ∷ 1 ∷ [] else 1 ∷ []); write = always 0; address = always (if nat_eq h 0 then 8 else 1024); word = always 0; enables = always 15; count = always 1 };
+      record {
+        read =
+            signal (if nat_eq h 0 then 1 ∷ 1 ∷ [] else 1 ∷ []);
+        write =
+            always 0;
+        address = always (if nat_eq h 0 then 8 else 1024);
+        word = always 0;
+        enables = always 15;
+        count = always 1;
+      };
   waitrequest = λ a. signal (1 ∷ []);
   readdata = λ a. signal (0 ∷ 0 ∷ 0 ∷ 0x11 ∷ []);
   readdatavalid = λ a. signal (0 ∷ 0 ∷ 0 ∷ 1 ∷ []);

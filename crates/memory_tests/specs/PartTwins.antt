@@ -43,7 +43,12 @@ past_bound = record { port = side_with (plain (1 ∷ 1 ∷ []) []) [] (0 ∷ 1 �
 
 -- the word of the first read goes up with the tag of the newest one
 abbrev pub newest_tag : TaggedPort
-newest_tag = record { port = answered_by (side_with (plain (1 ∷ 1 ∷ []) []) [] (0 ∷ 1 ∷ [])) (0 ∷ 0 ∷ 1 ∷ []) (0 ∷ 0 ∷ 0x11 ∷ []); answer_tag = always 1 }
+newest_tag =
+    record {
+      port =
+          answered_by (side_with (plain (1 ∷ 1 ∷ []) []) [] (0 ∷ 1 ∷ [])) (0 ∷ 0 ∷ 1 ∷ []) (0 ∷ 0 ∷ 0x11 ∷ []);
+      answer_tag = always 1;
+    }
 
 -- ---- arbiter
 
@@ -53,13 +58,36 @@ both_joined = bounded_system 4
 -- host 0 pauses after the first beat of a write burst, and host 1 has a write
 abbrev pub pausing_askers : ℕ → Port
 pausing_askers host =
-    if nat_eq host 0 then side_with (record { read = always 0; write = signal (1 ∷ []); address = always 0; word = always 7; enables = always 15; count = always 2 }) (1 ∷ []) []
+    if nat_eq host 0
+    then side_with
+    (record {
+      read =
+          always 0;
+      write = signal (1 ∷ []);
+      address = always 0;
+      word = always 7;
+      enables = always 15;
+      count = always 2;
+    })
+    (1 ∷ []) []
     else side_with (plain [] (0 ∷ 1 ∷ [])) [] (1 ∷ 1 ∷ [])
 
 -- the write of host 1 is shown inside the burst of host 0
 abbrev pub inside_burst : TaggedPort
 inside_burst = record {
-  port = side_with (record { read = always 0; write = signal (1 ∷ 1 ∷ []); address = always 0; word = always 7; enables = always 15; count = signal (2 ∷ 1 ∷ []) }) (1 ∷ []) (0 ∷ 1 ∷ []);
+  port =
+      side_with
+      (record {
+        read =
+            always 0;
+        write =
+            signal (1 ∷ 1 ∷ []);
+        address = always 0;
+        word = always 7;
+        enables = always 15;
+        count = signal (2 ∷ 1 ∷ []);
+      })
+      (1 ∷ []) (0 ∷ 1 ∷ []);
   answer_tag = always 0;
 }
 
@@ -75,7 +103,11 @@ given_to_both = record { port = answered_by (side_with (plain (1 ∷ []) []) [] 
 -- ---- route: one host, agent 0 at 0 and agent 1 at 256
 
 abbrev pub reads_at : List ℕ → List ℕ → Port
-reads_at read address = side_with (record { read = signal read; write = always 0; address = signal address; word = always 0; enables = always 15; count = always 1 }) [] []
+reads_at read address =
+    side_with
+    (record
+    { read = signal read; write = always 0; address = signal address; word = always 0; enables = always 15; count = always 1 })
+    [] []
 
 -- a read of agent 0 and then one of agent 1, which goes on though a word is owed
 abbrev pub two_places : Port
@@ -86,7 +118,19 @@ without_limiter a = if nat_eq a 0 then reads_at (1 ∷ []) (0 ∷ 256 ∷ []) el
 
 -- a write burst of two beats to agent 1, whose second beat goes by its own address
 abbrev pub writes_at : List ℕ → Port
-writes_at write = side_with (record { read = always 0; write = signal write; address = signal (256 ∷ 0 ∷ []); word = always 7; enables = always 15; count = signal (2 ∷ 1 ∷ []) }) (1 ∷ []) []
+writes_at write =
+    side_with
+    (record {
+      read =
+          always 0;
+      write =
+          signal write;
+      address = signal (256 ∷ 0 ∷ []);
+      word = always 7;
+      enables = always 15;
+      count = signal (2 ∷ 1 ∷ []);
+    })
+    (1 ∷ []) []
 
 abbrev pub by_each_address : ℕ → Port
 by_each_address a = if nat_eq a 0 then writes_at (0 ∷ 1 ∷ []) else writes_at (1 ∷ [])
@@ -101,7 +145,15 @@ waiting_system = system_of waiting_host (agent_with_bound 4) (0 ∷ [])
 
 -- a host without readdatavalid, whose read waits for its word
 abbrev pub waiting_view : HostView
-waiting_view = record { signals = plain (1 ∷ 1 ∷ []) []; waitrequest = always 1; readdata = always 0; readdatavalid = always 0; response = always 0 }
+waiting_view =
+    record {
+      signals =
+          plain (1 ∷ 1 ∷ []) [];
+      waitrequest = always 1;
+      readdata = always 0;
+      readdatavalid = always 0;
+      response = always 0;
+    }
 
 -- the read that was taken is shown once more
 abbrev pub read_twice : Port
@@ -110,7 +162,16 @@ read_twice = side_with (plain (1 ∷ 1 ∷ []) []) [] []
 -- a write burst of two beats, whose first beat is said to be its last
 abbrev pub burst_view : HostView
 burst_view = record {
-  signals = record { read = always 0; write = signal (1 ∷ 1 ∷ []); address = always 0; word = always 7; enables = always 15; count = always 2 };
+  signals =
+      record {
+        read =
+            always 0;
+        write = signal (1 ∷ 1 ∷ []);
+        address = always 0;
+        word = always 7;
+        enables = always 15;
+        count = always 2;
+      };
   waitrequest = always 0;
   readdata = always 0;
   readdatavalid = always 0;

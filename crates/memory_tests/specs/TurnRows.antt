@@ -18,7 +18,9 @@ abbrev pub writes : List ℕ → List ℕ → (ℕ → ℕ) → Port
 writes write wait tag = record {
   shape = shape_of 4 1 true;
   commands = record {
-    signals = record { read = always 0; write = signal write; address = always 0; word = always 7; enables = always 15; count = always 1 };
+    signals =
+        record
+        { read = always 0; write = signal write; address = always 0; word = always 7; enables = always 15; count = always 1 };
     more = always 0;
     tag = tag;
     waitrequest = signal wait;
@@ -61,4 +63,6 @@ abbrev pub write_of : ℕ → Group
 write_of host = record { tag = host; operations = Write 0 7 ∷ []; closes = true; beats = 1 }
 
 abbrev pub with_empty_write : List Group
-with_empty_write = write_of 0 ∷ write_of 1 ∷ write_of 0 ∷ record { tag = 1; operations = []; closes = true; beats = 1 } ∷ write_of 0 ∷ write_of 1 ∷ write_of 0 ∷ []
+with_empty_write =
+    write_of 0 ∷ write_of 1 ∷ write_of 0 ∷ record { tag = 1; operations = []; closes = true; beats = 1 } ∷ write_of 0 ∷ write_of 1
+    ∷ write_of 0 ∷ []

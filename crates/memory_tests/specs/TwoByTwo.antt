@@ -1,4 +1,5 @@
--- What systems of two hosts, two agents and the default agent share: host and agent are told by their numbers, and each agent takes 16 bytes.
+-- What systems of two hosts, two agents and the default agent share: host and agent are told by their numbers, and each agent
+-- takes 16 bytes.
 use Rattle.std.specs.Prelude.{ℕ, zero, suc, ◌*◌, Bool, true, false, List, [], ◌∷◌, Some, None, nat_eq, nat_lt, if◌then◌else◌}
 use Rattle.memory_runs.specs.Views.{Signals, Shape, HostSide, AgentSide, System}
 use Rattle.memory_machines.specs.Link.{Port}

@@ -1,4 +1,5 @@
--- A host without readdatavalid, an agent and the default agent, wired. The host reads the agent, which gives its word two cycles later, and then an address in no footprint.
+-- A host without readdatavalid, an agent and the default agent, wired. The host reads the agent, which gives its word two cycles
+-- later, and then an address in no footprint.
 use Rattle.std.specs.Prelude.{ℕ, true, false, [], ◌∷◌, Some, None, nat_eq, nat_lt, if◌then◌else◌}
 use Rattle.memory_runs.specs.Views.{System, Run, Signals, HostSide, HostView}
 use Rattle.memory_machines.specs.Link.{Port}
@@ -10,7 +11,9 @@ use Rattle.memory_awake.specs.Approach.{Approach}
 use Rattle.memory_awake.specs.Ways.{Ways}
 
 abbrev pub waiting_side : HostSide
-waiting_side = record { shape = record (shape_of 1 1 true) { burst_bits = 1 }; has_burst = false; has_readdatavalid = false; has_response = false }
+waiting_side =
+    record
+    { shape = record (shape_of 1 1 true) { burst_bits = 1 }; has_burst = false; has_readdatavalid = false; has_response = false }
 
 abbrev pub waiting_small : System
 waiting_small = record {
@@ -31,12 +34,16 @@ two_reads = record nothing { read = signal (1 ∷ 1 ∷ 1 ∷ 1 ∷ 1 ∷ []); a
 
 -- behind the part next to the host each is shown once
 abbrev pub reads_below : Port
-reads_below = port_with (record two_reads { read = signal (1 ∷ 0 ∷ 0 ∷ 1 ∷ []) }) (always 0) (always 0) (answers_in (0 ∷ 0 ∷ 1 ∷ 0 ∷ 1 ∷ []) (0 ∷ 0 ∷ 7 ∷ 0 ∷ 0 ∷ []))
+reads_below =
+    port_with (record two_reads { read = signal (1 ∷ 0 ∷ 0 ∷ 1 ∷ []) }) (always 0) (always 0)
+    (answers_in (0 ∷ 0 ∷ 1 ∷ 0 ∷ 1 ∷ []) (0 ∷ 0 ∷ 7 ∷ 0 ∷ 0 ∷ []))
 
 -- behind the route the first one alone
 abbrev pub read_behind : ℕ → Port
 read_behind h =
-    if nat_eq h 0 then port_with (record two_reads { read = signal (1 ∷ []) }) (always 0) (always 0) (answers_in (0 ∷ 0 ∷ 1 ∷ []) (0 ∷ 0 ∷ 7 ∷ []))
+    if nat_eq h 0
+    then port_with (record two_reads { read = signal (1 ∷ []) }) (always 0) (always 0)
+    (answers_in (0 ∷ 0 ∷ 1 ∷ []) (0 ∷ 0 ∷ 7 ∷ []))
     else port_with nothing (always h) (always 0) no_word
 
 abbrev pub host_waiting : ℕ → HostView
@@ -51,7 +58,18 @@ host_waiting h = record {
 abbrev pub waiting_run : Run
 waiting_run = record {
   at_host = host_waiting;
-  at_agent = λ a. record { signals = (read_behind 0).commands.signals; waitrequest = always 0; readdata = (read_behind 0).answers.word; readdatavalid = (read_behind 0).answers.valid; response = always 0; grant = always 0 };
+  at_agent =
+      λ a. record {
+        signals =
+            (read_behind 0).commands.signals;
+        waitrequest =
+            always 0;
+        readdata =
+            (read_behind 0).answers.word;
+        readdatavalid = (read_behind 0).answers.valid;
+        response = always 0;
+        grant = always 0;
+      };
 }
 
 -- the wrong twin accepts a read as soon as it is taken below
@@ -63,7 +81,8 @@ abbrev pub waiting_in : HostInputs
 waiting_in = record { signals = two_reads; waitrequest = reads_below.commands.waitrequest; answers = reads_below.answers }
 
 abbrev pub waiting_ways : Ways
-waiting_ways = record { stages = 0; lower = λ i. read_behind 0; answer_tag = λ i c. 0; above = λ h. 1; upper = λ h i. read_behind h }
+waiting_ways =
+    record { stages = 0; lower = λ i. read_behind 0; answer_tag = λ i c. 0; above = λ h. 1; upper = λ h i. read_behind h }
 
 abbrev pub waiting_approach : ℕ → Approach
 waiting_approach a = record { ways = waiting_ways; standings = small_standings; slacks = no_slack }

@@ -5,7 +5,8 @@ use Rattle.memory_tests.specs.Examples.{signal, always, agent_of, host_of, no_ho
 use Rattle.memory_tests.specs.MoreExamples.{reads_eight}
 
 abbrev pub short_agent : AgentSide
-short_agent = record (agent_of 4 true 256) { shape = record { word_bytes = 4; unit_bytes = 4; burst_bits = 3; has_enables = true } }
+short_agent =
+    record (agent_of 4 true 256) { shape = record { word_bytes = 4; unit_bytes = 4; burst_bits = 3; has_enables = true } }
 
 abbrev pub short_system : System
 short_system = system_of (host_of 4 true) short_agent (0 ∷ [])
@@ -13,7 +14,16 @@ short_system = system_of (host_of 4 true) short_agent (0 ∷ [])
 -- reads of so many beats each, from these words on
 abbrev pub bursts_read : List ℕ → List ℕ → AgentView
 bursts_read word count = record {
-  signals = record { read = signal (1 ∷ 1 ∷ []); write = always 0; address = signal word; word = always 0; enables = always 15; count = signal count };
+  signals =
+      record {
+        read =
+            signal (1 ∷ 1 ∷ []);
+        write = always 0;
+        address = signal word;
+        word = always 0;
+        enables = always 15;
+        count = signal count;
+      };
   waitrequest = always 0;
   readdata = always 0;
   readdatavalid = always 0;
@@ -22,5 +32,18 @@ bursts_read word count = record {
 }
 
 abbrev pub parts_run : List ℕ → List ℕ → Run
-parts_run word count = run_of (record reads_eight { signals = record { read = signal (1 ∷ []); write = always 0; address = always 0; word = always 0; enables = always 15; count = always 8 } })
+parts_run word count =
+    run_of
+    (record reads_eight {
+      signals =
+          record {
+            read =
+                signal (1 ∷ []);
+            write = always 0;
+            address = always 0;
+            word = always 0;
+            enables = always 15;
+            count = always 8;
+          };
+    })
     no_host (bursts_read word count)

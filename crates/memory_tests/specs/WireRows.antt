@@ -17,7 +17,8 @@ abbrev pub span_of : WireForm → ℕ
 span_of form = 4 * 2 ^ form.address_bits
 
 abbrev pub host_side : WireForm → HostSide
-host_side form = record { shape = word_shape 1 form.has_enables; has_burst = false; has_readdatavalid = true; has_response = false }
+host_side form =
+    record { shape = word_shape 1 form.has_enables; has_burst = false; has_readdatavalid = true; has_response = false }
 
 abbrev pub agent_side : WireForm → AgentSide
 agent_side form = record {

@@ -1,4 +1,5 @@
-//! Runs in which a part lets a wanted agent wait for ever, each refused by the record of that part, and right runs that keep the records.
+//! Runs in which a part lets a wanted agent wait for ever, each refused by the record of that part, and right runs that keep the
+//! records.
 
 ghost use Rattle.std.specs.Prelude.{◌≡◌, ◌<◌, ◌+◌, ◌∷◌, [], ℕ, true};
 ghost use Rattle.memory_runs.specs.Awake.{ServesWithin, ServesDefaultWithin, IsAsked, owes};
@@ -51,13 +52,15 @@ pub fn tag_of_no_host()
     ensures { (down : TaggedPort) → IsArbiterPart pair_system 0 mistagged down 1 → ⊥ }
 {}
 
-/// A limiter that looks at a register is a right route. A splitter that waits for the words of other lanes has no rank that is always 0.
+/// A limiter that looks at a register is a right route. A splitter that waits for the words of other lanes has no rank that is
+/// always 0.
 pub fn registered_gates()
     ensures route { IsRoutePart two_places 0 limited_top limited_down 4 }
     ensures splitter { (rank : ℕ → ℕ) → LinkRankFalls byte_target sets_top sets_down rank 0 4 → ⊥ }
 {}
 
-/// A stage that holds a read without lanes doesn't answer promptly by the number of its answers, and gives what has come by the number of its words.
+/// A stage that holds a read without lanes doesn't answer promptly by the number of its answers, and gives what has come by the
+/// number of its words.
 pub fn held_empty_read()
     ensures prompt { AnswersPromptly (target_of small_system 0) stage_top stage_low 6 → ⊥ }
     ensures given { GivesWhatHasCome (target_of small_system 0) stage_top stage_low 6 }
@@ -73,7 +76,8 @@ pub fn small_system_keeps_all()
     memory_awake::links::links_pass_while_still()
 }
 
-/// A host without readdatavalid that reads an agent and the default agent keeps every record. The machine next to it gives these waits and shows each read once.
+/// A host without readdatavalid that reads an agent and the default agent keeps every record. The machine next to it gives these
+/// waits and shows each read once.
 pub fn waiting_host_keeps_all()
     ensures agents { KeepsWhole waiting_small waiting_run 0 waiting_ways small_standings 5 }
     ensures awake { IsAwake waiting_small waiting_run waiting_approach 5 }
@@ -88,14 +92,24 @@ pub fn waiting_host_keeps_all()
     memory_awake::links::links_pass_while_still()
 }
 
-/// A splitter that swallows a joined write without a lane in each cycle, and what drops a read without a lane in each cycle and gives its word, keep back no more than their numbers while the port above them is still, for in these cycles it isn't. No numbers bound what they swallow.
-/// A link that accepts a read in each cycle, hands none on and gives no word leaves that port still, and keeps more back than any numbers.
+/// A splitter that swallows a joined write without a lane in each cycle, and what drops a read without a lane in each cycle and
+/// gives its word, keep back no more than their numbers while the port above them is still, for in these cycles it isn't. No
+/// numbers bound what they swallow.
+/// A link that accepts a read in each cycle, hands none on and gives no word leaves that port still, and keeps more back than any
+/// numbers.
 pub fn swallowing_links()
-    ensures split { (end : ℕ) → PassesWhileStill (record { hold = 0; kept = 0 }) (split_above empty_writes) (split_above empty_writes) (split_below empty_writes) end }
-    ensures split_swallows { (hold kept : ℕ) → PassesOn (record { hold = hold; kept = kept }) (split_above empty_writes) (split_below empty_writes) (hold + 1) → ⊥ }
-    ensures drop { (end : ℕ) → PassesWhileStill (record { hold = 1; kept = 0 }) (drop_above empty_reads) (drop_above empty_reads) (drop_below empty_reads) end }
-    ensures drop_swallows { (hold kept : ℕ) → PassesOn (record { hold = hold; kept = kept }) (drop_above empty_reads) (drop_below empty_reads) (hold + 1) → ⊥ }
-    ensures lost { (hold kept : ℕ) → PassesWhileStill (record { hold = hold; kept = kept }) lost_reads lost_reads shows_nothing (hold + 1) → ⊥ }
+    ensures split { (end : ℕ)
+        → PassesWhileStill (record { hold = 0; kept = 0 }) (split_above empty_writes) (split_above empty_writes)
+        (split_below empty_writes) end }
+    ensures split_swallows { (hold kept : ℕ)
+        → PassesOn (record { hold = hold; kept = kept }) (split_above empty_writes) (split_below empty_writes) (hold + 1) → ⊥ }
+    ensures drop { (end : ℕ)
+        → PassesWhileStill (record { hold = 1; kept = 0 }) (drop_above empty_reads) (drop_above empty_reads)
+        (drop_below empty_reads) end }
+    ensures drop_swallows { (hold kept : ℕ)
+        → PassesOn (record { hold = hold; kept = kept }) (drop_above empty_reads) (drop_below empty_reads) (hold + 1) → ⊥ }
+    ensures lost { (hold kept : ℕ)
+        → PassesWhileStill (record { hold = hold; kept = kept }) lost_reads lost_reads shows_nothing (hold + 1) → ⊥ }
 {
     crate::links::splitters();
     crate::links::drops();

@@ -76,7 +76,8 @@ pub fn bursts_together()
 pub fn packed_read()
     ensures issued { issued packed_system read_run 0 0 1 ≡ Read 5 ∷ [] }
     ensures taken { of_host 0 (taken packed_system read_run 0 1) ≡ Read 5 ∷ [] }
-    ensures beats { beats_taken packed_system read_run 0 2 ≡ record { tag = 0; beat = record { kind = Reads; address = 0; word = 0; enables = 0x20 } } ∷ [] }
+    ensures beats { beats_taken packed_system read_run 0 2
+        ≡ record { tag = 0; beat = record { kind = Reads; address = 0; word = 0; enables = 0x20 } } ∷ [] }
     ensures given { given (packed_system.host 0) (read_run.at_host 0) 2 ≡ record { word = 0x15; code = 0 } ∷ [] }
     ensures answers { answers packed_system read_run 0 2 ≡ record { tag = 0; byte = 0x15; code = 0 } ∷ [] }
 {}
@@ -88,7 +89,8 @@ pub fn right_runs()
     ensures returned { ReturnsInCommandOrder packed_system read_run 0 2 }
 {}
 
-/// Wrong runs break them: a piece with all lanes enabled, a stray tag, beats without a lane, a host that is changed within a burst.
+/// Wrong runs break them: a piece with all lanes enabled, a stray tag, beats without a lane, a host that is changed within a
+/// burst.
 pub fn wrong_runs()
     ensures all_lanes { ServesInGrantedOrder narrow_system all_lanes_run 0 4 → ⊥ }
     ensures stray { ServesInGrantedOrder narrow_system stray_run 0 1 → ⊥ }
@@ -98,8 +100,11 @@ pub fn wrong_runs()
 
 /// Without waitrequest a write of two wait cycles stands for three, and a word comes two cycles after its read.
 pub fn fixed_timing()
-    ensures waits { map (agent_accepts waiting_agent held_writes) (numbers 0 7) ≡ false ∷ false ∷ true ∷ false ∷ false ∷ true ∷ false ∷ [] }
-    ensures latency { before (words_given_in (system_of (host_of 4 true) waiting_agent (0 ∷ [])) (run_of no_host no_host late_read) 0) 4 ≡ record { word = 12; code = 0 } ∷ [] }
+    ensures waits { map (agent_accepts waiting_agent held_writes) (numbers 0 7)
+        ≡ false ∷ false ∷ true ∷ false ∷ false ∷ true ∷ false ∷ [] }
+    ensures latency { before
+        (words_given_in (system_of (host_of 4 true) waiting_agent (0 ∷ [])) (run_of no_host no_host late_read) 0) 4
+        ≡ record { word = 12; code = 0 } ∷ [] }
 {}
 
 /// A second read past a bound of one isn't proper; at a bound of two it is.
@@ -118,7 +123,8 @@ pub fn limiter()
 
 /// A read of an address in no footprint brings 0 back, and no agent takes anything.
 pub fn read_in_no_footprint()
-    ensures asked { asked two_agents default_run 0 2 ≡ record { place = None; beat = record { kind = Reads; address = 1024; word = 0; enables = 15 } } ∷ [] }
+    ensures asked { asked two_agents default_run 0 2
+        ≡ record { place = None; beat = record { kind = Reads; address = 1024; word = 0; enables = 15 } } ∷ [] }
     ensures given { given (two_agents.host 0) (default_run.at_host 0) 2 ≡ record { word = 0; code = 0 } ∷ [] }
     ensures returned { ReturnsInCommandOrder two_agents default_run 0 2 }
     ensures first { taken two_agents default_run 0 2 ≡ [] }
@@ -148,7 +154,8 @@ pub fn widths_and_lanes()
     ensures wide { filled_lanes (shape_of 1 1 false) (shape_of 8 8 true) 1 ≡ 0 ∷ [] }
 {}
 
-/// A burst of eight words is read in order by two bursts of four from an agent with three bits of `burstcount`. A burst of five is too long for it.
+/// A burst of eight words is read in order by two bursts of four from an agent with three bits of `burstcount`. A burst of five
+/// is too long for it.
 pub fn burst_in_parts()
     ensures longest { longest_burst 3 ≡ 4 }
     ensures issued { issued short_system (parts_run (0 ∷ 4 ∷ []) (4 ∷ 4 ∷ [])) 0 0 2 ≡ map Read (numbers 0 32) }
@@ -168,7 +175,8 @@ pub fn touches()
 
 /// Turns of 3 and 1 shares, and turns of one each.
 pub fn turns()
-    ensures right { map (λ t. t.commands) (turns_of (begun_within shared_system (turn_run fair_tags) 0 0 20)) ≡ 3 ∷ 1 ∷ 3 ∷ 1 ∷ 3 ∷ 1 ∷ [] }
+    ensures right { map (λ t. t.commands) (turns_of (begun_within shared_system (turn_run fair_tags) 0 0 20))
+        ≡ 3 ∷ 1 ∷ 3 ∷ 1 ∷ 3 ∷ 1 ∷ [] }
     ensures full { HasFullTurns shared_system 0 (turns_of (owners_by fair_tags)) }
     ensures wrong { HasFullTurns shared_system 0 (turns_of (owners_by unfair_tags)) → ⊥ }
 {}
@@ -179,10 +187,12 @@ pub fn host_joined_twice()
     ensures broken { HasFullTurns twice_system 0 (turns_of (owners_by twice_tags)) → ⊥ }
 {}
 
-/// A write without an operation takes a turn at an arbiter that its agent doesn't see: turns that are full behind the arbiter aren't full there.
+/// A write without an operation takes a turn at an arbiter that its agent doesn't see: turns that are full behind the arbiter
+/// aren't full there.
 pub fn empty_write_takes_a_turn()
     ensures taken { HasFullTurns one_each_system 0 (turns_of (owners_by (map (λ g. g.tag) with_empty_write))) }
-    ensures begun { map (λ o. o.tag) (first_owners [] (owners_of_groups (λ _. 0) (λ _. false) with_empty_write)) ≡ 0 ∷ 1 ∷ 0 ∷ 0 ∷ 1 ∷ 0 ∷ [] }
+    ensures begun { map (λ o. o.tag) (first_owners [] (owners_of_groups (λ _. 0) (λ _. false) with_empty_write))
+        ≡ 0 ∷ 1 ∷ 0 ∷ 0 ∷ 1 ∷ 0 ∷ [] }
     ensures broken { HasFullTurns one_each_system 0 (turns_of (owners_by (0 ∷ 1 ∷ 0 ∷ 0 ∷ 1 ∷ 0 ∷ []))) → ⊥ }
 {}
 
@@ -212,7 +222,8 @@ pub fn packed()
 
 /// A write is taken no earlier than the stages let it.
 pub fn stages()
-    ensures right { of_host 0 (taken staged_system (taken_after (0 ∷ 0 ∷ 1 ∷ [])) 0 3) ≡ issued staged_system (taken_after (0 ∷ 0 ∷ 1 ∷ [])) 0 0 1 }
+    ensures right { of_host 0 (taken staged_system (taken_after (0 ∷ 0 ∷ 1 ∷ [])) 0 3)
+        ≡ issued staged_system (taken_after (0 ∷ 0 ∷ 1 ∷ [])) 0 0 1 }
     ensures wrong { ServesInGrantedOrder staged_system (taken_after (0 ∷ 1 ∷ [])) 0 2 → ⊥ }
 {}
 
@@ -226,7 +237,8 @@ pub fn illegal_runs()
 
 /// What is read back is what was written.
 pub fn memory()
-    ensures right { map (λ a. a.byte) (answers wide_system (memory_run 5) 0 3) ≡ bytes_read (λ _. 0) (map (λ t. t.operation) (taken wide_system (memory_run 5) 0 3)) }
+    ensures right { map (λ a. a.byte) (answers wide_system (memory_run 5) 0 3)
+        ≡ bytes_read (λ _. 0) (map (λ t. t.operation) (taken wide_system (memory_run 5) 0 3)) }
     ensures wrong { ActsAsMemory wide_system (memory_run 6) (λ _. 0) 0 3 → ⊥ }
 {}
 
@@ -276,7 +288,8 @@ pub fn lines_can_be_kept()
     memory_machines::wires::wire_is_a_row()
 }
 
-/// A beat without a lane has no operation before an agent without byte enables, and is an operation at it: so it may not be shown there.
+/// A beat without a lane has no operation before an agent without byte enables, and is an operation at it: so it may not be shown
+/// there.
 pub fn laneless_beat()
     ensures before { items (target_of laneless_system 0) laneless_port 1 ≡ [] }
     ensures after { ServesInGrantedOrder laneless_system laneless_run 0 1 → ⊥ }
@@ -298,7 +311,8 @@ pub fn laws_may_hang()
     ensures asleep { ServesWithin 3 hung_system hung_run 0 4 → ⊥ }
 {}
 
-/// The same where a link is excused by the wait below it only if a beat stands there: one link waits for a word, the other for a beat.
+/// The same where a link is excused by the wait below it only if a beat stands there: one link waits for a word, the other for a
+/// beat.
 pub fn laws_may_hang_owing()
     ensures upper { CarriesCommands byte_target 1 owing_top owing_middle 4 }
     ensures lower { CarriesCommands byte_target 1 owing_middle owing_bottom 4 }
@@ -307,14 +321,16 @@ pub fn laws_may_hang_owing()
     ensures asleep { ServesWithin 3 hung_system owing_run 0 5 → ⊥ }
 {}
 
-/// A link that keeps all laws, the rank with tight exceptions among them, and never gives a word that has come while writes of the same host go on.
+/// A link that keeps all laws, the rank with tight exceptions among them, and never gives a word that has come while writes of
+/// the same host go on.
 pub fn laws_may_starve()
     ensures commands { CarriesCommands byte_target 1 starving_top starving_bottom 4 }
     ensures rank { (end : ℕ) → FallsByWords byte_target starving_top starving_bottom (λ c. 0) 0 end }
     ensures asleep { ServesWithin 3 starving_system starving_run 0 5 → ⊥ }
 {}
 
-/// A link that keeps the laws, the rank with its first exception tight, and holds back a burst for one agent while another agent owes a word: a host behind it is never served.
+/// A link that keeps the laws, the rank with its first exception tight, and holds back a burst for one agent while another agent
+/// owes a word: a host behind it is never served.
 pub fn laws_may_block()
     ensures commands { CarriesCommands byte_target 1 debt_top debt_bottom 4 }
     ensures rank { (end : ℕ) → FallsHalf byte_target debt_top debt_bottom (λ c. 0) 0 end }
@@ -331,10 +347,12 @@ pub fn tight_clauses_refuse()
 
 /// The write of aabbccdd with the lanes 6 in two pieces is a run of the splitter.
 pub fn splitter_run()
-    ensures { IsExpanderRun (split_parts wide_side.shape byte_side.shape) wide_side byte_side (parts_sent wide_side byte_side) second_piece 3 }
+    ensures { IsExpanderRun (split_parts wide_side.shape byte_side.shape) wide_side byte_side
+        (parts_sent wide_side byte_side) second_piece 3 }
 {}
 
-/// Shares of 3 and 1 give the order 0 0 0 1 0 1 1 1 1 1 1 1. One share for each host, and the first host always first, break the rule.
+/// Shares of 3 and 1 give the order 0 0 0 1 0 1 1 1 1 1 1 1. One share for each host, and the first host always first, break the
+/// rule.
 pub fn turns_at_ports()
     ensures right { TakesTurnsByRule seats askers (granted by_shares) 12 }
     ensures one_each { TakesTurnsByRule seats askers (granted one_share_each) 12 → ⊥ }
@@ -343,15 +361,18 @@ pub fn turns_at_ports()
     ensures starved { others_begun seats askers (granted first_host_first) 1 0 4 ≡ 4 }
 {}
 
-/// A second read is held back before an agent that bears one unanswered read until the first is answered. Letting it through is past the bound.
+/// A second read is held back before an agent that bears one unanswered read until the first is answered. Letting it through is
+/// past the bound.
 pub fn wire_holds_read_back()
     ensures legal { IsLegalRun one_read_system held_back_run 4 }
-    ensures taken { of_host 0 (taken one_read_system held_back_run 0 4) ≡ map Read (numbers 8 8) ++ Write 5 0xcc ∷ Write 6 0xbb ∷ [] }
+    ensures taken { of_host 0 (taken one_read_system held_back_run 0 4)
+        ≡ map Read (numbers 8 8) ++ Write 5 0xcc ∷ Write 6 0xbb ∷ [] }
     ensures given { map (λ w. w.word) (given (one_read_system.host 0) held_back_host 4) ≡ 0x11 ∷ 0x22 ∷ [] }
     ensures past_bound { IsWithinPendingBound (agent_side one_read) let_through_agent 2 → ⊥ }
 {}
 
-/// An asker and a route under another host's tag, a read before an agent that only writes, a last beat with `more`, a second word that is owed
+/// An asker and a route under another host's tag, a read before an agent that only writes, a last beat with `more`, a second word
+/// that is owed
 /// where there is room for one, and codes that aren't the agent's are refused. Where codes aren't read, nothing is said of them.
 pub fn lines_refuse()
     ensures asker { AreFitToAsk joint_system 0 mistagged 1 → ⊥ }

@@ -26,10 +26,12 @@ pub fn wires()
     ensures doubles { CarriesCommands byte_target 0 hides_wait shows_twice 3 → ⊥ }
 {}
 
-/// A half word at address 2 stands on both halves, with the upper lanes enabled, and its word comes from there. With room for one read the second is held back.
+/// A half word at address 2 stands on both halves, with the upper lanes enabled, and its word comes from there. With room for one
+/// read the second is held back.
 /// Lanes that stay where they are break the order; a word that isn't cut out has the wrong bytes.
 pub fn selectors()
-    ensures write { levels_at (select_below (selecting 16)).commands.signals 0 ≡ (record { read = 0; write = 1; address = 0; word = 0xbbaabbaa; enables = 0xc; count = 1 }) }
+    ensures write { levels_at (select_below (selecting 16)).commands.signals 0
+        ≡ (record { read = 0; write = 1; address = 0; word = 0xbbaabbaa; enables = 0xc; count = 1 }) }
     ensures words { map (λ w. w.word) (words_at (select_above (selecting 16)) 5) ≡ 0x4433 ∷ 0x6655 ∷ [] }
     ensures let_through { shows (select_below (selecting 16)).commands.signals 2 ≡ true }
     ensures held_back { shows (select_below (selecting 1)).commands.signals 2 ≡ false }
@@ -50,7 +52,8 @@ pub fn pipes()
     ensures at_once { AreDelayed one_read_system 1 (tagged_port answered_at_once) (tagged_port answered_at_once) 2 → ⊥ }
 {}
 
-/// Through four stages the writes are shown from the fourth cycle on. While the agent waits they gather in the stages, and nobody waits above.
+/// Through four stages the writes are shown from the fourth cycle on. While the agent waits they gather in the stages, and nobody
+/// waits above.
 pub fn long_pipes()
     ensures shown { levels (side_of (pipe_run stalled_writes) 4).commands.write 10 ≡ 0 ∷ 0 ∷ 0 ∷ 0 ∷ 1 ∷ 1 ∷ 1 ∷ 1 ∷ 1 ∷ 0 ∷ [] }
     ensures words { map (λ m. m.transfer.first) (taken_at (side_of (pipe_run stalled_writes) 4) 9) ≡ 1 ∷ 2 ∷ 3 ∷ [] }
@@ -68,24 +71,32 @@ pub fn splitters()
     ensures words { words_at (split_above gathering) 3 ≡ (record { word = 0x00bbcc00; code = 2 }) ∷ [] }
     ensures early { CarriesCommands byte_target 0 accepts_early byte_side 2 → ⊥ }
     ensures swapped { BringsBack byte_lanes swaps_bytes byte_reads 3 → ⊥ }
-    ensures swallows { (hold kept : ℕ) → PassesOn (record { hold = hold; kept = kept }) (split_above empty_writes) (split_below empty_writes) (hold + 1) → ⊥ }
+    ensures swallows { (hold kept : ℕ)
+        → PassesOn (record { hold = hold; kept = kept }) (split_above empty_writes) (split_below empty_writes) (hold + 1) → ⊥ }
 {
     memory_links::runs::split_runs()
 }
 
-/// Between words of one size the plans of links allow a splitter into one piece, and what drops beats, with room for one read. Each holds all later reads back while the first is owed, though the port below doesn't wait.
+/// Between words of one size the plans of links allow a splitter into one piece, and what drops beats, with room for one read.
+/// Each holds all later reads back while the first is owed, though the port below doesn't wait.
 pub fn held_reads()
     ensures may_split { MaySplit byte_target one_piece.wide one_piece.narrow 1 }
     ensures may_drop { IsDropPlan byte_target nothing_dropped.shape nothing_dropped.below }
-    ensures split { (c : ℕ) → (shows (split_above one_piece).commands.signals c ≡ true) × (shows (split_below one_piece).commands.signals (suc c) ≡ false) }
-    ensures drop { (c : ℕ) → (shows (drop_above nothing_dropped).commands.signals c ≡ true) × (shows (drop_below nothing_dropped).commands.signals (suc c) ≡ false) }
+    ensures split { (c : ℕ)
+        → (shows (split_above one_piece).commands.signals c ≡ true)
+        × (shows (split_below one_piece).commands.signals (suc c) ≡ false) }
+    ensures drop { (c : ℕ)
+        → (shows (drop_above nothing_dropped).commands.signals c ≡ true)
+        × (shows (drop_below nothing_dropped).commands.signals (suc c) ≡ false) }
 {
     memory_links::runs::split_runs();
     memory_links::runs::drop_runs()
 }
 
-/// A read of three words and a write of two are sent beat by beat, joined by `more`; the read is accepted with its first beat, and the write waits.
-/// A cutter that leaves `more` low ends a command too early. One that accepts a read with its last beat gives a word that isn't owed.
+/// A read of three words and a write of two are sent beat by beat, joined by `more`; the read is accepted with its first beat,
+/// and the write waits.
+/// A cutter that leaves `more` low ends a command too early. One that accepts a read with its last beat gives a word that isn't
+/// owed.
 /// While words of an earlier read without lanes are owed, a plain write doesn't go straight through a cutter.
 pub fn bursts()
     ensures places { map (λ m. m.transfer.first) (taken_at (cut_below cutting) 5) ≡ 8 ∷ 12 ∷ 16 ∷ 32 ∷ 36 ∷ [] }
@@ -97,9 +108,12 @@ pub fn bursts()
     ensures behind { GoesStraightThrough (λ c. true) byte_lanes (cut_above behind_empty) (cut_below behind_empty) 2 → ⊥ }
 {}
 
-/// A read of five words and a write of three are sent in bursts of two words and of one, joined by `more`; the read is accepted with its first burst.
-/// A cutter that doesn't join its bursts ends a command too early, and one that shows a burst as it is shows one that is too long.
-/// One whose next burst begins a word too early reads a byte twice. One that accepts a read with its last burst gives a word that isn't owed.
+/// A read of five words and a write of three are sent in bursts of two words and of one, joined by `more`; the read is accepted
+/// with its first burst.
+/// A cutter that doesn't join its bursts ends a command too early, and one that shows a burst as it is shows one that is too
+/// long.
+/// One whose next burst begins a word too early reads a byte twice. One that accepts a read with its last burst gives a word that
+/// isn't owed.
 /// While words of an earlier read without lanes are owed, a plain write doesn't go straight through such a cutter either.
 pub fn cuts()
     ensures places { map (λ m. m.transfer.first) (taken_at (cut_below pairing) 6) ≡ 8 ∷ 16 ∷ 24 ∷ 32 ∷ 32 ∷ 40 ∷ [] }
@@ -114,12 +128,16 @@ pub fn cuts()
     ensures behind { GoesStraightThrough (λ c. true) byte_lanes (cut_above behind_pairs) (cut_below behind_pairs) 2 → ⊥ }
 {}
 
-/// Of a joined write those beats go on that have a lane, the last of them with `more` low. A read without a lane waits until nothing is
+/// Of a joined write those beats go on that have a lane, the last of them with `more` low. A read without a lane waits until
+/// nothing is
 /// owed, and is given 0 in the next cycle.
-/// What leaves `more` as it is joins two commands; what answers such a read before an earlier one brings wrong bytes. Where a read with a
+/// What leaves `more` as it is joins two commands; what answers such a read before an earlier one brings wrong bytes. Where a
+/// read with a
 /// lane is joined to one without, the machine itself joins it to the next command, so it needs joined commands that are alike.
-/// It accepts reads without a lane, and gives their words, as often as a host asks them, so no number bounds what it doesn't hand on.
-/// A write burst whose next beat a host holds back isn't shown promptly, however many cycles that is: the first beat is kept as long.
+/// It accepts reads without a lane, and gives their words, as often as a host asks them, so no number bounds what it doesn't hand
+/// on.
+/// A write burst whose next beat a host holds back isn't shown promptly, however many cycles that is: the first beat is kept as
+/// long.
 pub fn drops()
     ensures places { map (λ m. m.transfer.first) (taken_at (drop_below dropping) 10) ≡ 8 ∷ 16 ∷ 8 ∷ 16 ∷ [] }
     ensures joined { map (λ m. m.more) (taken_at (drop_below dropping) 10) ≡ true ∷ false ∷ false ∷ false ∷ [] }
@@ -129,10 +147,13 @@ pub fn drops()
     ensures loose { CarriesCommands byte_target 1 ends_without_lane stays_joined 3 → ⊥ }
     ensures early { BringsBack byte_target own_word_first one_word 4 → ⊥ }
     ensures mixed { CarriesCommands byte_target 1 (drop_above mixed_reads) (drop_below mixed_reads) 4 → ⊥ }
-    ensures swallows { (hold kept : ℕ) → PassesOn (record { hold = hold; kept = kept }) (drop_above empty_reads) (drop_below empty_reads) (hold + 1) → ⊥ }
-    ensures gives { (hold kept : ℕ) → PassesOn (record { hold = hold; kept = kept }) (drop_above empty_reads) (drop_below empty_reads) (kept + 2) → ⊥ }
+    ensures swallows { (hold kept : ℕ)
+        → PassesOn (record { hold = hold; kept = kept }) (drop_above empty_reads) (drop_below empty_reads) (hold + 1) → ⊥ }
+    ensures gives { (hold kept : ℕ)
+        → PassesOn (record { hold = hold; kept = kept }) (drop_above empty_reads) (drop_below empty_reads) (kept + 2) → ⊥ }
     ensures legal { (end : ℕ) → AreLegalAt (drop_above held_burst) end }
-    ensures keeps { (few : ℕ) → IsShownPromptly few true byte_target (drop_above held_burst) (drop_below held_burst) (few + 1) → ⊥ }
+    ensures keeps { (few : ℕ) → IsShownPromptly few true byte_target (drop_above held_burst) (drop_below held_burst) (few + 1)
+        → ⊥ }
 {
     memory_links::runs::drop_runs()
 }

@@ -27,7 +27,8 @@ pub fn agent_holds_reads_back()
 pub fn agent_waits()
     ensures stall { levels (above_agent (agent_with_bound 1) stalled_in).commands.waitrequest 4 ≡ 1 ∷ 1 ∷ 0 ∷ 0 ∷ [] }
     ensures shown { levels (at_agent (agent_with_bound 1) stalled_in).write 4 ≡ 1 ∷ 1 ∷ 1 ∷ 0 ∷ [] }
-    ensures three_and_none { levels (above_agent (timed_agent 0 0 3) write_then_read_in).commands.waitrequest 6 ≡ 1 ∷ 1 ∷ 1 ∷ 0 ∷ 0 ∷ 0 ∷ [] }
+    ensures three_and_none { levels (above_agent (timed_agent 0 0 3) write_then_read_in).commands.waitrequest 6
+        ≡ 1 ∷ 1 ∷ 1 ∷ 0 ∷ 0 ∷ 0 ∷ [] }
 {}
 
 /// At fixed latency a word goes up so many cycles after its read, and at latency 0 one cycle after.
@@ -36,7 +37,8 @@ pub fn agent_answers_in_time()
     ensures words_at_none { levels (above_agent (timed_agent 0 0 0) fixed_reads_in).answers.word 3 ≡ 0 ∷ 0x10 ∷ 0x11 ∷ [] }
     ensures at_one { levels (above_agent (timed_agent 1 0 0) fixed_reads_in).answers.valid 4 ≡ 0 ∷ 1 ∷ 1 ∷ 0 ∷ [] }
     ensures words_at_one { levels (above_agent (timed_agent 1 0 0) fixed_reads_in).answers.word 3 ≡ 0x10 ∷ 0x11 ∷ 0x12 ∷ [] }
-    ensures at_five { levels (above_agent (timed_agent 5 0 0) fixed_reads_in).answers.valid 8 ≡ 0 ∷ 0 ∷ 0 ∷ 0 ∷ 0 ∷ 1 ∷ 1 ∷ 0 ∷ [] }
+    ensures at_five { levels (above_agent (timed_agent 5 0 0) fixed_reads_in).answers.valid 8
+        ≡ 0 ∷ 0 ∷ 0 ∷ 0 ∷ 0 ∷ 1 ∷ 1 ∷ 0 ∷ [] }
     ensures tags_at_five { word_tags (above_agent (timed_agent 5 0 0) fixed_reads_in) 8 ≡ 0 ∷ 1 ∷ [] }
 {}
 
@@ -45,10 +47,13 @@ pub fn agent_answers_bursts()
     ensures { word_tags (above_agent (agent_with_bound 4) burst_reads_in) 14 ≡ 0 ∷ 1 ∷ 1 ∷ 0 ∷ 0 ∷ 0 ∷ 1 ∷ 1 ∷ 1 ∷ 1 ∷ [] }
 {}
 
-/// `more` is low on the last beat of each burst; a 17th read waits; without readdatavalid a read is shown until it is taken and waits for its word.
+/// `more` is low on the last beat of each burst; a 17th read waits; without readdatavalid a read is shown until it is taken and
+/// waits for its word.
 pub fn host_rows()
-    ensures bursts { levels (below_host (host_of 4 true) burst_writes_in).commands.more 10 ≡ 0 ∷ 1 ∷ 0 ∷ 1 ∷ 1 ∷ 0 ∷ 1 ∷ 1 ∷ 1 ∷ 0 ∷ [] }
-    ensures without_enables { levels (below_host (host_of 4 false) burst_writes_in).commands.more 10 ≡ 0 ∷ 1 ∷ 0 ∷ 1 ∷ 1 ∷ 0 ∷ 1 ∷ 1 ∷ 1 ∷ 0 ∷ [] }
+    ensures bursts { levels (below_host (host_of 4 true) burst_writes_in).commands.more 10
+        ≡ 0 ∷ 1 ∷ 0 ∷ 1 ∷ 1 ∷ 0 ∷ 1 ∷ 1 ∷ 1 ∷ 0 ∷ [] }
+    ensures without_enables { levels (below_host (host_of 4 false) burst_writes_in).commands.more 10
+        ≡ 0 ∷ 1 ∷ 0 ∷ 1 ∷ 1 ∷ 0 ∷ 1 ∷ 1 ∷ 1 ∷ 0 ∷ [] }
     ensures full { levels (at_host (host_of 4 true) many_reads_in).waitrequest 17 ≡ replicate 16 0 ++ 1 ∷ [] }
     ensures shut { levels (below_host (host_of 4 true) many_reads_in).commands.read 17 ≡ replicate 16 1 ++ 0 ∷ [] }
     ensures once { levels (below_host waiting_host waiting_read_in).commands.read 5 ≡ 1 ∷ 1 ∷ 0 ∷ 0 ∷ 0 ∷ [] }
@@ -56,7 +61,8 @@ pub fn host_rows()
     ensures address { levels (below_host waiting_host waiting_read_in).commands.address 1 ≡ 12 ∷ [] }
 {}
 
-/// A read of another agent waits for the word that is owed; the default agent answers from the next cycle on; a burst keeps its place.
+/// A read of another agent waits for the word that is owed; the default agent answers from the next cycle on; a burst keeps its
+/// place.
 pub fn route_rows()
     ensures first { levels (below_route other_read_in 0).commands.read 5 ≡ 1 ∷ 0 ∷ 0 ∷ 0 ∷ 0 ∷ [] }
     ensures second { levels (below_route other_read_in 1).commands.read 5 ≡ 0 ∷ 0 ∷ 0 ∷ 1 ∷ 0 ∷ [] }
@@ -71,7 +77,8 @@ pub fn route_rows()
 /// Shares of one and three: 0 1 1 1 0 1 1 1; a beat that waits stays; a word goes to the host whose tag it bears.
 pub fn arbiter_rows()
     ensures shares { levels (below_arbiter (two_writers_in [] [] [])).commands.tag 8 ≡ 0 ∷ 1 ∷ 1 ∷ 1 ∷ 0 ∷ 1 ∷ 1 ∷ 1 ∷ [] }
-    ensures waits { levels (above_arbiter (two_writers_in [] [] []) 0).commands.waitrequest 8 ≡ 0 ∷ 1 ∷ 1 ∷ 1 ∷ 0 ∷ 1 ∷ 1 ∷ 1 ∷ [] }
+    ensures waits { levels (above_arbiter (two_writers_in [] [] []) 0).commands.waitrequest 8
+        ≡ 0 ∷ 1 ∷ 1 ∷ 1 ∷ 0 ∷ 1 ∷ 1 ∷ 1 ∷ [] }
     ensures stall { levels (below_arbiter (two_writers_in (0 ∷ 1 ∷ []) [] [])).commands.tag 6 ≡ 0 ∷ 1 ∷ 1 ∷ 1 ∷ 1 ∷ 0 ∷ [] }
     ensures words { levels (above_arbiter (two_writers_in [] (1 ∷ 1 ∷ []) (1 ∷ 0 ∷ [])) 1).answers.valid 2 ≡ 1 ∷ 0 ∷ [] }
 {}
@@ -100,7 +107,8 @@ pub fn wrong_hosts()
     ensures ends_early { IsHostLine AreZero both_joined (host_run burst_view) 0 0 1000 ends_early 2 → ⊥ }
 {}
 
-/// Two hosts, their routes, an arbiter and an agent together: turns by shares of one and three, a read that waits once, and a read in no footprint.
+/// Two hosts, their routes, an arbiter and an agent together: turns by shares of one and three, a read that waits once, and a
+/// read in no footprint.
 pub fn whole_system_rows()
     ensures turns { levels ((whole_run both_write).at_agent 0).grant 8 ≡ 0 ∷ 1 ∷ 1 ∷ 1 ∷ 0 ∷ 1 ∷ 1 ∷ 1 ∷ [] }
     ensures waits { levels ((whole_run both_write).at_host 0).waitrequest 8 ≡ 0 ∷ 1 ∷ 1 ∷ 1 ∷ 0 ∷ 1 ∷ 1 ∷ 1 ∷ [] }

@@ -7,7 +7,9 @@ use Rattle.memory_runs.specs.Onward.{longest_of}
 -- at an agent's words: for each beat its pieces, and the cycles in which the words of a wide one are given out
 abbrev pub fitted_steps : System → ℕ → ℕ → ℕ
 fitted_steps system agent host =
-    (longest_of system host + 1) * (max 1 (pieces (system.host host).shape (system.agent agent).shape) + pieces (system.agent agent).shape (system.host host).shape)
+    (longest_of system host + 1)
+    * (max 1 (pieces (system.host host).shape (system.agent agent).shape)
+    + pieces (system.agent agent).shape (system.host host).shape)
 
 -- and where beats without a lane are dropped, a cycle without one for each beat, and two more
 abbrev pub row_steps : System → ℕ → ℕ → ℕ

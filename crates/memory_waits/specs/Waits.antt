@@ -9,7 +9,8 @@ use Rattle.memory_parts.specs.Steps.{is_gone}
 use Rattle.memory_runs.specs.Onward.{longest_of}
 use Rattle.memory_awake.specs.Onward.{standing_by, round_of_others, is_good}
 
--- where an agent owes nothing by the end of a cycle, all words that were asked above its part by then have come by the end of the next one
+-- where an agent owes nothing by the end of a cycle, all words that were asked above its part by then have come by the end of the
+-- next one
 abbrev pub WordsComeSoon : System → Run → ℕ → Port → ℕ → Type 0
 WordsComeSoon system run agent port end =
     (c : ℕ) → suc c < end → IsFalse (owes system run agent c) → words_owed port (suc c) ≤ length (words_at port (suc (suc c)))
@@ -22,7 +23,8 @@ pipe_time wait (suc stages) = pipe_time wait stages + 2 * (wait + stages + 2)
 abbrev pub agent_pipe_time : System → ℕ → ℕ
 agent_pipe_time system agent = pipe_time (longest_wait (system.agent agent)) system.stages
 
--- what leads from a host's route down to its arbiter and shows each beat at once: `held` says what of the beats that were taken above is still to be sent
+-- what leads from a host's route down to its arbiter and shows each beat at once: `held` says what of the beats that were taken
+-- above is still to be sent
 pub record LeadsDown (target : Target) (top bottom : Port) (held : ℕ → ℕ) (most end : ℕ) : Type 0 where
   pub few : (c : ℕ) → c ≤ end → held c ≤ most
   pub shown : (c : ℕ) → c < end → IsTrue (shows top.commands.signals c) → IsTrue (shows bottom.commands.signals c)
@@ -33,13 +35,17 @@ pub record LeadsDown (target : Target) (top bottom : Port) (held : ℕ → ℕ) 
   pub taken : (c : ℕ) → c < end → IsTrue (takes top c) → (held c ≡ 0) × IsTrue (takes bottom c)
   pub stands : (c : ℕ) → c < end → 0 < held c → IsTrue (shows bottom.commands.signals c)
   -- where nothing is held all operations are taken below, and all words are asked there
-  pub through : (c : ℕ) → c ≤ end → held c ≡ 0 → length (operations_among target top.shape (taken_at top c)) ≤ length (operations_among target bottom.shape (taken_at bottom c))
+  pub through : (c : ℕ) → c ≤ end → held c ≡ 0
+      → length (operations_among target top.shape (taken_at top c))
+      ≤ length (operations_among target bottom.shape (taken_at bottom c))
   pub asked : (c : ℕ) → c ≤ end → held c ≡ 0 → words_owed top c ≤ words_owed bottom c
   pub words : (c : ℕ) → c < end → is_raised (top.answers.valid c) ≡ is_raised (bottom.answers.valid c)
 
--- a round of the others, once more for each burst that may be held and twice for what is asked by then, then twice what stands in the pipe, and the way of a word up
+-- a round of the others, once more for each burst that may be held and twice for what is asked by then, then twice what stands in
+-- the pipe, and the way of a word up
 abbrev pub waits_by : ℕ → ℕ → System → ℕ → ℕ
-waits_by most round system agent = (2 * most + 1) * (standing_by round system agent + 1) + 2 * agent_pipe_time system agent + system.stages + 6
+waits_by most round system agent =
+    (2 * most + 1) * (standing_by round system agent + 1) + 2 * agent_pipe_time system agent + system.stages + 6
 
 -- of a wired host beside neighbours whose commands come to no more steps than their longest bursts have beats
 abbrev pub waiting_window : System → ℕ → ℕ → ℕ

@@ -8,13 +8,15 @@ use Rattle.memory_waits.specs.Neighbours.{fitted_steps, row_steps}
 use Rattle.memory_waits.specs.Waits.{waiting_window}
 use Rattle.memory_waits.specs.Watched.{waits_for_words}
 
--- those of its own beats at the agent's words, twice where one of them may be kept behind, and as many again until that one is sent
+-- those of its own beats at the agent's words, twice where one of them may be kept behind, and as many again until that one is
+-- sent
 abbrev pub own_steps : System → ℕ → ℕ → ℕ
 own_steps system agent host = 4 * fitted_steps system agent host + 3
 
 -- behind any row of links
 abbrev pub row_window : System → ℕ → ℕ → ℕ
-row_window system agent host = waits_for_words (own_steps system agent host) (round_by (row_steps system agent) system agent host) system agent
+row_window system agent host =
+    waits_for_words (own_steps system agent host) (round_by (row_steps system agent) system agent host) system agent
 
 -- the plain commands of each joined host reach the agent one for one
 abbrev pub are_alike : System → ℕ → Bool

@@ -58,11 +58,13 @@ pub record BearsOneTag (netlist : Netlist) (command : CommandNets) : Type 0 wher
 
 -- the side above: the agent's words and bursts, addresses that count bytes, and an enable for each lane
 abbrev pub shape_above : AgentPort → Shape
-shape_above port = record { word_bytes = port.word_bytes; unit_bytes = 1; burst_bits = burst_width port.burst_bits; has_enables = true }
+shape_above port =
+    record { word_bytes = port.word_bytes; unit_bytes = 1; burst_bits = burst_width port.burst_bits; has_enables = true }
 
 -- `placed`, in the agent's unit, is the offset in its span of the word at a byte address
 abbrev pub PlacesAddress : AgentPort → ℕ → ℕ → Type 0
-PlacesAddress port address placed = placed * unit_of port.byte_units port.word_bytes ≡ byte_address (shape_above port) address % span_of port
+PlacesAddress port address placed =
+    placed * unit_of port.byte_units port.word_bytes ≡ byte_address (shape_above port) address % span_of port
 
 -- words go on in their cycle, with their codes
 pub record GivesAnswer (nets : AgentNets) (answer : AnswerNets) (cycle : Cycle) : Type 0 where
@@ -81,7 +83,8 @@ pub record AreMadeNets (netlist : Netlist) (port : AgentPort) (command : Command
   pub answer : AreAnswerNets netlist made.answer (port.word_bytes * 8)
   pub answer_tag : IsNetOfWidth netlist made.answer_tag command.tag.width
 
--- what an agent is shown in a run: byte enables that are all ones and the count 1 where it has no such port, and 0 for each other port
+-- what an agent is shown in a run: byte enables that are all ones and the count 1 where it has no such port, and 0 for each other
+-- port
 abbrev pub agent_signals : AgentPort → CommandNets → AgentMade → Run → Signals
 agent_signals port command made run = record {
   read = λ c. value_or 0 made.read (cycle_of run c);
@@ -105,7 +108,8 @@ agent_view port nets command made run = record {
 
 -- ---- what stands lasts. No contract reads these proofs; the laws of an agent cite them
 
-pub agent_lasts : (old new : Netlist) (port : AgentPort) (nets : AgentNets) → AreAgentNets old port nets → Extends old new → AreAgentNets new port nets
+pub agent_lasts : (old new : Netlist) (port : AgentPort) (nets : AgentNets) → AreAgentNets old port nets → Extends old new
+    → AreAgentNets new port nets
 agent_lasts old new port nets h e = record {
   waitrequest = has_lasts old new port.waitrequest 1 nets.waitrequest h.waitrequest e;
   readdata = has_lasts old new port.reads (port.word_bytes * 8) nets.readdata h.readdata e;

@@ -20,11 +20,14 @@ use Rattle.mm_agent.specs.Agents.{GivesAnswer}
 -- beside a row what the agent gives at a port goes on in its cycle, and at latency 0 in the next one
 pub record GivesRowPort (netlist : Netlist) (port : AgentPort) (given : Option NetValue) (made : NetValue) : Type 0 where
   pub soon : 1 ≤ port.read_latency → Always netlist (λ cycle. cycle.net made.number ≡ value_or 0 given cycle)
-  pub late : port.read_latency ≡ 0 → (run : Run) (cycles : ℕ) → IsRun netlist run cycles → (c : ℕ) → c + 1 < cycles → run.net (c + 1) made.number ≡ value_or 0 given (cycle_of run c)
+  pub late : port.read_latency ≡ 0 → (run : Run) (cycles : ℕ) → IsRun netlist run cycles → (c : ℕ) → c + 1 < cycles
+      → run.net (c + 1) made.number ≡ value_or 0 given (cycle_of run c)
 
 -- a word is answered where the row's last bit is high
-pub record GivesRow (netlist : Netlist) (port : AgentPort) (nets : AgentNets) (answer : AnswerNets) (row : NetValue) : Type 0 where
-  pub valid : Always netlist (λ cycle. cycle.net answer.valid.number ≡ bit_at (cycle.net row.number) (row_places (agent_side port) - 1))
+pub record GivesRow (netlist : Netlist) (port : AgentPort) (nets : AgentNets) (answer : AnswerNets)
+    (row : NetValue) : Type 0 where
+  pub valid : Always netlist (λ cycle. cycle.net answer.valid.number
+      ≡ bit_at (cycle.net row.number) (row_places (agent_side port) - 1))
   pub word : GivesRowPort netlist port nets.readdata answer.word
   pub code : GivesRowPort netlist port nets.response answer.code
 
@@ -50,7 +53,8 @@ tag_nets true (Some queue) = 0
 
 -- in each run the net shows what another showed so many cycles before, and 0 before that
 pub record IsEarlier (netlist : Netlist) (from net : NetValue) (count : ℕ) : Type 0 where
-  pub value : (run : Run) (cycles : ℕ) → IsRun netlist run cycles → (c : ℕ) → c < cycles → run.net c net.number ≡ earlier (λ d. run.net d from.number) count c
+  pub value : (run : Run) (cycles : ℕ) → IsRun netlist run cycles → (c : ℕ) → c < cycles
+      → run.net c net.number ≡ earlier (λ d. run.net d from.number) count c
 
 -- the tag of an answer: the one of all commands, the one that went along the row, or that of the oldest read in the queue
 abbrev pub IsAnswerTag : Netlist → Bool → AgentPort → NetValue → HeldReads → NetValue → Type 0
@@ -62,10 +66,18 @@ IsAnswerTag netlist true port tag (Queued queue) made = made ≡ queue.tag
 
 -- ---- what stands lasts. No contract reads these proofs; the laws of the agent cite them
 
-pub row_port_lasts : (old new : Netlist) (port : AgentPort) (given : Option NetValue) (made : NetValue) → GivesRowPort old port given made → Extends old new → GivesRowPort new port given made
-row_port_lasts old new port given made h e = record { soon = λ some cycle v. h.soon some cycle (e.valuations cycle v); late = λ none run cycles r. h.late none run cycles (e.runs run cycles r) }
+pub row_port_lasts : (old new : Netlist) (port : AgentPort) (given : Option NetValue) (made : NetValue)
+    → GivesRowPort old port given made → Extends old new → GivesRowPort new port given made
+row_port_lasts old new port given made h e =
+    record {
+      soon =
+          λ some cycle v. h.soon some cycle (e.valuations cycle v);
+      late =
+          λ none run cycles r. h.late none run cycles (e.runs run cycles r);
+    }
 
-pub answers_last : (old new : Netlist) (port : AgentPort) (nets : AgentNets) (answer : AnswerNets) (held : HeldReads) → AreAnswersGiven old port nets answer held → Extends old new → AreAnswersGiven new port nets answer held
+pub answers_last : (old new : Netlist) (port : AgentPort) (nets : AgentNets) (answer : AnswerNets) (held : HeldReads)
+    → AreAnswersGiven old port nets answer held → Extends old new → AreAnswersGiven new port nets answer held
 answers_last old new port nets answer Never h e = record {
   valid = λ cycle v. h.valid cycle (e.valuations cycle v);
   word = λ cycle v. h.word cycle (e.valuations cycle v);
@@ -79,9 +91,12 @@ answers_last old new port nets answer (Row row) h e = record {
 }
 answers_last old new port nets answer (Queued queue) h e = λ cycle v. h cycle (e.valuations cycle v)
 
-pub answer_tag_lasts : (old new : Netlist) (several : Bool) (port : AgentPort) (tag : NetValue) (held : HeldReads) (made : NetValue) → IsAnswerTag old several port tag held made → Extends old new → IsAnswerTag new several port tag held made
+pub answer_tag_lasts : (old new : Netlist) (several : Bool) (port : AgentPort) (tag : NetValue) (held : HeldReads)
+    (made : NetValue)
+    → IsAnswerTag old several port tag held made → Extends old new → IsAnswerTag new several port tag held made
 answer_tag_lasts old new false port tag held made h e = h
 answer_tag_lasts old new true port tag Never made h e = h
 answer_tag_lasts old new true port tag (Counts unanswered full) made h e = h
-answer_tag_lasts old new true port tag (Row row) made h e = record { value = λ run cycles r. h.value run cycles (e.runs run cycles r) }
+answer_tag_lasts old new true port tag (Row row) made h e =
+    record { value = λ run cycles r. h.value run cycles (e.runs run cycles r) }
 answer_tag_lasts old new true port tag (Queued queue) made h e = h

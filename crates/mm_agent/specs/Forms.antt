@@ -64,7 +64,8 @@ abbrev pub sets : AgentMade → ℕ → Type 0
 sets made n = sets_reads made.reads n ⊎ owns_wait made.wait n
 
 -- the nets of the part: its bound on reads by `shown`, and its wait by `busy`
-pub record IsAgentPart (netlist : Netlist) (several : Bool) (port : AgentPort) (nets : AgentNets) (command : CommandNets) (made : AgentMade) : Type 0 where
+pub record IsAgentPart (netlist : Netlist) (several : Bool) (port : AgentPort) (nets : AgentNets) (command : CommandNets)
+    (made : AgentMade) : Type 0 where
   pub queued : is_some (held_queue made.reads) ≡ needs_queue several port
   pub nets_are : AreAgentNets netlist port nets
   pub shown : NetValue
@@ -73,7 +74,8 @@ pub record IsAgentPart (netlist : Netlist) (several : Bool) (port : AgentPort) (
   pub read : made.read ≡ read_of port shown
   pub busy : NetValue
   -- the agent's waitrequest, or low where it has none and accepts at once
-  pub waits : (port.waitrequest ≡ false → AcceptsAtOnce port) → Always netlist (λ cycle. cycle.net busy.number ≡ value_or 0 nets.waitrequest cycle)
+  pub waits : (port.waitrequest ≡ false → AcceptsAtOnce port)
+      → Always netlist (λ cycle. cycle.net busy.number ≡ value_or 0 nets.waitrequest cycle)
   pub wait_held : IsWaitHeld netlist port nets.waitrequest command.write busy made.wait
   pub wait_on : WaitGoesOn netlist port shown command.write busy made.wait
   pub address : Always netlist (λ cycle. PlacesAddress port (cycle.net command.address.number) (value_or 0 made.address cycle))
@@ -91,14 +93,18 @@ abbrev pub traffic_of : AgentPort → CommandNets → NetValue → NetValue → 
 traffic_of port command valid taken = record { taken = taken; tag = command.tag; count = count_of port command; valid = valid }
 
 -- the queue goes on by it
-pub record QueueGoesOn (netlist : Netlist) (port : AgentPort) (command : CommandNets) (told valid : NetValue) (queue : HeldReadQueue) : Type 0 where
+pub record QueueGoesOn (netlist : Netlist) (port : AgentPort) (command : CommandNets) (told valid : NetValue)
+    (queue : HeldReadQueue) : Type 0 where
   pub taken : NetValue
-  pub is_taken : Always netlist (λ cycle. is_raised (cycle.net taken.number) ≡ (is_raised (cycle.net command.read.number) && not (is_raised (cycle.net told.number))))
+  pub is_taken : Always netlist (λ cycle. is_raised (cycle.net taken.number)
+      ≡ (is_raised (cycle.net command.read.number) && not (is_raised (cycle.net told.number))))
   pub runs : RunsAsQueue netlist queue (traffic_of port command valid taken)
 
 -- where there is one
 abbrev pub AnyQueueGoesOn : Netlist → AgentPort → CommandNets → AgentMade → Type 0
-AnyQueueGoesOn netlist port command made = (queue : HeldReadQueue) → held_queue made.reads ≡ Some queue → QueueGoesOn netlist port command made.waitrequest made.answer.valid queue
+AnyQueueGoesOn netlist port command made =
+    (queue : HeldReadQueue) → held_queue made.reads ≡ Some queue
+    → QueueGoesOn netlist port command made.waitrequest made.answer.valid queue
 
 -- the agent is shown the same in both cycles; all else that it is shown is of the command
 pub record ShowSameTo (made : AgentMade) (one other : Cycle) : Type 0 where
@@ -118,18 +124,22 @@ abbrev pub port_above : AgentPort → CommandNets → AgentMade → Run → Port
 port_above port command made run = port_in (shape_above port) run command made.waitrequest made.answer
 
 abbrev pub tagged_above : AgentPort → CommandNets → AgentMade → Run → TaggedPort
-tagged_above port command made run = record { port = port_above port command made run; answer_tag = λ c. run.net c made.answer_tag.number }
+tagged_above port command made run =
+    record { port = port_above port command made run; answer_tag = λ c. run.net c made.answer_tag.number }
 
--- what the part asks of the commands: no kind that the agent lacks, and reads of one word where they may have no more, else of one at least
+-- what the part asks of the commands: no kind that the agent lacks, and reads of one word where they may have no more, else of
+-- one at least
 pub record AreFitFor (port : AgentPort) (up : Port) (end : ℕ) : Type 0 where
   pub kinds : ServesKinds (agent_side port) up end
   pub one_word : IsFalse (counts_words port) → (c : ℕ) → c < end → IsTrue (takes_read up c) → up.commands.count c ≡ 1
   pub some_words : IsTrue (counts_words port) → (c : ℕ) → c < end → IsTrue (takes_read up c) → 1 ≤ up.commands.count c
 
 -- the run has a state with which it is one of the machine of an agent
-pub record IsAgentRun (port : AgentPort) (nets : AgentNets) (command : CommandNets) (made : AgentMade) (run : Run) (end : ℕ) : Type 0 where
+pub record IsAgentRun (port : AgentPort) (nets : AgentNets) (command : CommandNets) (made : AgentMade) (run : Run)
+    (end : ℕ) : Type 0 where
   pub state : AgentState
-  pub machine : IsAgentMachine AreCodes (agent_side port) (agent_view port nets command made run) (tagged_above port command made run) state end
+  pub machine : IsAgentMachine AreCodes (agent_side port) (agent_view port nets command made run)
+      (tagged_above port command made run) state end
 
 -- so is each endless run of each longer netlist in which the commands are fit
 abbrev pub RunsAsAgent : Netlist → AgentPort → AgentNets → CommandNets → AgentMade → Type 0
@@ -139,7 +149,9 @@ RunsAsAgent netlist port nets command made =
 
 -- ---- what stands lasts. No contract reads a proof of it; the laws of an agent cite it
 
-pub part_lasts : (old new : Netlist) (several : Bool) (port : AgentPort) (nets : AgentNets) (command : CommandNets) (made : AgentMade) → IsAgentPart old several port nets command made → Extends old new → IsAgentPart new several port nets command made
+pub part_lasts : (old new : Netlist) (several : Bool) (port : AgentPort) (nets : AgentNets) (command : CommandNets)
+    (made : AgentMade)
+    → IsAgentPart old several port nets command made → Extends old new → IsAgentPart new several port nets command made
 part_lasts old new several port nets command made h e = record {
   queued = h.queued;
   nets_are = agent_lasts old new port nets h.nets_are e;
@@ -156,10 +168,22 @@ part_lasts old new several port nets command made h e = record {
   answers = answers_last old new port nets made.answer made.reads h.answers e;
   held = reads_last old new port command.read h.shown made.reads h.held e;
   on = reads_go_on old new command.read h.shown h.busy made.answer.valid made.waitrequest made.reads h.on e;
-  one_tag = λ one. (let bears = h.one_tag one in record { tag = bears.tag; always = λ cycle v. bears.always cycle (e.valuations cycle v) });
+  one_tag =
+      λ one. (let bears = h.one_tag one in
+      record { tag = bears.tag; always = λ cycle v. bears.always cycle (e.valuations cycle v) });
   tag = h.tag;
   answer_tag = answer_tag_lasts old new several port command.tag made.reads made.answer_tag h.answer_tag e;
 }
 
-pub queue_goes_on : (old new : Netlist) (port : AgentPort) (command : CommandNets) (made : AgentMade) → AnyQueueGoesOn old port command made → Extends old new → AnyQueueGoesOn new port command made
-queue_goes_on old new port command made h e queue is = (let on = h queue is in record { taken = on.taken; is_taken = λ cycle v. on.is_taken cycle (e.valuations cycle v); runs = runs_last old new queue (traffic_of port command made.answer.valid on.taken) on.runs e })
+pub queue_goes_on : (old new : Netlist) (port : AgentPort) (command : CommandNets) (made : AgentMade)
+    → AnyQueueGoesOn old port command made → Extends old new → AnyQueueGoesOn new port command made
+queue_goes_on old new port command made h e queue is =
+    (let on = h queue is in
+    record {
+      taken =
+          on.taken;
+      is_taken =
+          λ cycle v. on.is_taken cycle (e.valuations cycle v);
+      runs =
+          runs_last old new queue (traffic_of port command made.answer.valid on.taken) on.runs e;
+    })

@@ -6,10 +6,12 @@ use Rattle.net_parts.specs.Growth.{GrowsInMemory, StillWaitForWrite}
 use Rattle.net_parts.specs.Laws.{memory_grows_twice}
 
 pub writes_wait_alike : (old new : Netlist) → new.memories ≡ old.memories → StillWaitForWrite old new
-writes_wait_alike old new e m w = record { memory = w.memory; is = subst (λ (ms : List Memory). slice_get ms m ≡ Some w.memory) (sym e) w.is; waits = w.waits }
+writes_wait_alike old new e m w =
+    record { memory = w.memory; is = subst (λ (ms : List Memory). slice_get ms m ≡ Some w.memory) (sym e) w.is; waits = w.waits }
 
 pub writes_waited_alike : (old new : Netlist) → new.memories ≡ old.memories → StillWaitForWrite new old
-writes_waited_alike old new e m w = record { memory = w.memory; is = subst (λ (ms : List Memory). slice_get ms m ≡ Some w.memory) e w.is; waits = w.waits }
+writes_waited_alike old new e m w =
+    record { memory = w.memory; is = subst (λ (ms : List Memory). slice_get ms m ≡ Some w.memory) e w.is; waits = w.waits }
 
 memory_within : {X : Type 0} (xs : List X) (n : ℕ) (x : X) → slice_get xs n ≡ Some x → n < length xs
 memory_within [] n x e = cc
@@ -25,7 +27,10 @@ pub memory_grows_fewer : (k m r s : ℕ) (a b : Netlist) → k ≤ m → r ≤ s
 memory_grows_fewer k m r s a b le few g =
     let most = g.most in
     let memories = g.most_memories in
-    record { extends = g.extends; most = omega (arith, most, le); most_memories = omega (arith, memories, few); drivers = g.drivers }
+    record
+    { extends = g.extends; most = omega (arith, most, le); most_memories = omega (arith, memories, few); drivers = g.drivers }
 
-pub memory_grows_within : (k m n r s t : ℕ) (a b c : Netlist) → GrowsInMemory k r a b → GrowsInMemory m s b c → k + m ≤ n → r + s ≤ t → GrowsInMemory n t a c
-memory_grows_within k m n r s t a b c g h le few = memory_grows_fewer (k + m) n (r + s) t a c le few (memory_grows_twice k m r s a b c g h)
+pub memory_grows_within : (k m n r s t : ℕ) (a b c : Netlist) → GrowsInMemory k r a b → GrowsInMemory m s b c → k + m ≤ n
+    → r + s ≤ t → GrowsInMemory n t a c
+memory_grows_within k m n r s t a b c g h le few =
+    memory_grows_fewer (k + m) n (r + s) t a c le few (memory_grows_twice k m r s a b c g h)

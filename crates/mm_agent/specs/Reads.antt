@@ -69,7 +69,8 @@ pub record ReadsCount (netlist : Netlist) (port : AgentPort) (read shown unanswe
   pub wide : bound_of port < 2 ^ unanswered.width
   pub bit : IsBit netlist full
   pub starts : StartsLow netlist unanswered
-  pub is_full : Always netlist (λ cycle. is_raised (cycle.net full.number) ≡ not (nat_lt (cycle.net unanswered.number) (bound_of port)))
+  pub is_full : Always netlist (λ cycle. is_raised (cycle.net full.number)
+      ≡ not (nat_lt (cycle.net unanswered.number) (bound_of port)))
   pub shows : ShowsUnless netlist full read shown
 
 -- with fixed latency: a register has a bit for each cycle between a read and its word
@@ -106,17 +107,22 @@ takes_in cycle shown busy = is_raised (cycle.net shown.number) && not (is_raised
 
 -- a count of so many bits falls where a word comes, and rises where a read is taken, if that fits
 abbrev pub IsNextCount : ℕ → ℕ → ℕ → ℕ → ℕ → Type 0
-IsNextCount bits count taken valid next = count + one_if (is_raised taken) < 2 ^ bits → next ≡ (count - one_if (is_raised valid)) + one_if (is_raised taken)
+IsNextCount bits count taken valid next =
+    count + one_if (is_raised taken) < 2 ^ bits → next ≡ (count - one_if (is_raised valid)) + one_if (is_raised taken)
 
 -- a read waits while the agent bears no more, and each beat while the agent is busy
 abbrev pub TellsWait : Netlist → NetValue → NetValue → NetValue → NetValue → Type 0
 TellsWait netlist read full busy told =
-    Always netlist (λ cycle. is_raised (cycle.net told.number) ≡ ((is_raised (cycle.net full.number) && is_raised (cycle.net read.number)) || is_raised (cycle.net busy.number)))
+    Always netlist (λ cycle. is_raised (cycle.net told.number)
+    ≡ ((is_raised (cycle.net full.number) && is_raised (cycle.net read.number)) || is_raised (cycle.net busy.number)))
 
 pub record CountsOn (netlist : Netlist) (read shown unanswered full busy valid told : NetValue) : Type 0 where
   pub tells : TellsWait netlist read full busy told
-  pub next : (run : Run) (cycles : ℕ) → IsRun netlist run cycles → (c : ℕ) → c + 1 < cycles → run.net c unanswered.number + one_if (takes_in (cycle_of run c) shown busy) < 2 ^ unanswered.width
-      → run.net (c + 1) unanswered.number ≡ (run.net c unanswered.number - one_if (is_raised (run.net c valid.number))) + one_if (takes_in (cycle_of run c) shown busy)
+  pub next : (run : Run) (cycles : ℕ) → IsRun netlist run cycles → (c : ℕ) → c + 1 < cycles
+      → run.net c unanswered.number + one_if (takes_in (cycle_of run c) shown busy) < 2 ^ unanswered.width
+      → run.net (c + 1) unanswered.number
+      ≡ (run.net c unanswered.number - one_if (is_raised (run.net c valid.number)))
+      + one_if (takes_in (cycle_of run c) shown busy)
 
 -- each read that is taken goes along the row, and a beat waits while the agent is busy
 pub record RowGoesOn (netlist : Netlist) (shown row busy told : NetValue) : Type 0 where
@@ -127,16 +133,20 @@ pub record RowGoesOn (netlist : Netlist) (shown row busy told : NetValue) : Type
 
 abbrev pub ReadsGoOn : Netlist → NetValue → NetValue → NetValue → NetValue → NetValue → HeldReads → Type 0
 ReadsGoOn netlist read shown busy valid told Never = told ≡ busy
-ReadsGoOn netlist read shown busy valid told (Counts unanswered full) = CountsOn netlist read shown unanswered full busy valid told
+ReadsGoOn netlist read shown busy valid told (Counts unanswered full) =
+    CountsOn netlist read shown unanswered full busy valid told
 ReadsGoOn netlist read shown busy valid told (Row row) = RowGoesOn netlist shown row busy told
 ReadsGoOn netlist read shown busy valid told (Queued queue) = TellsWait netlist read queue.full busy told
 
 -- ---- what stands lasts. No contract reads these proofs; the laws of the agent cite them
 
-pub read_queue_lasts : (old new : Netlist) (port : AgentPort) (queue : HeldReadQueue) → IsReadQueue old port queue → Extends old new → IsReadQueue new port queue
-read_queue_lasts old new port queue h e = record { reads = h.reads; kind = h.kind; made = queue_lasts old new queue h.made e; bound = h.bound }
+pub read_queue_lasts : (old new : Netlist) (port : AgentPort) (queue : HeldReadQueue) → IsReadQueue old port queue
+    → Extends old new → IsReadQueue new port queue
+read_queue_lasts old new port queue h e =
+    record { reads = h.reads; kind = h.kind; made = queue_lasts old new queue h.made e; bound = h.bound }
 
-pub reads_last : (old new : Netlist) (port : AgentPort) (read shown : NetValue) (held : HeldReads) → AreReadsHeld old port read shown held → Extends old new → AreReadsHeld new port read shown held
+pub reads_last : (old new : Netlist) (port : AgentPort) (read shown : NetValue) (held : HeldReads)
+    → AreReadsHeld old port read shown held → Extends old new → AreReadsHeld new port read shown held
 reads_last old new port read shown Never h e = h
 reads_last old new port read shown (Counts unanswered full) h e = record {
   reads = h.reads;
@@ -148,17 +158,41 @@ reads_last old new port read shown (Counts unanswered full) h e = record {
   is_full = λ cycle v. h.is_full cycle (e.valuations cycle v);
   shows = λ cycle v. h.shows cycle (e.valuations cycle v);
 }
-reads_last old new port read shown (Row row) h e = record { reads = h.reads; kind = h.kind; net = net_lasts old new row (row_places (agent_side port)) e h.net; starts = λ run cycles r. h.starts run cycles (e.runs run cycles r); shows = h.shows }
-reads_last old new port read shown (Queued queue) h e = record { is = read_queue_lasts old new port queue h.is e; shows = λ cycle v. h.shows cycle (e.valuations cycle v) }
+reads_last old new port read shown (Row row) h e =
+    record {
+      reads =
+          h.reads;
+      kind =
+          h.kind;
+      net =
+          net_lasts old new row (row_places (agent_side port)) e h.net;
+      starts =
+          λ run cycles r. h.starts run cycles (e.runs run cycles r);
+      shows = h.shows;
+    }
+reads_last old new port read shown (Queued queue) h e =
+    record { is = read_queue_lasts old new port queue h.is e; shows = λ cycle v. h.shows cycle (e.valuations cycle v) }
 
-pub row_is_there : (netlist : Netlist) (port : AgentPort) (read shown : NetValue) (held : HeldReads) → AreReadsHeld netlist port read shown held → IsRowThere netlist port held
+pub row_is_there : (netlist : Netlist) (port : AgentPort) (read shown : NetValue) (held : HeldReads)
+    → AreReadsHeld netlist port read shown held → IsRowThere netlist port held
 row_is_there netlist port read shown Never h = tt
 row_is_there netlist port read shown (Counts unanswered full) h = tt
 row_is_there netlist port read shown (Row row) h = h.net
 row_is_there netlist port read shown (Queued queue) h = tt
 
-pub reads_go_on : (old new : Netlist) (read shown busy valid told : NetValue) (held : HeldReads) → ReadsGoOn old read shown busy valid told held → Extends old new → ReadsGoOn new read shown busy valid told held
+pub reads_go_on : (old new : Netlist) (read shown busy valid told : NetValue) (held : HeldReads)
+    → ReadsGoOn old read shown busy valid told held → Extends old new → ReadsGoOn new read shown busy valid told held
 reads_go_on old new read shown busy valid told Never h e = h
-reads_go_on old new read shown busy valid told (Counts unanswered full) h e = record { tells = λ cycle v. h.tells cycle (e.valuations cycle v); next = λ run cycles r. h.next run cycles (e.runs run cycles r) }
-reads_go_on old new read shown busy valid told (Row row) h e = record { tells = h.tells; taken = h.taken; is_taken = λ cycle v. h.is_taken cycle (e.valuations cycle v); takes = takes_lasts old new row h.taken e h.takes }
+reads_go_on old new read shown busy valid told (Counts unanswered full) h e =
+    record
+    { tells = λ cycle v. h.tells cycle (e.valuations cycle v); next = λ run cycles r. h.next run cycles (e.runs run cycles r) }
+reads_go_on old new read shown busy valid told (Row row) h e =
+    record {
+      tells =
+          h.tells;
+      taken =
+          h.taken;
+      is_taken = λ cycle v. h.is_taken cycle (e.valuations cycle v);
+      takes = takes_lasts old new row h.taken e h.takes;
+    }
 reads_go_on old new read shown busy valid told (Queued queue) h e = λ cycle v. h cycle (e.valuations cycle v)

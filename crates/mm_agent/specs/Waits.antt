@@ -39,7 +39,8 @@ pub record WaitsAsGiven (port : AgentPort) (given : Option NetValue) (busy : Net
 pub record WaitsNever (netlist : Netlist) (port : AgentPort) (write busy : NetValue) : Type 0 where
   pub waits : port.waitrequest ≡ false
   pub soon : accepts_soon port ≡ true
-  pub is_busy : Always netlist (λ cycle. is_raised (cycle.net busy.number) ≡ not (nat_eq 0 (wait_by port (cycle.net write.number))))
+  pub is_busy : Always netlist (λ cycle. is_raised (cycle.net busy.number)
+      ≡ not (nat_eq 0 (wait_by port (cycle.net write.number))))
 
 -- it is until the beat has stood for as long as it is to stand. The register has room for one cycle more
 pub record WaitsCount (netlist : Netlist) (port : AgentPort) (write busy stood : NetValue) : Type 0 where
@@ -48,7 +49,8 @@ pub record WaitsCount (netlist : Netlist) (port : AgentPort) (write busy stood :
   pub net : IsNet netlist stood
   pub fits : (write : ℕ) → wait_by port write + 1 < 2 ^ stood.width
   pub starts : StartsLow netlist stood
-  pub is_busy : Always netlist (λ cycle. is_raised (cycle.net busy.number) ≡ not (nat_eq (cycle.net stood.number) (wait_by port (cycle.net write.number))))
+  pub is_busy : Always netlist (λ cycle. is_raised (cycle.net busy.number)
+      ≡ not (nat_eq (cycle.net stood.number) (wait_by port (cycle.net write.number))))
 
 -- by the net that the agent gives, or by its times
 abbrev pub IsWaitHeld : Netlist → AgentPort → Option NetValue → NetValue → NetValue → HeldWait → Type 0
@@ -70,7 +72,10 @@ stood_next bits stands stood = if stands then min (stood + 1) (2 ^ bits - 1) els
 
 pub record StoodOn (netlist : Netlist) (port : AgentPort) (read write busy stood : NetValue) : Type 0 where
   pub next : (run : Run) (cycles : ℕ) → IsRun netlist run cycles → (c : ℕ) → c + 1 < cycles
-      → run.net (c + 1) stood.number ≡ stood_next stood.width (shows_beat port (run.net c read.number) (run.net c write.number) && is_raised (run.net c busy.number)) (run.net c stood.number)
+      → run.net (c + 1) stood.number
+      ≡ stood_next stood.width
+      (shows_beat port (run.net c read.number) (run.net c write.number) && is_raised (run.net c busy.number))
+      (run.net c stood.number)
 
 abbrev pub WaitGoesOn : Netlist → AgentPort → NetValue → NetValue → NetValue → HeldWait → Type 0
 WaitGoesOn netlist port read write busy Given = Unit {0}
@@ -79,14 +84,17 @@ WaitGoesOn netlist port read write busy (Counts stood) = StoodOn netlist port re
 
 -- ---- what stands lasts. No contract reads these proofs; the laws of the agent cite them
 
-pub stood_is_net : (netlist : Netlist) (port : AgentPort) (given : Option NetValue) (write busy : NetValue) (held : HeldWait) → IsWaitHeld netlist port given write busy held → IsWaitStood netlist held
+pub stood_is_net : (netlist : Netlist) (port : AgentPort) (given : Option NetValue) (write busy : NetValue) (held : HeldWait)
+    → IsWaitHeld netlist port given write busy held → IsWaitStood netlist held
 stood_is_net netlist port given write busy Given h = tt
 stood_is_net netlist port given write busy Soon h = tt
 stood_is_net netlist port given write busy (Counts stood) h = h.net
 
-pub wait_lasts : (old new : Netlist) (port : AgentPort) (given : Option NetValue) (write busy : NetValue) (held : HeldWait) → IsWaitHeld old port given write busy held → Extends old new → IsWaitHeld new port given write busy held
+pub wait_lasts : (old new : Netlist) (port : AgentPort) (given : Option NetValue) (write busy : NetValue) (held : HeldWait)
+    → IsWaitHeld old port given write busy held → Extends old new → IsWaitHeld new port given write busy held
 wait_lasts old new port given write busy Given h e = h
-wait_lasts old new port given write busy Soon h e = record { waits = h.waits; soon = h.soon; is_busy = λ cycle v. h.is_busy cycle (e.valuations cycle v) }
+wait_lasts old new port given write busy Soon h e =
+    record { waits = h.waits; soon = h.soon; is_busy = λ cycle v. h.is_busy cycle (e.valuations cycle v) }
 wait_lasts old new port given write busy (Counts stood) h e = record {
   waits = h.waits;
   late = h.late;
@@ -96,7 +104,9 @@ wait_lasts old new port given write busy (Counts stood) h e = record {
   is_busy = λ cycle v. h.is_busy cycle (e.valuations cycle v);
 }
 
-pub wait_goes_on : (old new : Netlist) (port : AgentPort) (read write busy : NetValue) (held : HeldWait) → WaitGoesOn old port read write busy held → Extends old new → WaitGoesOn new port read write busy held
+pub wait_goes_on : (old new : Netlist) (port : AgentPort) (read write busy : NetValue) (held : HeldWait)
+    → WaitGoesOn old port read write busy held → Extends old new → WaitGoesOn new port read write busy held
 wait_goes_on old new port read write busy Given h e = h
 wait_goes_on old new port read write busy Soon h e = h
-wait_goes_on old new port read write busy (Counts stood) h e = record { next = λ run cycles r. h.next run cycles (e.runs run cycles r) }
+wait_goes_on old new port read write busy (Counts stood) h e =
+    record { next = λ run cycles r. h.next run cycles (e.runs run cycles r) }

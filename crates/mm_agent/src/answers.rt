@@ -76,7 +76,8 @@ fn delay_for(builder: &mut Builder, from: Net, count: u8) -> Result<Net, NetFaul
     delay(builder, late)
 }
 
-/// The tag of each answer: where commands bear several tags, the one that went along the row, or that of the oldest read in the queue.
+/// The tag of each answer: where commands bear several tags, the one that went along the row, or that of the oldest read in the
+/// queue.
 pub(crate) fn answer_tag(
     builder: &mut Builder,
     port: &AgentPort,
@@ -92,7 +93,8 @@ pub(crate) fn answer_tag(
     ensures grows { GrowsBy (tag_nets several (held_queue held.now)) builder.old builder.new }
     ensures still_wait { StillWait builder.old builder.new }
     ensures no_more_wait { OnOk result (StillWait builder.new builder.old) }
-    ensures full { result ≡ Err NetFault.TooManyNets → 2 ^ 20 < length builder.old.lines + tag_nets several (held_queue held.now) }
+    ensures full { result ≡ Err NetFault.TooManyNets
+        → 2 ^ 20 < length builder.old.lines + tag_nets several (held_queue held.now) }
 {
     if !several {
         return Ok(tag);

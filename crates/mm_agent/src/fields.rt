@@ -44,7 +44,8 @@ fn bits_above(builder: &mut Builder, net: Net, low: u8, bits: u8) -> Result<Net,
     requires inside { low + bits ≤ net.width }
     requires few { low + bits ≤ 128 }
     ensures net { IfOk result (λ made. IsNetOfWidth builder.new made bits) }
-    ensures value { IfOk result (λ made. Always builder.new (λ cycle. cycle.net made.number ≡ cycle.net net.number / 2 ^ low % 2 ^ bits)) }
+    ensures value { IfOk result (λ made. Always builder.new (λ cycle. cycle.net made.number
+        ≡ cycle.net net.number / 2 ^ low % 2 ^ bits)) }
     ensures adds { AddsNets 1 builder.old builder.new }
     ensures full { result ≡ Err NetFault.TooManyNets → 2 ^ 20 < length builder.old.lines + 1 }
 {
@@ -60,7 +61,8 @@ fn place_byte(builder: &mut Builder, port: &AgentPort, address: Net) -> Result<N
     requires address { IsNet builder.old address }
     requires reaches { span_of port.now ≤ 2 ^ address.width }
     ensures net { IfOk result (λ made. IsNetOfWidth builder.new made port.now.address_bits) }
-    ensures value { IfOk result (λ made. Always builder.new (λ cycle. PlacesAddress port.now (cycle.net address.number) (cycle.net made.number))) }
+    ensures value { IfOk result (λ made. Always builder.new (λ cycle. PlacesAddress port.now (cycle.net address.number)
+        (cycle.net made.number))) }
     ensures adds { AddsNets 3 builder.old builder.new }
     ensures full { result ≡ Err NetFault.TooManyNets → 2 ^ 20 < length builder.old.lines + 3 }
 {
@@ -81,7 +83,8 @@ fn place_word(builder: &mut Builder, port: &AgentPort, address: Net) -> Result<N
     requires address { IsNet builder.old address }
     requires reaches { span_of port.now ≤ 2 ^ address.width }
     ensures net { IfOk result (λ made. IsNetOfWidth builder.new made port.now.address_bits) }
-    ensures value { IfOk result (λ made. Always builder.new (λ cycle. PlacesAddress port.now (cycle.net address.number) (cycle.net made.number))) }
+    ensures value { IfOk result (λ made. Always builder.new (λ cycle. PlacesAddress port.now (cycle.net address.number)
+        (cycle.net made.number))) }
     ensures adds { AddsNets 1 builder.old builder.new }
     ensures full { result ≡ Err NetFault.TooManyNets → 2 ^ 20 < length builder.old.lines + 1 }
 {
@@ -89,7 +92,8 @@ fn place_word(builder: &mut Builder, port: &AgentPort, address: Net) -> Result<N
     bits_above(builder, address, low, port.address_bits)
 }
 
-/// The address in the agent's span, in its unit, from one in bytes. Nothing is subtracted, since spans lie at multiples of themselves.
+/// The address in the agent's span, in its unit, from one in bytes. Nothing is subtracted, since spans lie at multiples of
+/// themselves.
 pub(crate) fn place_address(
     builder: &mut Builder,
     port: &AgentPort,
@@ -99,7 +103,8 @@ pub(crate) fn place_address(
     requires address { IsNet builder.old address }
     requires reaches { span_of port.now ≤ 2 ^ address.width }
     ensures net { IfOk result (λ made. HasNet builder.new (has_address port.now) port.now.address_bits made) }
-    ensures value { IfOk result (λ made. Always builder.new (λ cycle. PlacesAddress port.now (cycle.net address.number) (value_or 0 made cycle))) }
+    ensures value { IfOk result (λ made. Always builder.new (λ cycle. PlacesAddress port.now (cycle.net address.number)
+        (value_or 0 made cycle))) }
     ensures adds { AddsNets 3 builder.old builder.new }
     ensures full { result ≡ Err NetFault.TooManyNets → 2 ^ 20 < length builder.old.lines + 3 }
 {

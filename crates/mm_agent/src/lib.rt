@@ -1,4 +1,5 @@
-//! The equations of the part next to a memory-mapped agent: its address, its wait, its bound on unanswered reads, and the code and the tag of each answer.
+//! The equations of the part next to a memory-mapped agent: its address, its wait, its bound on unanswered reads, and the code
+//! and the tag of each answer.
 //!
 //! The agent is shown a command in its cycle, at the address in its own span and unit, and a read only while it bears one
 //! more. Without `waitrequest` it is known to accept a beat that has stood for its wait time, and without `readdatavalid`

@@ -222,7 +222,8 @@ fn next_count(
     requires taken { IsBit builder.old taken }
     requires valid { IsBit builder.old valid }
     ensures net { IfOk result (λ next. IsNetOfWidth builder.new next unanswered.width) }
-    ensures value { IfOk result (λ next. Always builder.new (λ cycle. IsNextCount unanswered.width (cycle.net unanswered.number) (cycle.net taken.number) (cycle.net valid.number) (cycle.net next.number))) }
+    ensures value { IfOk result (λ next. Always builder.new (λ cycle. IsNextCount unanswered.width (cycle.net unanswered.number)
+        (cycle.net taken.number) (cycle.net valid.number) (cycle.net next.number))) }
     ensures adds { AddsNets 8 builder.old builder.new }
     ensures full { result ≡ Err NetFault.TooManyNets → 2 ^ 20 < length builder.old.lines + 8 }
 {
@@ -286,7 +287,8 @@ fn finish_row(builder: &mut Builder, shown: Net, row: Net, busy: Net) -> Result<
     Ok(busy)
 }
 
-/// Sets what bounds the reads, but for a queue, and makes the waitrequest for the part above. The agent doesn't accept what it is shown while `busy` is high.
+/// Sets what bounds the reads, but for a queue, and makes the waitrequest for the part above. The agent doesn't accept what it is
+/// shown while `busy` is high.
 pub(crate) fn finish_reads(
     builder: &mut Builder,
     port: &AgentPort,
@@ -306,7 +308,8 @@ pub(crate) fn finish_reads(
     ensures grows { GrowsBy (finish_nets (held_queue shown.now.held)) builder.old builder.new }
     ensures waits { (n : ℕ) → ¬ sets_reads shown.now.held n → IsWaiting builder.old n → IsWaiting builder.new n }
     ensures no_more_wait { OnOk result (WaitsWithout (sets_reads shown.now.held) builder.old builder.new) }
-    ensures full { result ≡ Err NetFault.TooManyNets → 2 ^ 20 < length builder.old.lines + finish_nets (held_queue shown.now.held) }
+    ensures full { result ≡ Err NetFault.TooManyNets
+        → 2 ^ 20 < length builder.old.lines + finish_nets (held_queue shown.now.held) }
 {
     match shown.held {
         HeldReads::Never => Ok(busy),

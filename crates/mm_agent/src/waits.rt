@@ -93,7 +93,8 @@ fn time_of(builder: &mut Builder, port: &AgentPort, write: Net, bits: u8) -> Res
     requires read_fits { port.now.read_wait < 2 ^ bits }
     requires write_fits { port.now.writes ≡ true → port.now.write_wait < 2 ^ bits }
     ensures net { IfOk result (λ time. IsNetOfWidth builder.new time bits) }
-    ensures value { IfOk result (λ time. Always builder.new (λ cycle. cycle.net time.number ≡ wait_by port.now (cycle.net write.number))) }
+    ensures value { IfOk result (λ time. Always builder.new (λ cycle. cycle.net time.number
+        ≡ wait_by port.now (cycle.net write.number))) }
     ensures adds { AddsNets 3 builder.old builder.new }
     ensures full { result ≡ Err NetFault.TooManyNets → 2 ^ 20 < length builder.old.lines + 3 }
 {
@@ -105,7 +106,8 @@ fn time_of(builder: &mut Builder, port: &AgentPort, write: Net, bits: u8) -> Res
     choose(builder, write, of_writes, of_reads)
 }
 
-/// The wait of an agent that accepts each beat in its first cycle. Where it has no reads, it is told to be busy while no write is shown.
+/// The wait of an agent that accepts each beat in its first cycle. Where it has no reads, it is told to be busy while no write is
+/// shown.
 #[tactic(auto, using(net_parts::specs::Laws::growing))]
 fn hold_soon(builder: &mut Builder, port: &AgentPort, write: Net) -> Result<Net, NetFault>
     requires port { IsBoundedAgent port.now }
@@ -216,7 +218,8 @@ fn shows_beat(
     requires read { IsBit builder.old read }
     requires write { IsBit builder.old write }
     ensures net { IfOk result (λ shows. IsBit builder.new shows) }
-    ensures value { IfOk result (λ shows. Always builder.new (λ cycle. is_raised (cycle.net shows.number) ≡ shows_beat port.now (cycle.net read.number) (cycle.net write.number))) }
+    ensures value { IfOk result (λ shows. Always builder.new (λ cycle. is_raised (cycle.net shows.number)
+        ≡ shows_beat port.now (cycle.net read.number) (cycle.net write.number))) }
     ensures adds { AddsNets 1 builder.old builder.new }
     ensures full { result ≡ Err NetFault.TooManyNets → 2 ^ 20 < length builder.old.lines + 1 }
 {
@@ -229,13 +232,15 @@ fn shows_beat(
     }
 }
 
-/// The count of the cycles for which the beat has stood, after a cycle in which one stands or none does. It doesn't rise above its largest value.
+/// The count of the cycles for which the beat has stood, after a cycle in which one stands or none does. It doesn't rise above
+/// its largest value.
 #[tactic(auto, using(net_parts::specs::Laws::growing))]
 fn next_stood(builder: &mut Builder, stood: Net, stands: Net) -> Result<Net, NetFault>
     requires stood { IsNet builder.old stood }
     requires stands { IsBit builder.old stands }
     ensures net { IfOk result (λ next. IsNetOfWidth builder.new next stood.width) }
-    ensures value { IfOk result (λ next. Always builder.new (λ cycle. cycle.net next.number ≡ stood_next stood.width (is_raised (cycle.net stands.number)) (cycle.net stood.number))) }
+    ensures value { IfOk result (λ next. Always builder.new (λ cycle. cycle.net next.number
+        ≡ stood_next stood.width (is_raised (cycle.net stands.number)) (cycle.net stood.number))) }
     ensures adds { AddsNets 7 builder.old builder.new }
     ensures full { result ≡ Err NetFault.TooManyNets → 2 ^ 20 < length builder.old.lines + 7 }
 {

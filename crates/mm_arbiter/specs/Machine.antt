@@ -30,27 +30,33 @@ AreApart (seat ∷ later) = (is_seated seat.host later ≡ false) × AreApart la
 
 -- the side of each asker is that of its nets
 abbrev pub AreSides : Shape → Run → List Asker → List CommandNets → List BackNets → (ℕ → Port) → Type 0
-AreSides shape run (asker ∷ askers) (command ∷ commands) (back ∷ backs) up = (up asker.host ≡ port_in shape run command back.wait back.answer) × AreSides shape run askers commands backs up
+AreSides shape run (asker ∷ askers) (command ∷ commands) (back ∷ backs) up =
+    (up asker.host ≡ port_in shape run command back.wait back.answer) × AreSides shape run askers commands backs up
 AreSides shape run askers commands backs up = Unit {0}
 
 -- the side below, with the tag of each answer
 abbrev pub below_port : Shape → Run → CommandNets → BelowNets → TaggedPort
-below_port shape run command below = record { port = port_in shape run command below.wait below.answer; answer_tag = λ c. run.net c below.tag.number }
+below_port shape run command below =
+    record { port = port_in shape run command below.wait below.answer; answer_tag = λ c. run.net c below.tag.number }
 
 -- a host without a seat shows nothing, and has the words that bear its tag
 pub record IsOutside (up : Port) (down : TaggedPort) (host end : ℕ) : Type 0 where
   pub shape : up.shape ≡ down.shape
   pub silent : (c : ℕ) → c < end → IsFalse (shows up.commands.signals c)
-  pub valid : (c : ℕ) → c < end → is_raised (up.answers.valid c) ≡ is_raised (down.answers.valid c) && nat_eq (down.answer_tag c) host
+  pub valid : (c : ℕ) → c < end
+      → is_raised (up.answers.valid c) ≡ is_raised (down.answers.valid c) && nat_eq (down.answer_tag c) host
   pub word : (c : ℕ) → c < end → IsTrue (is_raised (up.answers.valid c)) → up.answers.word c ≡ down.answers.word c
   pub code : (c : ℕ) → c < end → IsTrue (is_raised (up.answers.valid c)) → up.answers.code c ≡ down.answers.code c
 
 -- a beat that doesn't end its burst has `more` high
 abbrev pub JoinsBeats : Port → ℕ → Type 0
-JoinsBeats up end = (c : ℕ) → c < end → IsTrue (shows up.commands.signals c) → IsTrue ((transfer_at up.shape up.commands.signals (takes up) c).ends || is_raised (up.commands.more c))
+JoinsBeats up end =
+    (c : ℕ) → c < end → IsTrue (shows up.commands.signals c)
+    → IsTrue ((transfer_at up.shape up.commands.signals (takes up) c).ends || is_raised (up.commands.more c))
 
 -- what an arbiter rests on above: the askers' sides are those of their nets, their commands are joined, and nobody else asks
-pub record Surrounds (askers : List Asker) (commands : List CommandNets) (backs : List BackNets) (shape : Shape) (run : Run) (hosts : ℕ) (up : ℕ → Port) (down : TaggedPort) (end : ℕ) : Type 0 where
+pub record Surrounds (askers : List Asker) (commands : List CommandNets) (backs : List BackNets) (shape : Shape) (run : Run)
+    (hosts : ℕ) (up : ℕ → Port) (down : TaggedPort) (end : ℕ) : Type 0 where
   pub sides : AreSides shape run askers commands backs up
   pub joined : (h : ℕ) → is_seated h (seats_from askers) ≡ true → JoinsBeats (up h) end
   pub others : (h : ℕ) → is_seated h (seats_from askers) ≡ false → IsOutside (up h) down h end
@@ -58,7 +64,8 @@ pub record Surrounds (askers : List Asker) (commands : List CommandNets) (backs 
 -- in every endless run of each longer netlist, the nets are the machine of an arbiter
 abbrev pub RunsAsArbiter : Netlist → List Asker → List CommandNets → CommandNets → BelowNets → List BackNets → Type 0
 RunsAsArbiter netlist askers commands command below backs =
-    (longer : Netlist) → Extends netlist longer → (run : Run) → IsEndlessRun longer run → (shape : Shape) (hosts end : ℕ) (up : ℕ → Port) →
+    (longer : Netlist) → Extends netlist longer → (run : Run) → IsEndlessRun longer run
+    → (shape : Shape) (hosts end : ℕ) (up : ℕ → Port) →
     Surrounds askers commands backs shape run hosts up (below_port shape run command below) end →
     (grant : ℕ → Grant) × IsArbiterMachine (seats_from askers) hosts up (below_port shape run command below) grant end
 
@@ -68,6 +75,7 @@ BearsTag netlist (asker ∷ []) below = Always netlist (λ cycle. cycle.net belo
 BearsTag netlist askers below = Unit {0}
 
 -- after the second call
-pub record ArbiterBackward (askers : List Asker) (held : HeldArbiter) (below : BelowNets) (word_bits : ℕ) (backs : List BackNets) (netlist : Netlist) : Type 0 where
+pub record ArbiterBackward (askers : List Asker) (held : HeldArbiter) (below : BelowNets) (word_bits : ℕ) (backs : List BackNets)
+    (netlist : Netlist) : Type 0 where
   pub alone : held.round ≡ None → backs ≡ lone_back below ∷ []
   pub round : IfSome held.round (RoundBackward askers held.command below word_bits backs netlist)

@@ -40,14 +40,16 @@ pub record TurnsStart (netlist : Netlist) (turns : TurnNets) (count : ℕ) : Typ
 
 -- ---- laws. No contract reads a proof of these
 
-pub turn_nets_last : (a b : Netlist) (turns : TurnNets) (count : ℕ) → Extends a b → AreTurnNets a turns count → AreTurnNets b turns count
+pub turn_nets_last : (a b : Netlist) (turns : TurnNets) (count : ℕ) → Extends a b → AreTurnNets a turns count
+    → AreTurnNets b turns count
 turn_nets_last a b turns count e h = record {
   holder = net_lasts a b turns.holder count e h.holder;
   left = net_lasts a b turns.left 6 e h.left;
   inside = net_lasts a b turns.inside 1 e h.inside;
 }
 
-pub turns_start_on : (a b : Netlist) (turns : TurnNets) (count : ℕ) → Extends a b → TurnsStart a turns count → TurnsStart b turns count
+pub turns_start_on : (a b : Netlist) (turns : TurnNets) (count : ℕ) → Extends a b → TurnsStart a turns count
+    → TurnsStart b turns count
 turns_start_on a b turns count e h = record {
   holder = λ run cycles r. h.holder run cycles (e.runs run cycles r);
   left = λ run cycles r. h.left run cycles (e.runs run cycles r);

@@ -48,7 +48,8 @@ pub fn emit_arbiter(
     requires commands { AreCommands builder.old commands.now }
     requires alike { AreAlike commands.now }
     ensures command { IfOk result (λ p. AreCommandNets builder.new p.0) }
-    ensures widths { IfOk result (λ p. (widths : List ℕ) → HaveWidths widths commands.now → group_widths (group_of p.0) ≡ widths) }
+    ensures widths { IfOk result (λ p. (widths : List ℕ) → HaveWidths widths commands.now
+        → group_widths (group_of p.0) ≡ widths) }
     ensures kept { IfOk result (λ p. ArbiterKeeps p.1 (length commands.now) builder.new) }
     ensures owned { IfOk result (λ p. AreMadeBetween (owns p.1) builder.old builder.new) }
     ensures made { IfOk result (λ p. ArbiterForward askers.now commands.now p.0 p.1 builder.new) }
@@ -112,10 +113,14 @@ pub fn finish_arbiter(
     requires tag { BearsTag builder.old askers.now below.now }
     ensures count { IfOk result (λ backs. length backs.items ≡ length askers.now) }
     ensures made { IfOk result (λ backs. ArbiterBackward askers.now held.now below.now word_bits backs.items builder.new) }
-    ensures machine { IfOk result (λ backs. (commands : List CommandNets) (command : CommandNets) → length commands ≡ length askers.now
-        → ArbiterForward askers.now commands command held.now builder.new → RunsAsArbiter builder.new askers.now commands command below.now backs.items) }
-    ensures passes { IfOk result (λ backs. (commands : List CommandNets) (command : CommandNets) → length commands ≡ length askers.now
-        → ArbiterForward askers.now commands command held.now builder.new → PassesOn builder.new askers.now commands command below.now backs.items) }
+    ensures machine { IfOk result (λ backs. (commands : List CommandNets) (command : CommandNets)
+        → length commands ≡ length askers.now
+        → ArbiterForward askers.now commands command held.now builder.new
+        → RunsAsArbiter builder.new askers.now commands command below.now backs.items) }
+    ensures passes { IfOk result (λ backs. (commands : List CommandNets) (command : CommandNets)
+        → length commands ≡ length askers.now
+        → ArbiterForward askers.now commands command held.now builder.new
+        → PassesOn builder.new askers.now commands command below.now backs.items) }
     ensures grows { GrowsBy (back_nets (length askers.now)) builder.old builder.new }
     ensures waits { (n : ℕ) → ¬ owns held.now n → IsWaiting builder.old n → IsWaiting builder.new n }
     ensures no_more_wait { OnOk result (WaitsWithout (owns held.now) builder.old builder.new) }

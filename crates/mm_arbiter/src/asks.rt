@@ -22,7 +22,8 @@ pub(crate) fn ask_bits(
     requires later { AreCommands builder.old later.now }
     requires few { length later.now + 1 ≤ 128 }
     ensures net { IfOk result (λ bits. IsNetOfWidth builder.new bits (length later.now + 1)) }
-    ensures value { IfOk result (λ bits. Always builder.new (λ cycle. cycle.net bits.number ≡ number (asks_in cycle (first.now ∷ later.now)))) }
+    ensures value { IfOk result (λ bits. Always builder.new (λ cycle. cycle.net bits.number
+        ≡ number (asks_in cycle (first.now ∷ later.now)))) }
     ensures adds { AddsNets (2 * (length later.now + 1)) builder.old builder.new }
     ensures full { result ≡ Err NetFault.TooManyNets → 2 ^ 20 < length builder.old.lines + 2 * (length later.now + 1) }
 {

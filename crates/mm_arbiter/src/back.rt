@@ -38,7 +38,8 @@ fn other_or_stalled(builder: &mut Builder, other: Net, stall: Net) -> Result<Net
     requires other { IsBit builder.old other }
     requires stall { IsBit builder.old stall }
     ensures net { IfOk result (λ wait. IsBit builder.new wait) }
-    ensures value { IfOk result (λ wait. Always builder.new (λ cycle. is_raised (cycle.net wait.number) ≡ (is_raised (cycle.net other.number) || is_raised (cycle.net stall.number)))) }
+    ensures value { IfOk result (λ wait. Always builder.new (λ cycle. is_raised (cycle.net wait.number)
+        ≡ (is_raised (cycle.net other.number) || is_raised (cycle.net stall.number)))) }
     ensures adds { AddsNets 1 builder.old builder.new }
     ensures full { result ≡ Err NetFault.TooManyNets → 2 ^ 20 < length builder.old.lines + 1 }
 {

@@ -48,11 +48,14 @@ fn holder_asks(
     requires asks { IsNetOfWidth builder.old asks count }
     ensures seat { IfOk result (λ own. IsNetOfWidth builder.new own.seat count) }
     ensures stays { IfOk result (λ own. IsBit builder.new own.stays) }
-    ensures seat_is { IfOk result (λ own. Always builder.new (λ cycle. (bits : List Bool) (k : ℕ) → StandsAt cycle count asks turns.now.holder bits k
+    ensures seat_is { IfOk result (λ own. Always builder.new (λ cycle. (bits : List Bool) (k : ℕ)
+        → StandsAt cycle count asks turns.now.holder bits k
         → cycle.net own.seat.number ≡ seat_bit (if get_or bits k false then Some k else None))) }
-    ensures stays_is { IfOk result (λ own. Always builder.new (λ cycle. (bits : List Bool) (k : ℕ) → StandsAt cycle count asks turns.now.holder bits k
+    ensures stays_is { IfOk result (λ own. Always builder.new (λ cycle. (bits : List Bool) (k : ℕ)
+        → StandsAt cycle count asks turns.now.holder bits k
         → is_raised (cycle.net own.stays.number) ≡ stays_on k (cycle.net turns.now.left.number) bits)) }
-    ensures reads { IfOk result (λ own. AnyTwo builder.new (λ one other. HoldSame turns.now one other → IsSame asks one other → IsSame own.seat one other × IsSame own.stays one other)) }
+    ensures reads { IfOk result (λ own. AnyTwo builder.new (λ one other. HoldSame turns.now one other → IsSame asks one other
+        → IsSame own.seat one other × IsSame own.stays one other)) }
     ensures adds { AddsNets 4 builder.old builder.new }
     ensures full { result ≡ Err NetFault.TooManyNets → 2 ^ 20 < length builder.old.lines + 4 }
 {
@@ -76,7 +79,8 @@ fn own_or_turn(
     requires own { IsNetOfWidth builder.old own count }
     requires turn { IsNetOfWidth builder.old turn count }
     ensures net { IfOk result (λ seat. IsNetOfWidth builder.new seat count) }
-    ensures value { IfOk result (λ seat. Always builder.new (λ cycle. cycle.net seat.number ≡ (if cycle.net turns.now.inside.number == 0 then cycle.net turn.number else cycle.net own.number))) }
+    ensures value { IfOk result (λ seat. Always builder.new (λ cycle. cycle.net seat.number
+        ≡ (if cycle.net turns.now.inside.number == 0 then cycle.net turn.number else cycle.net own.number))) }
     ensures adds { AddsNets 1 builder.old builder.new }
     ensures full { result ≡ Err NetFault.TooManyNets → 2 ^ 20 < length builder.old.lines + 1 }
 {
@@ -99,10 +103,14 @@ fn choose_turn(
     requires some { 2 ≤ count }
     requires few { count ≤ 128 }
     ensures net { IfOk result (λ seat. IsNetOfWidth builder.new seat count) }
-    ensures value { IfOk result (λ seat. Always builder.new (λ cycle. (bits : List Bool) (k : ℕ) → StandsAt cycle count asks turns.now.holder bits k
-        → cycle.net own.now.seat.number ≡ seat_bit (if get_or bits k false then Some k else None) → is_raised (cycle.net own.now.stays.number) ≡ stays_on k (cycle.net turns.now.left.number) bits
-        → cycle.net seat.number ≡ seat_bit (chosen_seat (is_raised (cycle.net turns.now.inside.number)) k (cycle.net turns.now.left.number) bits))) }
-    ensures reads { IfOk result (λ seat. AnyTwo builder.new (λ one other. HoldSame turns.now one other → IsSame asks one other → IsSame own.now.seat one other → IsSame own.now.stays one other → IsSame seat one other)) }
+    ensures value { IfOk result (λ seat. Always builder.new (λ cycle. (bits : List Bool) (k : ℕ)
+        → StandsAt cycle count asks turns.now.holder bits k
+        → cycle.net own.now.seat.number ≡ seat_bit (if get_or bits k false then Some k else None)
+        → is_raised (cycle.net own.now.stays.number) ≡ stays_on k (cycle.net turns.now.left.number) bits
+        → cycle.net seat.number
+        ≡ seat_bit (chosen_seat (is_raised (cycle.net turns.now.inside.number)) k (cycle.net turns.now.left.number) bits))) }
+    ensures reads { IfOk result (λ seat. AnyTwo builder.new (λ one other. HoldSame turns.now one other → IsSame asks one other
+        → IsSame own.now.seat one other → IsSame own.now.stays one other → IsSame seat one other)) }
     ensures adds { AddsNets 16 builder.old builder.new }
     ensures full { result ≡ Err NetFault.TooManyNets → 2 ^ 20 < length builder.old.lines + 16 }
 {
@@ -124,12 +132,17 @@ fn choose_by(
     requires some { 2 ≤ count }
     requires few { count ≤ 128 }
     ensures nets { IfOk result (λ chosen. AreChosenNets builder.new chosen count) }
-    ensures seat { IfOk result (λ chosen. Always builder.new (λ cycle. (bits : List Bool) (k : ℕ) → StandsAt cycle count asks turns.now.holder bits k
-        → cycle.net chosen.seat.number ≡ seat_bit (chosen_seat (is_raised (cycle.net turns.now.inside.number)) k (cycle.net turns.now.left.number) bits))) }
-    ensures stays { IfOk result (λ chosen. Always builder.new (λ cycle. (bits : List Bool) (k : ℕ) → StandsAt cycle count asks turns.now.holder bits k
+    ensures seat { IfOk result (λ chosen. Always builder.new (λ cycle. (bits : List Bool) (k : ℕ)
+        → StandsAt cycle count asks turns.now.holder bits k
+        → cycle.net chosen.seat.number
+        ≡ seat_bit (chosen_seat (is_raised (cycle.net turns.now.inside.number)) k (cycle.net turns.now.left.number) bits))) }
+    ensures stays { IfOk result (λ chosen. Always builder.new (λ cycle. (bits : List Bool) (k : ℕ)
+        → StandsAt cycle count asks turns.now.holder bits k
         → is_raised (cycle.net chosen.stays.number) ≡ stays_on k (cycle.net turns.now.left.number) bits)) }
-    ensures some_is { IfOk result (λ chosen. Always builder.new (λ cycle. cycle.net chosen.some.number ≡ (if cycle.net chosen.seat.number == 0 then 0 else 1))) }
-    ensures reads { IfOk result (λ chosen. AnyTwo builder.new (λ one other. HoldSame turns.now one other → IsSame asks one other → IsSame chosen.seat one other)) }
+    ensures some_is { IfOk result (λ chosen. Always builder.new (λ cycle. cycle.net chosen.some.number
+        ≡ (if cycle.net chosen.seat.number == 0 then 0 else 1))) }
+    ensures reads { IfOk result (λ chosen. AnyTwo builder.new (λ one other. HoldSame turns.now one other → IsSame asks one other
+        → IsSame chosen.seat one other)) }
     ensures adds { AddsNets 21 builder.old builder.new }
     ensures full { result ≡ Err NetFault.TooManyNets → 2 ^ 20 < length builder.old.lines + 21 }
 {
@@ -155,8 +168,10 @@ pub(crate) fn choose_asker(
     requires some { 2 ≤ length commands.now }
     requires few { length commands.now ≤ 128 }
     ensures nets { IfOk result (λ chosen. AreChosenNets builder.new chosen (length commands.now)) }
-    ensures value { IfOk result (λ chosen. Always builder.new (λ cycle. (k : ℕ) → k < length commands.now → cycle.net turns.now.holder.number ≡ 2 ^ k → AreChosen cycle turns.now chosen commands.now k)) }
-    ensures reads { IfOk result (λ chosen. AnyTwo builder.new (λ one other. HoldSame turns.now one other → ShowAllSame commands.now one other → IsSame chosen.seat one other × IsSame chosen.some one other)) }
+    ensures value { IfOk result (λ chosen. Always builder.new (λ cycle. (k : ℕ) → k < length commands.now
+        → cycle.net turns.now.holder.number ≡ 2 ^ k → AreChosen cycle turns.now chosen commands.now k)) }
+    ensures reads { IfOk result (λ chosen. AnyTwo builder.new (λ one other. HoldSame turns.now one other
+        → ShowAllSame commands.now one other → IsSame chosen.seat one other × IsSame chosen.some one other)) }
     ensures adds { AddsNets (21 + 2 * length commands.now) builder.old builder.new }
     ensures full { result ≡ Err NetFault.TooManyNets → 2 ^ 20 < length builder.old.lines + (21 + 2 * length commands.now) }
 {

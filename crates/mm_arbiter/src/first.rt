@@ -18,7 +18,8 @@ fn lowest(builder: &mut Builder, bits: Net, count: u8) -> Result<Net, NetFault>
     requires some { 1 ≤ count }
     requires few { count ≤ 128 }
     ensures net { IfOk result (λ low. IsNetOfWidth builder.new low count) }
-    ensures value { IfOk result (λ low. Always builder.new (λ cycle. (high : List Bool) → length high ≡ count → cycle.net bits.number ≡ number high → cycle.net low.number ≡ seat_bit (first_high high))) }
+    ensures value { IfOk result (λ low. Always builder.new (λ cycle. (high : List Bool) → length high ≡ count
+        → cycle.net bits.number ≡ number high → cycle.net low.number ≡ seat_bit (first_high high))) }
     ensures reads { IfOk result (λ low. AnyTwo builder.new (λ one other. IsSame bits one other → IsSame low one other)) }
     ensures adds { AddsNets 3 builder.old builder.new }
     ensures full { result ≡ Err NetFault.TooManyNets → 2 ^ 20 < length builder.old.lines + 3 }
@@ -36,7 +37,8 @@ fn one_up(builder: &mut Builder, others: Net, low: Net, count: u8) -> Result<Net
     requires others { IsNetOfWidth builder.old others (count - 1) }
     requires low { IsBit builder.old low }
     ensures net { IfOk result (λ next. IsNetOfWidth builder.new next count) }
-    ensures value { IfOk result (λ next. Always builder.new (λ cycle. cycle.net next.number ≡ cycle.net others.number * 2 ^ low.width + cycle.net low.number)) }
+    ensures value { IfOk result (λ next. Always builder.new (λ cycle. cycle.net next.number
+        ≡ cycle.net others.number * 2 ^ low.width + cycle.net low.number)) }
     ensures adds { AddsNets 1 builder.old builder.new }
     ensures full { result ≡ Err NetFault.TooManyNets → 2 ^ 20 < length builder.old.lines + 1 }
 {
@@ -50,7 +52,8 @@ fn next_bit(builder: &mut Builder, holder: Net, count: u8) -> Result<Net, NetFau
     requires some { 2 ≤ count }
     requires few { count ≤ 128 }
     ensures net { IfOk result (λ next. IsNetOfWidth builder.new next count) }
-    ensures value { IfOk result (λ next. Always builder.new (λ cycle. (k : ℕ) → k < count → cycle.net holder.number ≡ 2 ^ k → cycle.net next.number ≡ 2 ^ (k + 1) % 2 ^ count)) }
+    ensures value { IfOk result (λ next. Always builder.new (λ cycle. (k : ℕ) → k < count → cycle.net holder.number ≡ 2 ^ k
+        → cycle.net next.number ≡ 2 ^ (k + 1) % 2 ^ count)) }
     ensures reads { IfOk result (λ next. AnyTwo builder.new (λ one other. IsSame holder one other → IsSame next one other)) }
     ensures adds { AddsNets 3 builder.old builder.new }
     ensures full { result ≡ Err NetFault.TooManyNets → 2 ^ 20 < length builder.old.lines + 3 }
@@ -67,7 +70,8 @@ fn all_above(builder: &mut Builder, holder: Net, count: u8) -> Result<Net, NetFa
     requires some { 2 ≤ count }
     requires few { count ≤ 128 }
     ensures net { IfOk result (λ above. IsNetOfWidth builder.new above count) }
-    ensures value { IfOk result (λ above. Always builder.new (λ cycle. (k : ℕ) → k < count → cycle.net holder.number ≡ 2 ^ k → cycle.net above.number ≡ 2 ^ count - 2 ^ (k + 1))) }
+    ensures value { IfOk result (λ above. Always builder.new (λ cycle. (k : ℕ) → k < count → cycle.net holder.number ≡ 2 ^ k
+        → cycle.net above.number ≡ 2 ^ count - 2 ^ (k + 1))) }
     ensures reads { IfOk result (λ above. AnyTwo builder.new (λ one other. IsSame holder one other → IsSame above one other)) }
     ensures adds { AddsNets 5 builder.old builder.new }
     ensures full { result ≡ Err NetFault.TooManyNets → 2 ^ 20 < length builder.old.lines + 5 }
@@ -85,8 +89,10 @@ fn asking_behind(builder: &mut Builder, asks: Net, holder: Net, count: u8) -> Re
     requires some { 2 ≤ count }
     requires few { count ≤ 128 }
     ensures net { IfOk result (λ behind. IsNetOfWidth builder.new behind count) }
-    ensures value { IfOk result (λ behind. Always builder.new (λ cycle. (bits : List Bool) (k : ℕ) → StandsAt cycle count asks holder bits k → cycle.net behind.number ≡ number (past (k + 1) bits))) }
-    ensures reads { IfOk result (λ behind. AnyTwo builder.new (λ one other. IsSame asks one other → IsSame holder one other → IsSame behind one other)) }
+    ensures value { IfOk result (λ behind. Always builder.new (λ cycle. (bits : List Bool) (k : ℕ)
+        → StandsAt cycle count asks holder bits k → cycle.net behind.number ≡ number (past (k + 1) bits))) }
+    ensures reads { IfOk result (λ behind. AnyTwo builder.new (λ one other. IsSame asks one other → IsSame holder one other
+        → IsSame behind one other)) }
     ensures adds { AddsNets 6 builder.old builder.new }
     ensures full { result ≡ Err NetFault.TooManyNets → 2 ^ 20 < length builder.old.lines + 6 }
 {
@@ -102,9 +108,11 @@ fn first_of(builder: &mut Builder, behind: Net, asks: Net, count: u8) -> Result<
     requires some { 1 ≤ count }
     requires few { count ≤ 128 }
     ensures net { IfOk result (λ first. IsNetOfWidth builder.new first count) }
-    ensures value { IfOk result (λ first. Always builder.new (λ cycle. (high bits : List Bool) → length high ≡ count → length bits ≡ count → cycle.net behind.number ≡ number high → cycle.net asks.number ≡ number bits
+    ensures value { IfOk result (λ first. Always builder.new (λ cycle. (high bits : List Bool) → length high ≡ count
+        → length bits ≡ count → cycle.net behind.number ≡ number high → cycle.net asks.number ≡ number bits
         → cycle.net first.number ≡ seat_bit (or_else (first_high high) (first_high bits)))) }
-    ensures reads { IfOk result (λ first. AnyTwo builder.new (λ one other. IsSame behind one other → IsSame asks one other → IsSame first one other)) }
+    ensures reads { IfOk result (λ first. AnyTwo builder.new (λ one other. IsSame behind one other → IsSame asks one other
+        → IsSame first one other)) }
     ensures adds { AddsNets 8 builder.old builder.new }
     ensures full { result ≡ Err NetFault.TooManyNets → 2 ^ 20 < length builder.old.lines + 8 }
 {
@@ -127,8 +135,10 @@ pub(crate) fn first_asking(
     requires some { 2 ≤ count }
     requires few { count ≤ 128 }
     ensures net { IfOk result (λ first. IsNetOfWidth builder.new first count) }
-    ensures value { IfOk result (λ first. Always builder.new (λ cycle. (bits : List Bool) (k : ℕ) → StandsAt cycle count asks holder bits k → cycle.net first.number ≡ seat_bit (first_after k bits))) }
-    ensures reads { IfOk result (λ first. AnyTwo builder.new (λ one other. IsSame asks one other → IsSame holder one other → IsSame first one other)) }
+    ensures value { IfOk result (λ first. Always builder.new (λ cycle. (bits : List Bool) (k : ℕ)
+        → StandsAt cycle count asks holder bits k → cycle.net first.number ≡ seat_bit (first_after k bits))) }
+    ensures reads { IfOk result (λ first. AnyTwo builder.new (λ one other. IsSame asks one other → IsSame holder one other
+        → IsSame first one other)) }
     ensures adds { AddsNets 14 builder.old builder.new }
     ensures full { result ≡ Err NetFault.TooManyNets → 2 ^ 20 < length builder.old.lines + 14 }
 {

@@ -22,7 +22,8 @@ fn stays_open(builder: &mut Builder, command: &CommandNets, wait: Net) -> Result
     requires command { AreCommandNets builder.old command.now }
     requires wait { IsBit builder.old wait }
     ensures net { IfOk result (λ stands. IsBit builder.new stands) }
-    ensures value { IfOk result (λ stands. Always builder.new (λ cycle. is_raised (cycle.net stands.number) ≡ (is_raised (cycle.net wait.number) || is_raised (cycle.net command.now.more.number)))) }
+    ensures value { IfOk result (λ stands. Always builder.new (λ cycle. is_raised (cycle.net stands.number)
+        ≡ (is_raised (cycle.net wait.number) || is_raised (cycle.net command.now.more.number)))) }
     ensures adds { AddsNets 1 builder.old builder.new }
     ensures full { result ≡ Err NetFault.TooManyNets → 2 ^ 20 < length builder.old.lines + 1 }
 {
@@ -42,8 +43,10 @@ fn next_inside(
     requires command { AreCommandNets builder.old command.now }
     requires wait { IsBit builder.old wait }
     ensures net { IfOk result (λ inside. IsBit builder.new inside) }
-    ensures value { IfOk result (λ inside. Always builder.new (λ cycle. is_raised (cycle.net inside.number) ≡ (if is_raised (cycle.net round.now.chosen.some.number)
-        then is_raised (cycle.net wait.number) || is_raised (cycle.net command.now.more.number) else is_raised (cycle.net round.now.turns.inside.number)))) }
+    ensures value { IfOk result (λ inside. Always builder.new (λ cycle. is_raised (cycle.net inside.number)
+        ≡ (if is_raised (cycle.net round.now.chosen.some.number)
+        then is_raised (cycle.net wait.number) || is_raised (cycle.net command.now.more.number)
+        else is_raised (cycle.net round.now.turns.inside.number)))) }
     ensures adds { AddsNets 2 builder.old builder.new }
     ensures full { result ≡ Err NetFault.TooManyNets → 2 ^ 20 < length builder.old.lines + 2 }
 {

@@ -62,8 +62,10 @@ fn choose_seat(
     ensures command { IfOk result (λ made. AreCommandNets builder.new made.command) }
     ensures spare { IfOk result (λ made. IsNetOfWidth builder.new made.spare 6) }
     ensures widths { IfOk result (λ made. HaveSameWidths made.command one.now.command) }
-    ensures value { IfOk result (λ made. Always builder.new (λ cycle. raw_in cycle made.command ≡ (if is_raised (cycle.net bit.number) then raw_in cycle one.now.command else raw_in cycle other.now.command))) }
-    ensures spare_is { IfOk result (λ made. Always builder.new (λ cycle. cycle.net made.spare.number ≡ (if cycle.net bit.number == 0 then cycle.net other.now.spare.number else cycle.net one.now.spare.number))) }
+    ensures value { IfOk result (λ made. Always builder.new (λ cycle. raw_in cycle made.command
+        ≡ (if is_raised (cycle.net bit.number) then raw_in cycle one.now.command else raw_in cycle other.now.command))) }
+    ensures spare_is { IfOk result (λ made. Always builder.new (λ cycle. cycle.net made.spare.number
+        ≡ (if cycle.net bit.number == 0 then cycle.net other.now.spare.number else cycle.net one.now.spare.number))) }
     ensures adds { AddsNets 9 builder.old builder.new }
     ensures full { result ≡ Err NetFault.TooManyNets → 2 ^ 20 < length builder.old.lines + 9 }
 {
@@ -79,7 +81,8 @@ fn is_from(builder: &mut Builder, bits: Net, count: u8, from: u8, to: u8) -> Res
     requires order { from < to }
     requires within { to ≤ count }
     ensures net { IfOk result (λ here. IsBit builder.new here) }
-    ensures value { IfOk result (λ here. Always builder.new (λ cycle. (k : ℕ) → k < to → cycle.net bits.number ≡ 2 ^ k → cycle.net here.number ≡ (if nat_le from k then 1 else 0))) }
+    ensures value { IfOk result (λ here. Always builder.new (λ cycle. (k : ℕ) → k < to → cycle.net bits.number ≡ 2 ^ k
+        → cycle.net here.number ≡ (if nat_le from k then 1 else 0))) }
     ensures reads { IfOk result (λ here. AnyTwo builder.new (λ one other. IsSame bits one other → IsSame here one other)) }
     ensures adds { AddsNets 2 builder.old builder.new }
     ensures full { result ≡ Err NetFault.TooManyNets → 2 ^ 20 < length builder.old.lines + 2 }
@@ -108,9 +111,12 @@ pub(crate) fn pick_seat(
     requires alike { AreAlike commands.now }
     ensures command { IfOk result (λ made. AreCommandNets builder.new made.command) }
     ensures spare { IfOk result (λ made. IsNetOfWidth builder.new made.spare 6) }
-    ensures widths { IfOk result (λ made. (widths : List ℕ) → HaveWidths widths commands.now → group_widths (group_of made.command) ≡ widths) }
-    ensures value { IfOk result (λ made. Always builder.new (λ cycle. (k : ℕ) → from ≤ k → k < to → cycle.net bits.number ≡ 2 ^ k → IsSeatOf cycle made k askers.now commands.now)) }
-    ensures reads { IfOk result (λ made. AnyTwo builder.new (λ one other. IsSame bits one other → ShowAllSame commands.now one other → ShowSame made.command one other)) }
+    ensures widths { IfOk result (λ made. (widths : List ℕ) → HaveWidths widths commands.now
+        → group_widths (group_of made.command) ≡ widths) }
+    ensures value { IfOk result (λ made. Always builder.new (λ cycle. (k : ℕ) → from ≤ k → k < to → cycle.net bits.number ≡ 2 ^ k
+        → IsSeatOf cycle made k askers.now commands.now)) }
+    ensures reads { IfOk result (λ made. AnyTwo builder.new (λ one other. IsSame bits one other
+        → ShowAllSame commands.now one other → ShowSame made.command one other)) }
     ensures adds { AddsNets (12 * (to - from) - 11) builder.old builder.new }
     ensures full { result ≡ Err NetFault.TooManyNets → 2 ^ 20 < length builder.old.lines + (12 * (to - from) - 11) }
 {

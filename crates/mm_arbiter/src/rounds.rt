@@ -48,10 +48,13 @@ fn show_chosen(
     requires alike { AreAlike commands.now }
     ensures command { IfOk result (λ made. AreCommandNets builder.new made.command) }
     ensures spare { IfOk result (λ made. IsNetOfWidth builder.new made.spare 6) }
-    ensures widths { IfOk result (λ made. (widths : List ℕ) → HaveWidths widths commands.now → group_widths (group_of made.command) ≡ widths) }
-    ensures shows { IfOk result (λ made. Always builder.new (λ cycle. (k : ℕ) → k < length commands.now → cycle.net chosen.now.seat.number ≡ 2 ^ k → ShowsSeat cycle chosen.now.some made askers.now commands.now k)) }
+    ensures widths { IfOk result (λ made. (widths : List ℕ) → HaveWidths widths commands.now
+        → group_widths (group_of made.command) ≡ widths) }
+    ensures shows { IfOk result (λ made. Always builder.new (λ cycle. (k : ℕ) → k < length commands.now
+        → cycle.net chosen.now.seat.number ≡ 2 ^ k → ShowsSeat cycle chosen.now.some made askers.now commands.now k)) }
     ensures hides { IfOk result (λ made. Always builder.new (λ cycle. HidesAll cycle chosen.now.some made.command)) }
-    ensures reads { IfOk result (λ made. AnyTwo builder.new (λ one other. IsSame chosen.now.seat one other → IsSame chosen.now.some one other → ShowAllSame commands.now one other → ShowSame made.command one other)) }
+    ensures reads { IfOk result (λ made. AnyTwo builder.new (λ one other. IsSame chosen.now.seat one other
+        → IsSame chosen.now.some one other → ShowAllSame commands.now one other → ShowSame made.command one other)) }
     ensures adds { AddsNets (2 + 12 * length commands.now) builder.old builder.new }
     ensures full { result ≡ Err NetFault.TooManyNets → 2 ^ 20 < length builder.old.lines + (2 + 12 * length commands.now) }
 {
@@ -77,7 +80,8 @@ fn begun_shares(
     requires spare { IsNetOfWidth builder.old spare 6 }
     requires none { IsNetOfWidth builder.old none 6 }
     ensures net { IfOk result (λ begun. IsNetOfWidth builder.new begun 6) }
-    ensures value { IfOk result (λ begun. Always builder.new (λ cycle. cycle.net begun.number ≡ (if cycle.net chosen.now.some.number == 0 then cycle.net none.number else cycle.net spare.number))) }
+    ensures value { IfOk result (λ begun. Always builder.new (λ cycle. cycle.net begun.number
+        ≡ (if cycle.net chosen.now.some.number == 0 then cycle.net none.number else cycle.net spare.number))) }
     ensures adds { AddsNets 1 builder.old builder.new }
     ensures full { result ≡ Err NetFault.TooManyNets → 2 ^ 20 < length builder.old.lines + 1 }
 {
@@ -97,8 +101,11 @@ fn left_by_turn(
     requires chosen { AreChosenNets builder.old chosen.now count }
     requires spare { IsNetOfWidth builder.old spare 6 }
     ensures net { IfOk result (λ left. IsNetOfWidth builder.new left 6) }
-    ensures value { IfOk result (λ left. Always builder.new (λ cycle. (is_raised (cycle.net chosen.now.stays.number) ≡ true → 0 < cycle.net turns.now.left.number)
-        → cycle.net left.number ≡ (if is_raised (cycle.net chosen.now.stays.number) then cycle.net turns.now.left.number - 1 else (if is_raised (cycle.net chosen.now.some.number) then cycle.net spare.number else 0)))) }
+    ensures value { IfOk result (λ left. Always builder.new (λ cycle. (is_raised (cycle.net chosen.now.stays.number) ≡ true
+        → 0 < cycle.net turns.now.left.number)
+        → cycle.net left.number
+        ≡ (if is_raised (cycle.net chosen.now.stays.number) then cycle.net turns.now.left.number - 1
+        else (if is_raised (cycle.net chosen.now.some.number) then cycle.net spare.number else 0)))) }
     ensures adds { AddsNets 5 builder.old builder.new }
     ensures full { result ≡ Err NetFault.TooManyNets → 2 ^ 20 < length builder.old.lines + 5 }
 {
@@ -120,7 +127,8 @@ fn left_or_free(
     requires turns { AreTurnNets builder.old turns.now count }
     requires free { IsNetOfWidth builder.old free 6 }
     ensures net { IfOk result (λ left. IsNetOfWidth builder.new left 6) }
-    ensures value { IfOk result (λ left. Always builder.new (λ cycle. cycle.net left.number ≡ (if cycle.net turns.now.inside.number == 0 then cycle.net free.number else cycle.net turns.now.left.number))) }
+    ensures value { IfOk result (λ left. Always builder.new (λ cycle. cycle.net left.number
+        ≡ (if cycle.net turns.now.inside.number == 0 then cycle.net free.number else cycle.net turns.now.left.number))) }
     ensures adds { AddsNets 1 builder.old builder.new }
     ensures full { result ≡ Err NetFault.TooManyNets → 2 ^ 20 < length builder.old.lines + 1 }
 {
@@ -168,7 +176,8 @@ fn take_turns(
     requires alike { AreAlike commands.now }
     ensures turns { IfOk result (λ p. p.1.turns ≡ turns.now) }
     ensures command { IfOk result (λ p. AreCommandNets builder.new p.0) }
-    ensures widths { IfOk result (λ p. (widths : List ℕ) → HaveWidths widths commands.now → group_widths (group_of p.0) ≡ widths) }
+    ensures widths { IfOk result (λ p. (widths : List ℕ) → HaveWidths widths commands.now
+        → group_widths (group_of p.0) ≡ widths) }
     ensures kept { IfOk result (λ p. RoundKeeps p.1 (length commands.now) builder.new) }
     ensures made { IfOk result (λ p. RoundForward askers.now commands.now p.0 p.1 builder.new) }
     ensures reads { IfOk result (λ p. ShowsByTurns commands.now p.0 p.1.turns builder.new) }
@@ -202,7 +211,8 @@ pub(crate) fn make_round(
     requires commands { AreCommands builder.old commands.now }
     requires alike { AreAlike commands.now }
     ensures command { IfOk result (λ p. AreCommandNets builder.new p.0) }
-    ensures widths { IfOk result (λ p. (widths : List ℕ) → HaveWidths widths commands.now → group_widths (group_of p.0) ≡ widths) }
+    ensures widths { IfOk result (λ p. (widths : List ℕ) → HaveWidths widths commands.now
+        → group_widths (group_of p.0) ≡ widths) }
     ensures kept { IfOk result (λ p. RoundKeeps p.1 (length commands.now) builder.new) }
     ensures wait { IfOk result (λ p. AreWaiting builder.new (turns_of p.1.turns)) }
     ensures owned { IfOk result (λ p. AreMadeBetween (owned_by p.1) builder.old builder.new) }

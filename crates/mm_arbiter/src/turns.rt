@@ -40,7 +40,8 @@ fn last_seat(builder: &mut Builder, count: u8) -> Result<Net, NetFault>
     ensures net { IfOk result (λ made. IsNetOfWidth builder.new made count) }
     ensures number { IfOk result (λ made. made.number ≡ length builder.old.lines) }
     ensures count { OnOk result (length builder.new.lines ≡ length builder.old.lines + 1) }
-    ensures starts { IfOk result (λ made. (run : Run) (cycles : ℕ) → IsRun builder.new run cycles → 0 < cycles → run.net 0 made.number ≡ 2 ^ (count - 1)) }
+    ensures starts { IfOk result (λ made. (run : Run) (cycles : ℕ) → IsRun builder.new run cycles → 0 < cycles
+        → run.net 0 made.number ≡ 2 ^ (count - 1)) }
     ensures waits { IfOk result (λ made. IsWaiting builder.new made.number) }
     ensures grows { GrowsBy 1 builder.old builder.new }
     ensures still_wait { StillWait builder.old builder.new }

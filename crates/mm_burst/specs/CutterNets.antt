@@ -59,14 +59,16 @@ pub record TakesWidths (s : Cutter) (widths : Widths) : Type 0 where
 
 -- how many bits of a byte address tell the bytes of a word of 1 to 16 bytes apart
 abbrev pub lane_exponent : ℕ → ℕ
-lane_exponent bytes = if nat_lt bytes 2 then 0 else if nat_lt bytes 4 then 1 else if nat_lt bytes 8 then 2 else if nat_lt bytes 16 then 3 else 4
+lane_exponent bytes =
+    if nat_lt bytes 2 then 0 else if nat_lt bytes 4 then 1 else if nat_lt bytes 8 then 2 else if nat_lt bytes 16 then 3 else 4
 
 -- in so many bits no address of a burst wraps, where `lanes` bits of it tell the bytes of a word apart
 abbrev pub address_bits : ℕ → ℕ → ℕ → ℕ
 address_bits address count lanes = max address (count + lanes) + 1
 
 abbrev pub given_widths : Cutter → Widths → Widths
-given_widths s widths = record widths { address = address_bits widths.address s.count_bits (lane_exponent s.word_bytes); count = s.below_bits }
+given_widths s widths =
+    record widths { address = address_bits widths.address s.count_bits (lane_exponent s.word_bytes); count = s.below_bits }
 
 abbrev pub owns_cutter : CutterKept → ℕ → Type 0
 owns_cutter kept n = InGroup (registers_of kept.registers) n
@@ -88,22 +90,29 @@ pub record CutterCommand (s : Cutter) (from to : CommandNets) (kept : CutterKept
   pub count : from.count.width ≤ s.count_bits
   pub address : kept.registers.next.width ≡ address_bits from.address.width s.count_bits (lane_exponent s.word_bytes)
   pub starts : StartAllLow netlist (registers_of kept.registers)
-  pub piece : Always netlist (λ cycle. piece_in cycle kept.piece ≡ piece_now (reach_of s) s.word_bytes (raw_in cycle from) (held_in cycle kept.registers))
-  pub shows : Always netlist (λ cycle. raw_in cycle to ≡ shown_piece (longest_of s) (cycle.net from.word.number) (piece_in cycle kept.piece))
+  pub piece : Always netlist (λ cycle. piece_in cycle kept.piece
+      ≡ piece_now (reach_of s) s.word_bytes (raw_in cycle from) (held_in cycle kept.registers))
+  pub shows : Always netlist (λ cycle. raw_in cycle to
+      ≡ shown_piece (longest_of s) (cycle.net from.word.number) (piece_in cycle kept.piece))
 
 -- after the second call: it waits while the cutter sends by itself, answers are wires, and the registers take these nets
-pub record CutterAnswer (s : Cutter) (kept : CutterKept) (wait : NetValue) (answer : AnswerNets) (up : NetValue) (back : AnswerNets) (netlist : Netlist) : Type 0 where
-  pub waits : Always netlist (λ cycle. is_raised (cycle.net up.number) ≡ (is_raised (cycle.net kept.piece.sends.number) || is_raised (cycle.net wait.number)))
+pub record CutterAnswer (s : Cutter) (kept : CutterKept) (wait : NetValue) (answer : AnswerNets) (up : NetValue)
+    (back : AnswerNets) (netlist : Netlist) : Type 0 where
+  pub waits : Always netlist (λ cycle. is_raised (cycle.net up.number)
+      ≡ (is_raised (cycle.net kept.piece.sends.number) || is_raised (cycle.net wait.number)))
   pub back_is : back ≡ answer
   pub next : CutterRegisters
   pub next_is : Always netlist (λ cycle.
       let taken = is_raised (cycle.net kept.piece.shows.number) && not (is_raised (cycle.net wait.number)) in
-      held_in cycle next ≡ behind_piece s.word_bytes (2 ^ kept.registers.next.width) (held_in cycle kept.registers) (piece_in cycle kept.piece) taken)
+      held_in cycle next
+      ≡ behind_piece s.word_bytes (2 ^ kept.registers.next.width) (held_in cycle kept.registers)
+      (piece_in cycle kept.piece) taken)
   pub takes : TakeAllNext netlist (registers_of kept.registers) (registers_of next)
 
 -- ---- what stands lasts. No contract reads these proofs; the law cites them
 
-pub cutter_keeps_lasts : (s : Cutter) (kept : CutterKept) (old new : Netlist) → CutterKeeps s kept old → Extends old new → ((n : ℕ) → owns_cutter kept n → IsWaiting old n → IsWaiting new n) → CutterKeeps s kept new
+pub cutter_keeps_lasts : (s : Cutter) (kept : CutterKept) (old new : Netlist) → CutterKeeps s kept old → Extends old new
+    → ((n : ℕ) → owns_cutter kept n → IsWaiting old n → IsWaiting new n) → CutterKeeps s kept new
 cutter_keeps_lasts s kept old new h e w = record {
   is = h.is;
   registers = registers_last old new kept.registers e h.registers;
@@ -114,7 +123,8 @@ cutter_keeps_lasts s kept old new h e w = record {
   waits = record { start = h.waits.start; numbers = h.waits.numbers; wait = λ n o. w n o (h.waits.wait n o) };
 }
 
-pub cutter_command_lasts : (s : Cutter) (from to : CommandNets) (kept : CutterKept) (old new : Netlist) → CutterCommand s from to kept old → Extends old new → CutterCommand s from to kept new
+pub cutter_command_lasts : (s : Cutter) (from to : CommandNets) (kept : CutterKept) (old new : Netlist)
+    → CutterCommand s from to kept old → Extends old new → CutterCommand s from to kept new
 cutter_command_lasts s from to kept old new h e = record {
   is = h.is;
   from_nets = command_lasts old new from e h.from_nets;
@@ -125,7 +135,9 @@ cutter_command_lasts s from to kept old new h e = record {
   shows = λ cycle v. h.shows cycle (e.valuations cycle v);
 }
 
-pub cutter_answer_lasts : (s : Cutter) (kept : CutterKept) (wait : NetValue) (answer : AnswerNets) (up : NetValue) (back : AnswerNets) (old new : Netlist) → CutterAnswer s kept wait answer up back old → Extends old new → CutterAnswer s kept wait answer up back new
+pub cutter_answer_lasts : (s : Cutter) (kept : CutterKept) (wait : NetValue) (answer : AnswerNets) (up : NetValue)
+    (back : AnswerNets) (old new : Netlist)
+    → CutterAnswer s kept wait answer up back old → Extends old new → CutterAnswer s kept wait answer up back new
 cutter_answer_lasts s kept wait answer up back old new h e = record {
   waits = λ cycle v. h.waits cycle (e.valuations cycle v);
   back_is = h.back_is;

@@ -104,7 +104,9 @@ piece_by reach start raw held sends some write shown =
     }
 
 abbrev pub piece_from : Reach → ℕ → Raw → Held → Piece
-piece_from reach start raw held = piece_by reach start raw held (is_raised held.reads && nat_lt 0 held.left) (nat_lt 0 held.left) (is_raised raw.levels.write) (is_shown raw)
+piece_from reach start raw held =
+    piece_by reach start raw held (is_raised held.reads && nat_lt 0 held.left) (nat_lt 0 held.left) (is_raised raw.levels.write)
+    (is_shown raw)
 
 abbrev pub piece_now : Reach → ℕ → Raw → Held → Piece
 piece_now reach bytes raw held = piece_from reach (raw.levels.address - raw.levels.address % bytes) raw held

@@ -16,4 +16,5 @@ more_nets places = if nat_eq places 0 then 0 else 1
 
 -- a piece may have so many beats: one of a write, and those of a read that its address lets it
 abbrev pub HasStep : Way → Piece → Type 0
-HasStep way piece = piece.step ≡ (if piece.writes then 1 else reach_by way.place_bits (2 ^ way.lanes) way.below_bits piece.address)
+HasStep way piece =
+    piece.step ≡ (if piece.writes then 1 else reach_by way.place_bits (2 ^ way.lanes) way.below_bits piece.address)

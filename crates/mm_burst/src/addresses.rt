@@ -31,7 +31,8 @@ fn align(builder: &mut Builder, address: Net, lanes: u8) -> Result<Net, NetFault
     requires address { IsNet builder.old address }
     requires reach { lanes ≤ address.width }
     ensures net { IfOk result (λ aligned. IsNetOfWidth builder.new aligned address.width) }
-    ensures value { IfOk result (λ aligned. Always builder.new (λ cycle. cycle.net aligned.number ≡ cycle.net address.number - cycle.net address.number % 2 ^ lanes)) }
+    ensures value { IfOk result (λ aligned. Always builder.new (λ cycle. cycle.net aligned.number
+        ≡ cycle.net address.number - cycle.net address.number % 2 ^ lanes)) }
     ensures adds { AddsNets 3 builder.old builder.new }
     ensures full { result ≡ Err NetFault.TooManyNets → 2 ^ 20 < length builder.old.lines + 3 }
 {
@@ -56,7 +57,8 @@ pub(crate) fn start_of(
     requires wider { address.width ≤ wanted }
     requires few { wanted ≤ 128 }
     ensures net { IfOk result (λ made. IsNetOfWidth builder.new made wanted) }
-    ensures value { IfOk result (λ made. Always builder.new (λ cycle. cycle.net made.number ≡ cycle.net address.number - cycle.net address.number % 2 ^ lanes)) }
+    ensures value { IfOk result (λ made. Always builder.new (λ cycle. cycle.net made.number
+        ≡ cycle.net address.number - cycle.net address.number % 2 ^ lanes)) }
     ensures adds { AddsNets 5 builder.old builder.new }
     ensures full { result ≡ Err NetFault.TooManyNets → 2 ^ 20 < length builder.old.lines + 5 }
 {
@@ -77,7 +79,8 @@ fn address_behind(
     requires words { IsNet builder.old words }
     requires few { words.width + lanes ≤ 128 }
     ensures net { IfOk result (λ made. IsNetOfWidth builder.new made address.width) }
-    ensures value { IfOk result (λ made. Always builder.new (λ cycle. cycle.net made.number ≡ (cycle.net address.number + cycle.net words.number * 2 ^ lanes) % 2 ^ address.width)) }
+    ensures value { IfOk result (λ made. Always builder.new (λ cycle. cycle.net made.number
+        ≡ (cycle.net address.number + cycle.net words.number * 2 ^ lanes) % 2 ^ address.width)) }
     ensures adds { AddsNets 5 builder.old builder.new }
     ensures full { result ≡ Err NetFault.TooManyNets → 2 ^ 20 < length builder.old.lines + 5 }
 {
@@ -104,7 +107,9 @@ pub(crate) fn next_address(
     requires held { IsNet builder.old held }
     requires few { step.width + lanes ≤ 128 }
     ensures net { IfOk result (λ made. IsNetOfWidth builder.new made held.width) }
-    ensures value { IfOk result (λ made. Always builder.new (λ cycle. cycle.net made.number ≡ (if is_raised (cycle.net taken.number) then (cycle.net address.number + cycle.net step.number * 2 ^ lanes) % 2 ^ held.width else cycle.net held.number))) }
+    ensures value { IfOk result (λ made. Always builder.new (λ cycle. cycle.net made.number
+        ≡ (if is_raised (cycle.net taken.number)
+        then (cycle.net address.number + cycle.net step.number * 2 ^ lanes) % 2 ^ held.width else cycle.net held.number))) }
     ensures adds { AddsNets 6 builder.old builder.new }
     ensures full { result ≡ Err NetFault.TooManyNets → 2 ^ 20 < length builder.old.lines + 6 }
 {

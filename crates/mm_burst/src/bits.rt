@@ -45,7 +45,8 @@ pub(crate) fn longest_net(
 pub(crate) fn is_some(builder: &mut Builder, net: Net) -> Result<Net, NetFault>
     requires { IsNet builder.old net }
     ensures net { IfOk result (λ some. IsBit builder.new some) }
-    ensures value { IfOk result (λ some. Always builder.new (λ cycle. is_raised (cycle.net some.number) ≡ nat_lt 0 (cycle.net net.number))) }
+    ensures value { IfOk result (λ some. Always builder.new (λ cycle. is_raised (cycle.net some.number)
+        ≡ nat_lt 0 (cycle.net net.number))) }
     ensures adds { AddsNets 1 builder.old builder.new }
     ensures full { result ≡ Err NetFault.TooManyNets → 2 ^ 20 < length builder.old.lines + 1 }
 {
@@ -59,7 +60,8 @@ pub(crate) fn is_less(builder: &mut Builder, net: Net, limit: Net) -> Result<Net
     requires limit { IsNet builder.old limit }
     requires widths { net.width ≡ limit.width }
     ensures net { IfOk result (λ less. IsBit builder.new less) }
-    ensures value { IfOk result (λ less. Always builder.new (λ cycle. is_raised (cycle.net less.number) ≡ nat_lt (cycle.net net.number) (cycle.net limit.number))) }
+    ensures value { IfOk result (λ less. Always builder.new (λ cycle. is_raised (cycle.net less.number)
+        ≡ nat_lt (cycle.net net.number) (cycle.net limit.number))) }
     ensures adds { AddsNets 1 builder.old builder.new }
     ensures full { result ≡ Err NetFault.TooManyNets → 2 ^ 20 < length builder.old.lines + 1 }
 {
@@ -74,7 +76,8 @@ pub(crate) fn pick(builder: &mut Builder, bit: Net, one: Net, other: Net) -> Res
     requires other { IsNet builder.old other }
     requires widths { one.width ≡ other.width }
     ensures net { IfOk result (λ made. IsNetOfWidth builder.new made one.width) }
-    ensures value { IfOk result (λ made. Always builder.new (λ cycle. cycle.net made.number ≡ (if is_raised (cycle.net bit.number) then cycle.net one.number else cycle.net other.number))) }
+    ensures value { IfOk result (λ made. Always builder.new (λ cycle. cycle.net made.number
+        ≡ (if is_raised (cycle.net bit.number) then cycle.net one.number else cycle.net other.number))) }
     ensures adds { AddsNets 1 builder.old builder.new }
     ensures full { result ≡ Err NetFault.TooManyNets → 2 ^ 20 < length builder.old.lines + 1 }
 {

@@ -26,7 +26,8 @@ pub struct Cutter {
     pub count_bits: u8,
     /// The bits of the count below; 1 for single beats.
     pub below_bits: u8,
-    /// The bits of a word's place in a wide one, at whose end reads are cut, where writes go beat by beat; 0 where reads are cut like writes.
+    /// The bits of a word's place in a wide one, at whose end reads are cut, where writes go beat by beat; 0 where reads are cut
+    /// like writes.
     pub place_bits: u8,
 }
 

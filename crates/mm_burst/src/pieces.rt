@@ -64,9 +64,13 @@ fn kind_of(
     ensures sends_net { IfOk result (λ kind. IsBit builder.new kind.sends) }
     ensures writes_net { IfOk result (λ kind. IsBit builder.new kind.writes) }
     ensures old_net { IfOk result (λ kind. IsBit builder.new kind.old) }
-    ensures sends { IfOk result (λ kind. Always builder.new (λ cycle. is_raised (cycle.net kind.sends.number) ≡ (is_raised (cycle.net registers.now.reads.number) && nat_lt 0 (cycle.net registers.now.left.number)))) }
-    ensures writes { IfOk result (λ kind. Always builder.new (λ cycle. is_raised (cycle.net kind.writes.number) ≡ (is_raised (cycle.net from.now.write.number) && not (is_raised (cycle.net kind.sends.number))))) }
-    ensures old { IfOk result (λ kind. Always builder.new (λ cycle. is_raised (cycle.net kind.old.number) ≡ (is_raised (cycle.net kind.sends.number) || (nat_lt 0 (cycle.net registers.now.left.number) && is_raised (cycle.net kind.writes.number))))) }
+    ensures sends { IfOk result (λ kind. Always builder.new (λ cycle. is_raised (cycle.net kind.sends.number)
+        ≡ (is_raised (cycle.net registers.now.reads.number) && nat_lt 0 (cycle.net registers.now.left.number)))) }
+    ensures writes { IfOk result (λ kind. Always builder.new (λ cycle. is_raised (cycle.net kind.writes.number)
+        ≡ (is_raised (cycle.net from.now.write.number) && not (is_raised (cycle.net kind.sends.number))))) }
+    ensures old { IfOk result (λ kind. Always builder.new (λ cycle. is_raised (cycle.net kind.old.number)
+        ≡ (is_raised (cycle.net kind.sends.number)
+        || (nat_lt 0 (cycle.net registers.now.left.number) && is_raised (cycle.net kind.writes.number))))) }
     ensures adds { AddsNets 6 builder.old builder.new }
     ensures full { result ≡ Err NetFault.TooManyNets → 2 ^ 20 < length builder.old.lines + 6 }
 {
@@ -104,7 +108,8 @@ fn words_ahead(
     requires wide { way.now.place_bits < longest.width }
     requires most { Always builder.old (λ cycle. cycle.net longest.number ≡ 2 ^ way.now.place_bits) }
     ensures net { IfOk result (λ made. IsNetOfWidth builder.new made longest.width) }
-    ensures value { IfOk result (λ made. Always builder.new (λ cycle. cycle.net made.number ≡ reach_words (2 ^ way.now.lanes) (2 ^ way.now.place_bits) (cycle.net address.number))) }
+    ensures value { IfOk result (λ made. Always builder.new (λ cycle. cycle.net made.number
+        ≡ reach_words (2 ^ way.now.lanes) (2 ^ way.now.place_bits) (cycle.net address.number))) }
     ensures adds { AddsNets 4 builder.old builder.new }
     ensures full { result ≡ Err NetFault.TooManyNets → 2 ^ 20 < length builder.old.lines + 4 }
 {
@@ -122,7 +127,8 @@ fn reach_net(builder: &mut Builder, address: Net, longest: Net, way: &Way) -> Re
     requires way { IsWay way.now address.width longest.width }
     requires most { Always builder.old (λ cycle. cycle.net longest.number ≡ longest_burst way.now.below_bits) }
     ensures net { IfOk result (λ made. IsNetOfWidth builder.new made longest.width) }
-    ensures value { IfOk result (λ made. Always builder.new (λ cycle. cycle.net made.number ≡ reach_by way.now.place_bits (2 ^ way.now.lanes) way.now.below_bits (cycle.net address.number))) }
+    ensures value { IfOk result (λ made. Always builder.new (λ cycle. cycle.net made.number
+        ≡ reach_by way.now.place_bits (2 ^ way.now.lanes) way.now.below_bits (cycle.net address.number))) }
     ensures adds { AddsNets (4 * more_nets way.now.place_bits) builder.old builder.new }
     ensures full { result ≡ Err NetFault.TooManyNets → 2 ^ 20 < length builder.old.lines + 4 * more_nets way.now.place_bits }
 {
@@ -147,9 +153,12 @@ fn step_of(
     requires way { IsWay way.now address.width longest.width }
     requires most { Always builder.old (λ cycle. cycle.net longest.number ≡ longest_burst way.now.below_bits) }
     ensures net { IfOk result (λ step. IsNetOfWidth builder.new step longest.width) }
-    ensures value { IfOk result (λ step. Always builder.new (λ cycle. cycle.net step.number ≡ (if is_raised (cycle.net writes.number) then 1 else reach_by way.now.place_bits (2 ^ way.now.lanes) way.now.below_bits (cycle.net address.number)))) }
+    ensures value { IfOk result (λ step. Always builder.new (λ cycle. cycle.net step.number
+        ≡ (if is_raised (cycle.net writes.number) then 1
+        else reach_by way.now.place_bits (2 ^ way.now.lanes) way.now.below_bits (cycle.net address.number)))) }
     ensures adds { AddsNets (2 + 4 * more_nets way.now.place_bits) builder.old builder.new }
-    ensures full { result ≡ Err NetFault.TooManyNets → 2 ^ 20 < length builder.old.lines + (2 + 4 * more_nets way.now.place_bits) }
+    ensures full { result ≡ Err NetFault.TooManyNets
+        → 2 ^ 20 < length builder.old.lines + (2 + 4 * more_nets way.now.place_bits) }
 {
     if way.below_bits == 1 {
         return Ok(longest);
@@ -185,9 +194,15 @@ fn share(
     ensures enables_net { IfOk result (λ made. IsNetOfWidth builder.new made.enables registers.now.enables.width) }
     ensures more_net { IfOk result (λ made. IsBit builder.new made.more) }
     ensures tag_net { IfOk result (λ made. IsNetOfWidth builder.new made.tag registers.now.tag.width) }
-    ensures enables { IfOk result (λ made. Always builder.new (λ cycle. cycle.net made.enables.number ≡ (if is_raised (cycle.net sends.number) then cycle.net registers.now.enables.number else cycle.net from.now.enables.number))) }
-    ensures more { IfOk result (λ made. Always builder.new (λ cycle. cycle.net made.more.number ≡ (if is_raised (cycle.net sends.number) then cycle.net registers.now.more.number else cycle.net from.now.more.number))) }
-    ensures tag { IfOk result (λ made. Always builder.new (λ cycle. cycle.net made.tag.number ≡ (if is_raised (cycle.net sends.number) then cycle.net registers.now.tag.number else cycle.net from.now.tag.number))) }
+    ensures enables { IfOk result (λ made. Always builder.new (λ cycle. cycle.net made.enables.number
+        ≡ (if is_raised (cycle.net sends.number) then cycle.net registers.now.enables.number
+        else cycle.net from.now.enables.number))) }
+    ensures more { IfOk result (λ made. Always builder.new (λ cycle. cycle.net made.more.number
+        ≡ (if is_raised (cycle.net sends.number) then cycle.net registers.now.more.number
+        else cycle.net from.now.more.number))) }
+    ensures tag { IfOk result (λ made. Always builder.new (λ cycle. cycle.net made.tag.number
+        ≡ (if is_raised (cycle.net sends.number) then cycle.net registers.now.tag.number
+        else cycle.net from.now.tag.number))) }
     ensures adds { AddsNets 3 builder.old builder.new }
     ensures full { result ≡ Err NetFault.TooManyNets → 2 ^ 20 < length builder.old.lines + 3 }
 {
@@ -218,9 +233,12 @@ pub(crate) fn make_piece(
     requires most { Always builder.old (λ cycle. cycle.net longest.number ≡ longest_burst way.now.below_bits) }
     ensures nets { IfOk result (λ piece. ArePieceNets builder.new piece) }
     ensures fits { IfOk result (λ piece. FitsRegisters registers.now piece) }
-    ensures value { IfOk result (λ piece. Always builder.new (λ cycle. piece_in cycle piece ≡ piece_from (reach_by way.now.place_bits (2 ^ way.now.lanes) way.now.below_bits) (cycle.net start.number) (raw_in cycle from.now) (held_in cycle registers.now))) }
+    ensures value { IfOk result (λ piece. Always builder.new (λ cycle. piece_in cycle piece
+        ≡ piece_from (reach_by way.now.place_bits (2 ^ way.now.lanes) way.now.below_bits) (cycle.net start.number)
+        (raw_in cycle from.now) (held_in cycle registers.now))) }
     ensures adds { AddsNets (16 + 4 * more_nets way.now.place_bits) builder.old builder.new }
-    ensures full { result ≡ Err NetFault.TooManyNets → 2 ^ 20 < length builder.old.lines + (16 + 4 * more_nets way.now.place_bits) }
+    ensures full { result ≡ Err NetFault.TooManyNets
+        → 2 ^ 20 < length builder.old.lines + (16 + 4 * more_nets way.now.place_bits) }
 {
     let kind = kind_of(builder, from, registers)?;
     let left = pick(builder, kind.old, registers.left, from.count)?;

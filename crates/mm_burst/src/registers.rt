@@ -113,7 +113,11 @@ fn next_left(
     requires held { IsNet builder.old held }
     requires within { Always builder.old (λ cycle. HasRoom (piece_in cycle piece.now)) }
     ensures net { IfOk result (λ made. IsNetOfWidth builder.new made held.width) }
-    ensures value { IfOk result (λ made. Always builder.new (λ cycle. cycle.net made.number ≡ (if is_raised (cycle.net taken.number) then (if is_raised (cycle.net piece.now.follows.number) then cycle.net piece.now.left.number - cycle.net piece.now.step.number else 0) else cycle.net held.number))) }
+    ensures value { IfOk result (λ made. Always builder.new (λ cycle. cycle.net made.number
+        ≡ (if is_raised (cycle.net taken.number)
+        then (if is_raised (cycle.net piece.now.follows.number)
+        then cycle.net piece.now.left.number - cycle.net piece.now.step.number else 0)
+        else cycle.net held.number))) }
     ensures adds { AddsNets 4 builder.old builder.new }
     ensures full { result ≡ Err NetFault.TooManyNets → 2 ^ 20 < length builder.old.lines + 4 }
 {
@@ -131,7 +135,9 @@ fn next_reads(builder: &mut Builder, taken: Net, writes: Net, held: Net) -> Resu
     requires writes { IsBit builder.old writes }
     requires held { IsBit builder.old held }
     ensures net { IfOk result (λ made. IsBit builder.new made) }
-    ensures value { IfOk result (λ made. Always builder.new (λ cycle. cycle.net made.number ≡ (if is_raised (cycle.net taken.number) then one_if (not (is_raised (cycle.net writes.number))) else cycle.net held.number))) }
+    ensures value { IfOk result (λ made. Always builder.new (λ cycle. cycle.net made.number
+        ≡ (if is_raised (cycle.net taken.number) then one_if (not (is_raised (cycle.net writes.number)))
+        else cycle.net held.number))) }
     ensures adds { AddsNets 2 builder.old builder.new }
     ensures full { result ≡ Err NetFault.TooManyNets → 2 ^ 20 < length builder.old.lines + 2 }
 {
@@ -156,7 +162,9 @@ pub(crate) fn next_registers(
     requires few { registers.now.left.width + lanes ≤ 128 }
     ensures nets { IfOk result (λ next. AreNets builder.new (registers_of next)) }
     ensures widths { IfOk result (λ next. group_widths (registers_of registers.now) ≡ group_widths (registers_of next)) }
-    ensures value { IfOk result (λ next. Always builder.new (λ cycle. held_in cycle next ≡ behind_piece (2 ^ lanes) (2 ^ registers.now.next.width) (held_in cycle registers.now) (piece_in cycle piece.now) (is_raised (cycle.net taken.number)))) }
+    ensures value { IfOk result (λ next. Always builder.new (λ cycle. held_in cycle next
+        ≡ behind_piece (2 ^ lanes) (2 ^ registers.now.next.width) (held_in cycle registers.now) (piece_in cycle piece.now)
+        (is_raised (cycle.net taken.number)))) }
     ensures adds { AddsNets 12 builder.old builder.new }
     ensures full { result ≡ Err NetFault.TooManyNets → 2 ^ 20 < length builder.old.lines + 12 }
 {

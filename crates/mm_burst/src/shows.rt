@@ -24,7 +24,8 @@ fn only_while(builder: &mut Builder, bit: Net, net: Net) -> Result<Net, NetFault
     requires bit { IsBit builder.old bit }
     requires net { IsNet builder.old net }
     ensures net { IfOk result (λ made. IsNetOfWidth builder.new made net.width) }
-    ensures value { IfOk result (λ made. Always builder.new (λ cycle. cycle.net made.number ≡ (if is_raised (cycle.net bit.number) then cycle.net net.number else 0))) }
+    ensures value { IfOk result (λ made. Always builder.new (λ cycle. cycle.net made.number
+        ≡ (if is_raised (cycle.net bit.number) then cycle.net net.number else 0))) }
     ensures adds { AddsNets 2 builder.old builder.new }
     ensures full { result ≡ Err NetFault.TooManyNets → 2 ^ 20 < length builder.old.lines + 2 }
 {
@@ -33,7 +34,8 @@ fn only_while(builder: &mut Builder, bit: Net, net: Net) -> Result<Net, NetFault
     pick(builder, bit, net, none)
 }
 
-/// The beats of the burst below, in so many bits, where so many are left and `step` shows how many there are up to the end of its wide word.
+/// The beats of the burst below, in so many bits, where so many are left and `step` shows how many there are up to the end of its
+/// wide word.
 #[tactic(auto, using(net_parts::specs::Laws::growing))]
 fn count_ahead(builder: &mut Builder, left: Net, step: Net, below_bits: u8) -> Result<Net, NetFault>
     requires left { IsNet builder.old left }
@@ -42,7 +44,8 @@ fn count_ahead(builder: &mut Builder, left: Net, step: Net, below_bits: u8) -> R
     requires fewer { below_bits ≤ left.width }
     requires most { Always builder.old (λ cycle. cycle.net step.number < 2 ^ below_bits) }
     ensures net { IfOk result (λ count. IsNetOfWidth builder.new count below_bits) }
-    ensures value { IfOk result (λ count. Always builder.new (λ cycle. cycle.net count.number ≡ beats_of (cycle.net step.number) (cycle.net left.number))) }
+    ensures value { IfOk result (λ count. Always builder.new (λ cycle. cycle.net count.number
+        ≡ beats_of (cycle.net step.number) (cycle.net left.number))) }
     ensures adds { AddsNets 7 builder.old builder.new }
     ensures full { result ≡ Err NetFault.TooManyNets → 2 ^ 20 < length builder.old.lines + 7 }
 {
@@ -64,7 +67,8 @@ fn count_of(builder: &mut Builder, left: Net, longest: Net, below_bits: u8) -> R
     requires fewer { below_bits ≤ left.width }
     requires most { Always builder.old (λ cycle. cycle.net longest.number ≡ longest_burst below_bits) }
     ensures net { IfOk result (λ count. IsNetOfWidth builder.new count below_bits) }
-    ensures value { IfOk result (λ count. Always builder.new (λ cycle. cycle.net count.number ≡ beats_of (longest_burst below_bits) (cycle.net left.number))) }
+    ensures value { IfOk result (λ count. Always builder.new (λ cycle. cycle.net count.number
+        ≡ beats_of (longest_burst below_bits) (cycle.net left.number))) }
     ensures adds { AddsNets 4 builder.old builder.new }
     ensures full { result ≡ Err NetFault.TooManyNets → 2 ^ 20 < length builder.old.lines + 4 }
 {
@@ -90,9 +94,14 @@ fn burst_count(
     requires most { Always builder.old (λ cycle. cycle.net longest.number ≡ longest_burst way.now.below_bits) }
     requires step { Always builder.old (λ cycle. HasStep way.now (piece_in cycle piece.now)) }
     ensures net { IfOk result (λ count. IsNetOfWidth builder.new count way.now.below_bits) }
-    ensures value { IfOk result (λ count. Always builder.new (λ cycle. cycle.net count.number ≡ beats_of (if is_raised (cycle.net piece.now.writes.number) then longest_by way.now.place_bits way.now.below_bits else cycle.net piece.now.step.number) (cycle.net piece.now.left.number))) }
+    ensures value { IfOk result (λ count. Always builder.new (λ cycle. cycle.net count.number
+        ≡ beats_of
+        (if is_raised (cycle.net piece.now.writes.number) then longest_by way.now.place_bits way.now.below_bits
+        else cycle.net piece.now.step.number)
+        (cycle.net piece.now.left.number))) }
     ensures adds { AddsNets (4 + 3 * more_nets way.now.place_bits) builder.old builder.new }
-    ensures full { result ≡ Err NetFault.TooManyNets → 2 ^ 20 < length builder.old.lines + (4 + 3 * more_nets way.now.place_bits) }
+    ensures full { result ≡ Err NetFault.TooManyNets
+        → 2 ^ 20 < length builder.old.lines + (4 + 3 * more_nets way.now.place_bits) }
 {
     if way.place_bits == 0 {
         count_of(builder, piece.left, longest, way.below_bits)
@@ -122,9 +131,12 @@ pub(crate) fn below(
     ensures enables { IfOk result (λ made. made.enables.width ≡ piece.now.enables.width) }
     ensures count { IfOk result (λ made. made.count.width ≡ way.now.below_bits) }
     ensures tag { IfOk result (λ made. made.tag.width ≡ piece.now.tag.width) }
-    ensures value { IfOk result (λ made. Always builder.new (λ cycle. raw_in cycle made ≡ shown_piece (longest_by way.now.place_bits way.now.below_bits) (cycle.net word.number) (piece_in cycle piece.now))) }
+    ensures value { IfOk result (λ made. Always builder.new (λ cycle. raw_in cycle made
+        ≡ shown_piece (longest_by way.now.place_bits way.now.below_bits) (cycle.net word.number)
+        (piece_in cycle piece.now))) }
     ensures adds { AddsNets (11 + 3 * more_nets way.now.place_bits) builder.old builder.new }
-    ensures full { result ≡ Err NetFault.TooManyNets → 2 ^ 20 < length builder.old.lines + (11 + 3 * more_nets way.now.place_bits) }
+    ensures full { result ≡ Err NetFault.TooManyNets
+        → 2 ^ 20 < length builder.old.lines + (11 + 3 * more_nets way.now.place_bits) }
 {
     let read = unless(builder, piece.shows, piece.writes)?;
     let word = only_while(builder, piece.writes, word)?;

@@ -22,7 +22,8 @@ pub(crate) fn accepts(
     requires now { AreStandingNets builder.old now.now }
     requires taken { IsBit builder.old taken }
     ensures net { IfOk result (λ net. IsBit builder.new net) }
-    ensures value { IfOk result (λ net. Always builder.new (λ cycle. is_raised (cycle.net net.number) ≡ accepted (now_in cycle now.now) (is_raised (cycle.net taken.number)))) }
+    ensures value { IfOk result (λ net. Always builder.new (λ cycle. is_raised (cycle.net net.number)
+        ≡ accepted (now_in cycle now.now) (is_raised (cycle.net taken.number)))) }
     ensures adds { AddsNets 16 builder.old builder.new }
     ensures full { result ≡ Err NetFault.TooManyNets → 2 ^ 20 < length builder.old.lines + 16 }
 {

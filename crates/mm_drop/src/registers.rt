@@ -133,7 +133,12 @@ fn next_reads(builder: &mut Builder, reads: Net, comes: Net, valid: Net) -> Resu
     requires comes { IsBit builder.old comes }
     requires valid { IsBit builder.old valid }
     ensures net { IfOk result (λ next. IsNetOfWidth builder.new next reads.width) }
-    ensures value { IfOk result (λ next. Always builder.new (λ cycle. cycle.net reads.number + one_if (is_raised (cycle.net comes.number)) < 2 ^ reads.width → cycle.net next.number ≡ (cycle.net reads.number + one_if (is_raised (cycle.net comes.number))) - one_if (is_raised (cycle.net valid.number)))) }
+    ensures value { IfOk result (λ next. Always builder.new (λ cycle. cycle.net reads.number
+        + one_if (is_raised (cycle.net comes.number))
+        < 2 ^ reads.width
+        → cycle.net next.number
+        ≡ (cycle.net reads.number + one_if (is_raised (cycle.net comes.number)))
+        - one_if (is_raised (cycle.net valid.number)))) }
     ensures adds { AddsNets 9 builder.old builder.new }
     ensures full { result ≡ Err NetFault.TooManyNets → 2 ^ 20 < length builder.old.lines + 9 }
 {

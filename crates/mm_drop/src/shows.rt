@@ -47,7 +47,8 @@ pub(crate) fn stand(
     requires lanes { from.now.enables.width ≡ word_bytes }
     ensures nets { IfOk result (λ now. AreStandingNets builder.new now) }
     ensures reads { IfOk result (λ now. now.reads ≡ registers.now.reads) }
-    ensures value { IfOk result (λ now. Always builder.new (λ cycle. now_in cycle now ≡ now_of word_bytes (raw_in cycle from.now) (held_in cycle registers.now))) }
+    ensures value { IfOk result (λ now. Always builder.new (λ cycle. now_in cycle now
+        ≡ now_of word_bytes (raw_in cycle from.now) (held_in cycle registers.now))) }
     ensures adds { AddsNets 3 builder.old builder.new }
     ensures full { result ≡ Err NetFault.TooManyNets → 2 ^ 20 < length builder.old.lines + 3 }
 {
@@ -74,7 +75,8 @@ pub(crate) fn shows_below(
     requires room { IsNet builder.old room }
     requires widths { now.now.reads.width ≡ room.width }
     ensures net { IfOk result (λ net. IsBit builder.new net) }
-    ensures value { IfOk result (λ net. Always builder.new (λ cycle. is_raised (cycle.net net.number) ≡ sends (cycle.net room.number) (now_in cycle now.now))) }
+    ensures value { IfOk result (λ net. Always builder.new (λ cycle. is_raised (cycle.net net.number)
+        ≡ sends (cycle.net room.number) (now_in cycle now.now))) }
     ensures adds { AddsNets 7 builder.old builder.new }
     ensures full { result ≡ Err NetFault.TooManyNets → 2 ^ 20 < length builder.old.lines + 7 }
 {
@@ -107,7 +109,9 @@ pub(crate) fn below(
     requires sends { IsBit builder.old sends }
     ensures command { IfOk result (λ made. AreCommandNets builder.new made) }
     ensures widths { IfOk result (λ made. HaveSameWidths made from.now) }
-    ensures value { IfOk result (λ made. Always builder.new (λ cycle. raw_in cycle made ≡ shown_in (is_raised (cycle.net sends.number)) (is_raised (cycle.net acts.number)) (raw_in cycle from.now) (held_in cycle registers.now))) }
+    ensures value { IfOk result (λ made. Always builder.new (λ cycle. raw_in cycle made
+        ≡ shown_in (is_raised (cycle.net sends.number)) (is_raised (cycle.net acts.number)) (raw_in cycle from.now)
+        (held_in cycle registers.now))) }
     ensures adds { AddsNets 12 builder.old builder.new }
     ensures full { result ≡ Err NetFault.TooManyNets → 2 ^ 20 < length builder.old.lines + 12 }
 {

@@ -39,7 +39,8 @@ pub record IsBegun (plan : PlanTable) (netlist : Netlist) (number : ℕ) (begun 
   pub routes : begun.routes ≡ routes_of plan.system number
   pub trunk : IsTrunk netlist begun.port (length begun.routes) begun.trunk
   -- the reads are bounded next to the host unless its only agent bounds them
-  pub bounds : is_unbounded begun.trunk.host.reads ≡ (reads_words begun.port && needs_no_count plan number begun.routes begun.trunk.host.command.address.width)
+  pub bounds : is_unbounded begun.trunk.host.reads
+      ≡ (reads_words begun.port && needs_no_count plan number begun.routes begun.trunk.host.command.address.width)
   pub forward : RouteForward begun.routes number begun.trunk.host.command begun.commands.items begun.trunk.route netlist
   pub commands : AreCommandsOf netlist (widths_below begun.trunk.host.command 4) begun.commands.items
 
@@ -73,7 +74,8 @@ pub record HaveBegun (plan : PlanTable) (old now : Netlist) (ends : List HostEnd
   pub newly : WaitsBeside (IsOfAny begun) old now
 
 -- so many are
-pub record HaveBegunSoFar (plan : PlanTable) (old now : Netlist) (ends : List HostEnd) (begun : List BegunHost) (count : ℕ) : Type 0 where
+pub record HaveBegunSoFar (plan : PlanTable) (old now : Netlist) (ends : List HostEnd) (begun : List BegunHost)
+    (count : ℕ) : Type 0 where
   pub begun_are : HaveBegun plan old now (take count ends) begun
   pub grows : GrowsBy (begun_nets * count) old now
   pub waits : StillWait old now

@@ -11,7 +11,8 @@ use Rattle.memory_sides.specs.declared.route.Route.{Route}
 use Rattle.mm_route.specs.Entries.{is_lone}
 use Rattle.mm_width.specs.Pairs.{is_wire_pair}
 
--- how many reads at most the agent has unanswered, where each is of one word: as many as it bears, or one for each cycle until a word comes
+-- how many reads at most the agent has unanswered, where each is of one word: as many as it bears, or one for each cycle until a
+-- word comes
 abbrev pub reads_at : AgentPort → ℕ
 reads_at agent = if agent.readdatavalid then bound_of agent else row_places (agent_side agent)
 

@@ -48,8 +48,10 @@ pub record IsFabric (plan : PlanTable) (netlist : Netlist) (fabric : Fabric) : T
   pub host : (h : ℕ) → h < (memory_system plan).hosts → IsHostPart netlist h (routes_of plan.system h) (fabric.host h)
   pub agent_port : (a : ℕ) → a < (memory_system plan).agents → IsAgentOf plan a (fabric.agent a).port
   pub agent : (a : ℕ) → a < (memory_system plan).agents → IsAgentPart netlist plan.system.stages (fabric.agent a)
-  pub seats : (a : ℕ) → a < (memory_system plan).agents → seats_from (askers_of (fabric.agent a).seats) ≡ seats_of (memory_system plan) a
-  pub joined : (h a : ℕ) → h < (memory_system plan).hosts → a < (memory_system plan).agents → IsTrue (is_joined (memory_system plan) a h) → AreJoined netlist h a (fabric.host h) (fabric.agent a)
+  pub seats : (a : ℕ) → a < (memory_system plan).agents
+      → seats_from (askers_of (fabric.agent a).seats) ≡ seats_of (memory_system plan) a
+  pub joined : (h a : ℕ) → h < (memory_system plan).hosts → a < (memory_system plan).agents
+      → IsTrue (is_joined (memory_system plan) a h) → AreJoined netlist h a (fabric.host h) (fabric.agent a)
 
 -- ---- what a run shows
 
@@ -72,4 +74,5 @@ seen_in plan fabric run = record {
 -- with registers and memories as in `state` the parts can show this moment
 abbrev pub FabricShows : PlanTable → Netlist → Fabric → Cycle → Moment → Type 0
 FabricShows plan netlist fabric state moment =
-    (cycle : Cycle) × IsValuation netlist cycle × SameState netlist state cycle × (moment ≡ moment_in (seen_in plan fabric (standing_still cycle)) 0)
+    (cycle : Cycle) × IsValuation netlist cycle × SameState netlist state cycle
+    × (moment ≡ moment_in (seen_in plan fabric (standing_still cycle)) 0)

@@ -30,7 +30,8 @@ pub record IsAgentEnd (plan : PlanTable) (netlist : Netlist) (begun : List Begun
 -- those of the agents from this number on
 abbrev pub AreAgentEnds : PlanTable → Netlist → List BegunHost → ℕ → List AgentEnd → Type 0
 AreAgentEnds plan netlist begun number [] = Unit {0}
-AreAgentEnds plan netlist begun number (end ∷ ends) = IsAgentEnd plan netlist begun number end × AreAgentEnds plan netlist begun (number + 1) ends
+AreAgentEnds plan netlist begun number (end ∷ ends) =
+    IsAgentEnd plan netlist begun number end × AreAgentEnds plan netlist begun (number + 1) ends
 
 -- ---- what is made
 
@@ -43,7 +44,8 @@ pub record IsJoined (plan : PlanTable) (netlist : Netlist) (begun : List BegunHo
 
 abbrev pub AreJoinedFrom : PlanTable → Netlist → List BegunHost → ℕ → List AgentPart → Type 0
 AreJoinedFrom plan netlist begun number [] = Unit {0}
-AreJoinedFrom plan netlist begun number (part ∷ parts) = IsJoined plan netlist begun number part × AreJoinedFrom plan netlist begun (number + 1) parts
+AreJoinedFrom plan netlist begun number (part ∷ parts) =
+    IsJoined plan netlist begun number part × AreJoinedFrom plan netlist begun (number + 1) parts
 
 abbrev pub end_of : AgentPart → AgentEnd
 end_of part = record { port = part.port; nets = part.nets }
@@ -65,10 +67,12 @@ abbrev pub links_below : SystemTable → ℕ → ℕ
 links_below system count = count_by (λ link. nat_lt link.agent_number count) (memory_connections system)
 
 -- so many agents are joined
-pub record AreJoinedSoFar (plan : PlanTable) (old now : Netlist) (begun : List BegunHost) (ends : List AgentEnd) (parts : List AgentPart) (count : ℕ) : Type 0 where
+pub record AreJoinedSoFar (plan : PlanTable) (old now : Netlist) (begun : List BegunHost) (ends : List AgentEnd)
+    (parts : List AgentPart) (count : ℕ) : Type 0 where
   pub ends_are : map end_of parts ≡ take count ends
   pub each : AreJoinedFrom plan now begun 0 parts
-  pub grows : GrowsInMemory (most_agent_nets * count + link_nets * links_below plan.system count) (most_memories count (links_below plan.system count)) old now
+  pub grows : GrowsInMemory (most_agent_nets * count + link_nets * links_below plan.system count)
+      (most_memories count (links_below plan.system count)) old now
   pub waits : StillWait old now
   pub no_more_wait : StillWait now old
   pub waits_for_write : StillWaitForWrite old now

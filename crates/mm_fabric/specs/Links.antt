@@ -17,7 +17,8 @@ use Rattle.memory_plans.specs.Maps.{IsHostOf, IsAgentOf, HasHost, HasAgent, Join
 use Rattle.mm_fabric.specs.Askers.{MayAsk}
 use Rattle.mm_fabric.specs.Asks.{asking}
 
--- a link joins this host to this agent, which may meet: the host has a route there, and its range holds the agent's span and a word of its own
+-- a link joins this host to this agent, which may meet: the host has a route there, and its range holds the agent's span and a
+-- word of its own
 pub record HasLinkBetween (plan : PlanTable) (host agent : ℕ) : Type 0 where
   pub link : MemoryConnection
   pub place : ℕ
@@ -37,7 +38,8 @@ pub record IsLinkedHost (plan : PlanTable) (host : ℕ) : Type 0 where
   pub ports : HasHost plan host
   pub some : 1 ≤ length (routes_of plan.system host)
   pub few : length (routes_of plan.system host) ≤ 32
-  pub links : (k : ℕ) (route : Route) → slice_get (routes_of plan.system host) k ≡ Some route → HasLinkBetween plan host route.agent
+  pub links : (k : ℕ) (route : Route) → slice_get (routes_of plan.system host) k ≡ Some route
+      → HasLinkBetween plan host route.agent
 
 -- the agent has ports that fit the tables, and 1 to 16 hosts may ask it, each along a link
 pub record IsLinkedAgent (plan : PlanTable) (agent : ℕ) : Type 0 where

@@ -54,7 +54,8 @@ pub record IsHostPart (netlist : Netlist) (number : ℕ) (routes : List Route) (
   pub agents : map (λ (w : Way). w.agent) part.ways ≡ map (λ (r : Route). r.agent) routes
   pub route_registers : (n : ℕ) → owned_by_route part.route n → IsRegister netlist n
   pub route : RouteForward routes number part.held.command (commands_below part.ways) part.route netlist
-  pub route_runs : RunsAsMachine netlist routes number part.held.command (commands_below part.ways) (room_bits part.port) (backs_below part.ways) part.wait part.answer
+  pub route_runs : RunsAsMachine netlist routes number part.held.command (commands_below part.ways) (room_bits part.port)
+      (backs_below part.ways) part.wait part.answer
 
 -- ---- next to an agent
 
@@ -88,7 +89,8 @@ pub record IsAgentPart (netlist : Netlist) (stages : ℕ) (part : AgentPart) : T
   pub runs : RunsAsAgent netlist part.port part.nets part.command part.made
   pub arbiter_registers : (n : ℕ) → owned_by_arbiter part.arbiter n → IsRegister netlist n
   pub chosen : ArbiterForward (askers_of part.seats) (commands_above part.seats) part.asked part.arbiter netlist
-  pub turns : RunsAsArbiter netlist (askers_of part.seats) (commands_above part.seats) part.asked part.told (backs_above part.seats)
+  pub turns : RunsAsArbiter netlist (askers_of part.seats) (commands_above part.seats) part.asked part.told
+      (backs_above part.seats)
   pub stages_run : RunsAsStages netlist stages part.asked part.told part.command (below_of part)
   pub stages_ignore : IgnoresInLonger netlist part.asked part.command
   -- the same nets above and below where there is no stage
@@ -96,8 +98,10 @@ pub record IsAgentPart (netlist : Netlist) (stages : ℕ) (part : AgentPart) : T
 
 -- ---- between them
 
--- the links of a host and an agent lead from the host's command to a seat. Where none is needed the nets are the same, but for zeros over an address
+-- the links of a host and an agent lead from the host's command to a seat. Where none is needed the nets are the same, but for
+-- zeros over an address
 pub record Meets (netlist : Netlist) (host : HostPort) (agent : AgentPort) (command : CommandNets) (seat : Seat) : Type 0 where
   pub runs : WidthInLonger host agent netlist command seat.told.wait seat.told.answer seat.command seat.back.wait seat.back.answer
   pub ignores : IgnoresInLonger netlist command seat.command
-  pub wire : is_wire_pair host agent ≡ true → Always netlist (λ cycle. raw_in cycle seat.command ≡ raw_in cycle command) × (seat.back ≡ seat.told)
+  pub wire : is_wire_pair host agent ≡ true
+      → Always netlist (λ cycle. raw_in cycle seat.command ≡ raw_in cycle command) × (seat.back ≡ seat.told)

@@ -34,7 +34,8 @@ pub record IsRowOf (netlist : Netlist) (agent : AgentPort) (stages : ℕ) (askin
   pub from : row.from ≡ asking.command
 
 -- and lead to this command, with words of the agent
-pub record LeadsBelow (netlist : Netlist) (agent : AgentPort) (stages : ℕ) (asking : Asking) (row : BegunWidth) (below : CommandNets) : Type 0 where
+pub record LeadsBelow (netlist : Netlist) (agent : AgentPort) (stages : ℕ) (asking : Asking) (row : BegunWidth)
+    (below : CommandNets) : Type 0 where
   pub row_is : IsRowOf netlist agent stages asking row
   pub nets : AreCommandNets netlist below
   pub is : below ≡ command_below row.from row.to
@@ -44,7 +45,8 @@ pub record LeadsBelow (netlist : Netlist) (agent : AgentPort) (stages : ℕ) (as
   pub wire : is_wire_pair asking.port agent ≡ true → below ≡ asking.command
 
 -- and lead to a seat that shows the beat of the command below, and is told by the arbiter
-pub record LeadsToSeat (netlist : Netlist) (agent : AgentPort) (stages : ℕ) (asking : Asking) (row : BegunWidth) (seat : Seat) : Type 0 where
+pub record LeadsToSeat (netlist : Netlist) (agent : AgentPort) (stages : ℕ) (asking : Asking) (row : BegunWidth)
+    (seat : Seat) : Type 0 where
   pub below : CommandNets
   pub leads : LeadsBelow netlist agent stages asking row below
   pub beat : ShowsBeatOf netlist below seat.command

@@ -15,7 +15,8 @@ abbrev pub command_below : Bool → CommandNets → CommandNets → CommandNets
 command_below several asked to = record to { tag = if several then to.tag else asked.tag }
 
 -- a pipe is begun between these commands
-pub record AreStages (netlist : Netlist) (stages : ℕ) (several : Bool) (asked command : CommandNets) (kept : PipeKept) : Type 0 where
+pub record AreStages (netlist : Netlist) (stages : ℕ) (several : Bool) (asked command : CommandNets)
+    (kept : PipeKept) : Type 0 where
   pub to : CommandNets
   pub begun : IsBegunPipe stages asked to kept netlist
   pub is : command ≡ command_below several asked to

@@ -28,7 +28,8 @@ pub record CanTell (netlist : Netlist) (bits host : ℕ) (parts : List AgentPart
 
 abbrev pub AllCanTell : Netlist → ℕ → ℕ → List AgentPart → List Route → Type 0
 AllCanTell netlist bits host parts [] = Unit {0}
-AllCanTell netlist bits host parts (route ∷ routes) = CanTell netlist bits host parts route × AllCanTell netlist bits host parts routes
+AllCanTell netlist bits host parts (route ∷ routes) =
+    CanTell netlist bits host parts route × AllCanTell netlist bits host parts routes
 
 abbrev pub AllHaveSeats : ℕ → List AgentPart → List Route → Type 0
 AllHaveSeats host parts [] = Unit {0}

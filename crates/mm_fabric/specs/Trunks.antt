@@ -29,11 +29,13 @@ pub record IsTrunk (netlist : Netlist) (port : HostPort) (routes : ℕ) (trunk :
 
 -- ---- what stands lasts. No contract reads these proofs
 
-pub ignores_lasts : (old new : Netlist) (trunk : Trunk) → IgnoresAnswer old trunk.host → Extends old new → IgnoresAnswer new trunk.host
+pub ignores_lasts : (old new : Netlist) (trunk : Trunk) → IgnoresAnswer old trunk.host → Extends old new
+    → IgnoresAnswer new trunk.host
 ignores_lasts old new trunk h e one other v w = h one other (e.valuations one v) (e.valuations other w)
 
 -- so long as its registers wait
-pub trunk_lasts : (old new : Netlist) (port : HostPort) (routes : ℕ) (trunk : Trunk) → IsTrunk old port routes trunk → Extends old new → ((n : ℕ) → owns trunk n → IsWaiting old n → IsWaiting new n) → IsTrunk new port routes trunk
+pub trunk_lasts : (old new : Netlist) (port : HostPort) (routes : ℕ) (trunk : Trunk) → IsTrunk old port routes trunk
+    → Extends old new → ((n : ℕ) → owns trunk n → IsWaiting old n → IsWaiting new n) → IsTrunk new port routes trunk
 trunk_lasts old new port routes trunk h e w = record {
   held = held_lasts old new port trunk.host h.held e;
   ignores = ignores_lasts old new trunk h.ignores e;

@@ -37,7 +37,8 @@ ReachWithin address (command ∷ commands) = (command.address.width ≤ address)
 -- nor one of a count
 abbrev pub AreWithin : ℕ → ℕ → List CommandNets → Type 0
 AreWithin address count [] = Unit {0}
-AreWithin address count (command ∷ commands) = ((command.address.width ≤ address) × (command.count.width ≤ count)) × AreWithin address count commands
+AreWithin address count (command ∷ commands) =
+    ((command.address.width ≤ address) × (command.count.width ≤ count)) × AreWithin address count commands
 
 -- the same beat
 abbrev pub ShowsBeatOf : Netlist → CommandNets → CommandNets → Type 0

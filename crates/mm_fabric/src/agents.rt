@@ -168,14 +168,16 @@ pub(crate) fn join_agent(
     ensures askers { IfOk result (λ part. askers_of part.seats ≡ askers.now) }
     ensures seats { IfOk result (λ part. AllZip (IsSeated builder.new port.now) asking.now part.seats) }
     ensures bounds { IfOk result (BoundsReads builder.new stages) }
-    ensures grows { GrowsInMemory (joined_agent_nets (length askers.now)) (joined_agent_memories (length askers.now)) builder.old builder.new }
+    ensures grows { GrowsInMemory (joined_agent_nets (length askers.now))
+        (joined_agent_memories (length askers.now)) builder.old builder.new }
     ensures waits { StillWait builder.old builder.new }
     ensures no_more_wait { OnOk result (StillWait builder.new builder.old) }
     ensures still_wait_for_write { OnOk result (StillWaitForWrite builder.old builder.new) }
     ensures no_more_wait_for_write { OnOk result (StillWaitForWrite builder.new builder.old) }
 
     // Memory may run out at any net.
-    ensures full { result ≡ Err NetFault.TooManyNets → HasNoRoomFor (joined_agent_nets (length askers.now)) (joined_agent_memories (length askers.now)) builder.old }
+    ensures full { result ≡ Err NetFault.TooManyNets
+        → HasNoRoomFor (joined_agent_nets (length askers.now)) (joined_agent_memories (length askers.now)) builder.old }
 {
     let begun = begin_rows(alloc, builder, port, stages, asking)?;
     let bits = widest(builder, port, &begun.commands);

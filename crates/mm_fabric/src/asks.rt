@@ -31,7 +31,11 @@ pub struct AgentEnd {
 }
 
 /// The hosts of those links that are the agent's.
-fn asking_among(alloc: Global, links: &[MemoryConnection], agent: u8) -> Result<Vec<Asker>, NetFault>
+fn asking_among(
+    alloc: Global,
+    links: &[MemoryConnection],
+    agent: u8,
+) -> Result<Vec<Asker>, NetFault>
     ensures askers { IfOk result (λ askers. askers.items ≡ asking_among agent links.now) }
     ensures full { ¬ (result ≡ Err NetFault.TooManyNets) }
 {
@@ -105,16 +109,20 @@ pub(crate) fn join_hosts(
     ensures port { IfOk result (λ part. part.port ≡ end.now.port) }
     ensures nets { IfOk result (λ part. part.nets ≡ end.now.nets) }
     ensures askers { IfOk result (λ part. askers_of part.seats ≡ asking plan.now.system number) }
-    ensures seats { IfOk result (λ part. AllZip (IsSeatFor builder.new end.now.port number begun.now) (asking plan.now.system number) part.seats) }
+    ensures seats { IfOk result (λ part. AllZip (IsSeatFor builder.new end.now.port number begun.now)
+        (asking plan.now.system number) part.seats) }
     ensures bounds { IfOk result (BoundsReads builder.new plan.now.system.stages) }
-    ensures grows { GrowsInMemory (joined_agent_nets (length (asking plan.now.system number))) (joined_agent_memories (length (asking plan.now.system number))) builder.old builder.new }
+    ensures grows { GrowsInMemory (joined_agent_nets (length (asking plan.now.system number)))
+        (joined_agent_memories (length (asking plan.now.system number))) builder.old builder.new }
     ensures waits { StillWait builder.old builder.new }
     ensures no_more_wait { OnOk result (StillWait builder.new builder.old) }
     ensures still_wait_for_write { OnOk result (StillWaitForWrite builder.old builder.new) }
     ensures no_more_wait_for_write { OnOk result (StillWaitForWrite builder.new builder.old) }
 
     // Memory may run out at any net.
-    ensures full { result ≡ Err NetFault.TooManyNets → HasNoRoomFor (joined_agent_nets (length (asking plan.now.system number))) (joined_agent_memories (length (asking plan.now.system number))) builder.old }
+    ensures full { result ≡ Err NetFault.TooManyNets
+        → HasNoRoomFor (joined_agent_nets (length (asking plan.now.system number)))
+        (joined_agent_memories (length (asking plan.now.system number))) builder.old }
 {
     plan.well_made();
     let askers = asking_among(alloc, plan.memory_connections(), number)?;

@@ -40,14 +40,19 @@ pub fn emit_fabric(
     ensures parts { IfOk result (AreParts plan.now builder.new) }
     ensures hosts { IfOk result (λ parts. map host_end_of parts.hosts ≡ hosts.now) }
     ensures agents { IfOk result (λ parts. map agent_end_of parts.agents ≡ agents.now) }
-    ensures grows { GrowsInMemory (fabric_nets (length hosts.now) (length agents.now) (length (memory_connections plan.now.system))) (fabric_memories (length hosts.now) (length agents.now) (length (memory_connections plan.now.system))) builder.old builder.new }
+    ensures grows { GrowsInMemory
+        (fabric_nets (length hosts.now) (length agents.now) (length (memory_connections plan.now.system)))
+        (fabric_memories (length hosts.now) (length agents.now)
+        (length (memory_connections plan.now.system))) builder.old builder.new }
     ensures waits { StillWait builder.old builder.new }
     ensures no_more_wait { OnOk result (StillWait builder.new builder.old) }
     ensures still_wait_for_write { OnOk result (StillWaitForWrite builder.old builder.new) }
     ensures no_more_wait_for_write { OnOk result (StillWaitForWrite builder.new builder.old) }
 
     // Memory may run out at any net.
-    ensures full { result ≡ Err NetFault.TooManyNets → HasNoRoomFor (fabric_nets (length hosts.now) (length agents.now) (length (memory_connections plan.now.system))) (fabric_memories (length hosts.now) (length agents.now) (length (memory_connections plan.now.system))) builder.old }
+    ensures full { result ≡ Err NetFault.TooManyNets
+        → HasNoRoomFor (fabric_nets (length hosts.now) (length agents.now) (length (memory_connections plan.now.system)))
+        (fabric_memories (length hosts.now) (length agents.now) (length (memory_connections plan.now.system))) builder.old }
 {
     plan.well_made();
     plan.is_within_limits();

@@ -35,7 +35,8 @@ pub fn finish_hosts(
     ensures no_more_wait_for_write { OnOk result (StillWaitForWrite builder.new builder.old) }
 
     // Memory may run out at any net.
-    ensures full { result ≡ Err NetFault.TooManyNets → HasNoRoomFor (finished_nets * length begun.now) (length begun.now) builder.old }
+    ensures full { result ≡ Err NetFault.TooManyNets
+        → HasNoRoomFor (finished_nets * length begun.now) (length begun.now) builder.old }
 {
     let mut hosts = List::new(alloc);
     for number in 0..begun.len() {

@@ -68,8 +68,11 @@ pub(crate) fn finish_host_part(
     requires routes { length backs.now ≡ length routes.now }
     requires commands { length commands.now ≡ length routes.now }
     requires backs { AreBackNets builder.old (port.now.word_bytes * 8) backs.now }
-    requires bounded { is_unbounded trunk.now.host.reads ≡ true → IsBoundedRoute builder.old routes.now trunk.now.host.command commands.now backs.now }
-    ensures part { IfOk result (λ part. (number : ℕ) → RouteForward routes.now number trunk.now.host.command commands.now trunk.now.route builder.old → IsHostPart builder.new number routes.now part) }
+    requires bounded { is_unbounded trunk.now.host.reads ≡ true
+        → IsBoundedRoute builder.old routes.now trunk.now.host.command commands.now backs.now }
+    ensures part { IfOk result (λ part. (number : ℕ)
+        → RouteForward routes.now number trunk.now.host.command commands.now trunk.now.route builder.old
+        → IsHostPart builder.new number routes.now part) }
     ensures port { IfOk result (λ part. part.port ≡ port.now) }
     ensures nets { IfOk result (λ part. part.held.nets ≡ trunk.now.host.nets) }
     ensures ways { IfOk result (λ part. AreWaysOf routes.now commands.now backs.now part.ways) }

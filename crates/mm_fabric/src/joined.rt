@@ -30,14 +30,17 @@ pub fn join_agents(
     requires ends { AreAgentEnds plan.now builder.old begun.now 0 ends.now }
     ensures ends { IfOk result (λ parts. map end_of parts ≡ ends.now) }
     ensures parts { IfOk result (AreJoinedFrom plan.now builder.new begun.now 0) }
-    ensures grows { GrowsInMemory (most_agent_nets * length ends.now + link_nets * length (memory_connections plan.now.system)) (most_memories (length ends.now) (length (memory_connections plan.now.system))) builder.old builder.new }
+    ensures grows { GrowsInMemory (most_agent_nets * length ends.now + link_nets * length (memory_connections plan.now.system))
+        (most_memories (length ends.now) (length (memory_connections plan.now.system))) builder.old builder.new }
     ensures waits { StillWait builder.old builder.new }
     ensures no_more_wait { OnOk result (StillWait builder.new builder.old) }
     ensures still_wait_for_write { OnOk result (StillWaitForWrite builder.old builder.new) }
     ensures no_more_wait_for_write { OnOk result (StillWaitForWrite builder.new builder.old) }
 
     // Memory may run out at any net.
-    ensures full { result ≡ Err NetFault.TooManyNets → HasNoRoomFor (most_agent_nets * length ends.now + link_nets * length (memory_connections plan.now.system)) (most_memories (length ends.now) (length (memory_connections plan.now.system))) builder.old }
+    ensures full { result ≡ Err NetFault.TooManyNets
+        → HasNoRoomFor (most_agent_nets * length ends.now + link_nets * length (memory_connections plan.now.system))
+        (most_memories (length ends.now) (length (memory_connections plan.now.system))) builder.old }
 {
     plan.is_within_limits();
     let mut parts = List::new(alloc);

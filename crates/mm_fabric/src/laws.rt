@@ -1,4 +1,5 @@
-//! What the links of every plan give the parts between its hosts and agents. The functions do nothing; their contracts are the laws.
+//! What the links of every plan give the parts between its hosts and agents. The functions do nothing; their contracts are the
+//! laws.
 
 ghost use Rattle.std.specs.Prelude.{◌*◌, ◌≤◌, length};
 ghost use Rattle.address_map.specs.Maps.{agents_of};

@@ -1,4 +1,5 @@
-//! What stands between the hosts and agents of a plan where an agent may have several hosts: each agent stands behind its arbiter.
+//! What stands between the hosts and agents of a plan where an agent may have several hosts: each agent stands behind its
+//! arbiter.
 #![tactic(auto)]
 
 mod agents;

@@ -36,9 +36,11 @@ pub(crate) fn begin_rows(
 ) -> Result<BegunRows, NetFault>
     requires stages { stages ≤ 4 }
     requires asking { AllByRecursion (MayLead builder.old port.now) asking.now }
-    ensures rows { IfOk result (λ begun. AllThree (LeadsBelow builder.new port.now stages) asking.now begun.rows.items begun.commands.items) }
+    ensures rows { IfOk result (λ begun. AllThree
+        (LeadsBelow builder.new port.now stages) asking.now begun.rows.items begun.commands.items) }
     ensures begun { IfOk result (λ begun. AreBegunWidths begun.rows.items builder.new) }
-    ensures grows { GrowsInMemory (width_command_nets * length asking.now) (width_memories * length asking.now) builder.old builder.new }
+    ensures grows { GrowsInMemory (width_command_nets * length asking.now)
+        (width_memories * length asking.now) builder.old builder.new }
     ensures waits { StillWait builder.old builder.new }
     ensures newly { IfOk result (λ begun. WaitsBeside (IsOfRows begun.rows.items) builder.old builder.new) }
 
@@ -49,7 +51,8 @@ pub(crate) fn begin_rows(
 
     // Nor a memory of theirs.
     ensures memories_apart { IfOk result (λ begun. (m : ℕ) → IsStoredByRows begun.rows.items m → ¬ WaitsForWrite builder.old m) }
-    ensures full { result ≡ Err NetFault.TooManyNets → HasNoRoomFor (width_command_nets * length asking.now) (width_memories * length asking.now) builder.old }
+    ensures full { result ≡ Err NetFault.TooManyNets
+        → HasNoRoomFor (width_command_nets * length asking.now) (width_memories * length asking.now) builder.old }
 {
     let _types: Option<KeptByGather> = None;
     let mut rows = Vec::new(alloc);
@@ -80,7 +83,8 @@ pub(crate) fn finish_rows(
     ensures grows { GrowsInMemory (width_answer_nets * length asking.now) 0 builder.old builder.new }
     ensures waits { (n : ℕ) → ¬ IsOfRows rows.items n → IsWaiting builder.old n → IsWaiting builder.new n }
     ensures no_more_wait { OnOk result (WaitsWithout (IsOfRows rows.items) builder.old builder.new) }
-    ensures still_wait_for_write { OnOk result ((m : ℕ) → ¬ IsStoredByRows rows.items m → WaitsForWrite builder.old m → WaitsForWrite builder.new m) }
+    ensures still_wait_for_write { OnOk result
+        ((m : ℕ) → ¬ IsStoredByRows rows.items m → WaitsForWrite builder.old m → WaitsForWrite builder.new m) }
     ensures written { OnOk result (WriteWaitsWithout (IsStoredByRows rows.items) builder.old builder.new) }
     ensures full { result ≡ Err NetFault.TooManyNets → 2 ^ 20 < length builder.old.lines + width_answer_nets * length asking.now }
 {

@@ -104,7 +104,8 @@ pub(crate) fn finish_stages(
     ensures told { IfOk result (λ told. AreBelowNets builder.new told made.now.answer_tag.width made.now.answer.word.width) }
     ensures alone { IfOk result (λ told. several ≡ false → told.tag ≡ made.now.answer_tag) }
     ensures machine { IfOk result (λ told. (asked command : CommandNets) → AreStages builder.old stages several asked command kept
-        → (several ≡ false → BearsOneTag builder.old asked × (made.now.answer_tag ≡ asked.tag)) → RunsAsStages builder.new stages asked told command (told_by made.now)) }
+        → (several ≡ false → BearsOneTag builder.old asked × (made.now.answer_tag ≡ asked.tag))
+        → RunsAsStages builder.new stages asked told command (told_by made.now)) }
     ensures no_stage { IfOk result (λ told. stages ≡ 0 → told ≡ told_by made.now) }
     ensures grows { GrowsBy (25 * stages) builder.old builder.new }
     ensures waits { (n : ℕ) → ¬ owns kept n → IsWaiting builder.old n → IsWaiting builder.new n }

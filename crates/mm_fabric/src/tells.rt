@@ -86,7 +86,8 @@ pub(crate) fn finish_begun(
     ensures no_more_wait_for_write { OnOk result (StillWaitForWrite builder.new builder.old) }
 
     // Memory may run out at any net.
-    ensures full { result ≡ Err NetFault.TooManyNets → HasNoRoomFor (backward_nets (length begun.now.routes) + 171) 1 builder.old }
+    ensures full { result ≡ Err NetFault.TooManyNets
+        → HasNoRoomFor (backward_nets (length begun.now.routes) + 171) 1 builder.old }
 {
     let routes = begun.routes.as_slice();
     let backs = backs_for(alloc, parts, routes, number)?;

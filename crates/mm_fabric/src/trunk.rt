@@ -60,7 +60,8 @@ fn room_bits(port: &HostPort) -> u8
     }
 }
 
-/// Makes the commands of a host for its routes, in their order. `bounded`: the agents never let 16 reads of one word go unanswered.
+/// Makes the commands of a host for its routes, in their order. `bounded`: the agents never let 16 reads of one word go
+/// unanswered.
 ///
 /// After an error the builder is to be dropped: registers may stand in it that wait.
 pub(crate) fn begin_trunk(
@@ -87,7 +88,8 @@ pub(crate) fn begin_trunk(
     ensures grows { GrowsBy (51 + forward_nets (length routes.now)) builder.old builder.new }
     ensures waits { StillWait builder.old builder.new }
     ensures newly { IfOk result (λ p. WaitsBeside (owns p.1) builder.old builder.new) }
-    ensures full { result ≡ Err NetFault.TooManyNets → 2 ^ 20 < length builder.old.lines + (51 + forward_nets (length routes.now)) }
+    ensures full { result ≡ Err NetFault.TooManyNets
+        → 2 ^ 20 < length builder.old.lines + (51 + forward_nets (length routes.now)) }
 {
     let host = emit_host(builder, port, nets, bounded)?;
     let (commands, route) = emit_route(
@@ -123,7 +125,8 @@ pub(crate) fn finish_trunk(
         → RunsAsMachine builder.new entries host command commands (room_bits port.now) backs.now told.wait told.answer) }
     ensures lone { IfOk result (λ told. (entries : List Route) (host : ℕ) (command : CommandNets) (commands : List CommandNets)
         → RouteForward entries host command commands trunk.now.route builder.old
-        → is_lone entries command.address.width ≡ true → RunsAsWire builder.new trunk.now.route command commands backs.now told.wait told.answer) }
+        → is_lone entries command.address.width ≡ true
+        → RunsAsWire builder.new trunk.now.route command commands backs.now told.wait told.answer) }
     ensures registers { (n : ℕ) → owns trunk.now n → IsRegister builder.new n }
     ensures grows { GrowsInMemory (backward_nets (length backs.now) + 171) 1 builder.old builder.new }
     ensures waits { (n : ℕ) → ¬ owns trunk.now n → IsWaiting builder.old n → IsWaiting builder.new n }

@@ -61,16 +61,21 @@ pub record TakesWidths (s : Gather) (widths : Widths) : Type 0 where
   pub reach : s.wide_bytes ≤ 2 ^ widths.address
 
 abbrev pub given_widths : Gather → Widths → Widths
-given_widths s widths = record { address = widths.address; word = s.wide_bytes * 8; enables = s.wide_bytes; count = 1; tag = widths.tag }
+given_widths s widths =
+    record { address = widths.address; word = s.wide_bytes * 8; enables = s.wide_bytes; count = 1; tag = widths.tag }
 
 -- the nets of the wide beat, as numbers
 pub record IsSentBeat (netlist : Netlist) (from to : CommandNets) (shut place : NetValue) (lanes : ℕ) : Type 0 where
-  pub read : Always netlist (λ cycle. cycle.net to.read.number ≡ (if is_raised (cycle.net shut.number) then 0 else cycle.net from.read.number))
+  pub read : Always netlist (λ cycle. cycle.net to.read.number
+      ≡ (if is_raised (cycle.net shut.number) then 0 else cycle.net from.read.number))
   pub write : to.write ≡ from.write
   pub address : Always netlist (λ cycle. cycle.net to.address.number ≡ cycle.net from.address.number / 2 ^ lanes * 2 ^ lanes)
-  pub word : (bytes : ℕ) → from.word.width ≡ bytes * 8 → Always netlist (λ cycle. cycle.net to.word.number ≡ repeated bytes (2 ^ place.width) (cycle.net from.word.number))
+  pub word : (bytes : ℕ) → from.word.width ≡ bytes * 8
+      → Always netlist (λ cycle. cycle.net to.word.number ≡ repeated bytes (2 ^ place.width) (cycle.net from.word.number))
   pub enables : Always netlist (λ cycle. cycle.net to.enables.number
-      ≡ (spread from.enables.width (cycle.net from.count.number) (cycle.net from.enables.number) * 2 ^ (from.enables.width * cycle.net place.number)) % 2 ^ (from.enables.width * 2 ^ place.width))
+      ≡ (spread from.enables.width (cycle.net from.count.number) (cycle.net from.enables.number)
+      * 2 ^ (from.enables.width * cycle.net place.number)) % 2 ^
+      (from.enables.width * 2 ^ place.width))
   pub count : Always netlist (λ cycle. cycle.net to.count.number ≡ 1)
   pub more : to.more ≡ from.more
   pub tag : to.tag ≡ from.tag
@@ -107,15 +112,21 @@ pub record GatherCommand (s : Gather) (from to : CommandNets) (kept : GatherKept
   pub count_is : kept.count ≡ from.count
   pub more_is : to.more ≡ from.more
   pub tag_is : to.tag ≡ from.tag
-  pub shut : Always netlist (λ cycle. is_raised (cycle.net kept.shut.number) ≡ (not (is_raised (cycle.net from.write.number)) && not (nat_lt (cycle.net kept.held.entries.count.number) s.reads)))
-  pub levels : Always netlist (λ cycle. (raw_in cycle to).levels ≡ silenced (is_raised (cycle.net kept.shut.number)) (gathered (bytes_shape s.narrow_bytes) (bytes_shape s.wide_bytes) (raw_in cycle from).levels))
-  pub place : Always netlist (λ cycle. cycle.net kept.place.number * s.narrow_bytes ≡ offset_in (bytes_shape s.narrow_bytes) (bytes_shape s.wide_bytes) (cycle.net from.address.number))
+  pub shut : Always netlist (λ cycle. is_raised (cycle.net kept.shut.number)
+      ≡ (not (is_raised (cycle.net from.write.number)) && not (nat_lt (cycle.net kept.held.entries.count.number) s.reads)))
+  pub levels : Always netlist (λ cycle. (raw_in cycle to).levels
+      ≡ silenced (is_raised (cycle.net kept.shut.number))
+      (gathered (bytes_shape s.narrow_bytes) (bytes_shape s.wide_bytes) (raw_in cycle from).levels))
+  pub place : Always netlist (λ cycle. cycle.net kept.place.number * s.narrow_bytes
+      ≡ offset_in (bytes_shape s.narrow_bytes) (bytes_shape s.wide_bytes) (cycle.net from.address.number))
   pub held : AreReadsHeld netlist kept.place kept.count (s.wide_bytes * 8) s.reads kept.held
   pub begins : HoldNoReads netlist kept.held
 
 -- after the second call: a word that a read waits for comes, the narrow word that is due goes up, and the queues move
-pub record GatherAnswer (s : Gather) (kept : GatherKept) (wait : NetValue) (answer : AnswerNets) (up : NetValue) (back : AnswerNets) (netlist : Netlist) : Type 0 where
-  pub waits : Always netlist (λ cycle. is_raised (cycle.net up.number) ≡ (is_raised (cycle.net kept.shut.number) || is_raised (cycle.net wait.number)))
+pub record GatherAnswer (s : Gather) (kept : GatherKept) (wait : NetValue) (answer : AnswerNets) (up : NetValue)
+    (back : AnswerNets) (netlist : Netlist) : Type 0 where
+  pub waits : Always netlist (λ cycle. is_raised (cycle.net up.number)
+      ≡ (is_raised (cycle.net kept.shut.number) || is_raised (cycle.net wait.number)))
   pub comes : NetValue
   pub wide : NetValue
   pub asks : NetValue
@@ -125,16 +136,20 @@ pub record GatherAnswer (s : Gather) (kept : GatherKept) (wait : NetValue) (answ
   pub comes_bit : IsBit netlist comes
   pub asks_bit : IsBit netlist asks
   pub last_bit : IsBit netlist last
-  pub comes_is : Always netlist (λ cycle. is_raised (cycle.net comes.number) ≡ (is_raised (cycle.net answer.valid.number) && nat_lt (cycle.net kept.held.words.count.number) (cycle.net kept.held.entries.count.number)))
+  pub comes_is : Always netlist (λ cycle. is_raised (cycle.net comes.number)
+      ≡ (is_raised (cycle.net answer.valid.number)
+      && nat_lt (cycle.net kept.held.words.count.number) (cycle.net kept.held.entries.count.number)))
   pub asks_is : Always netlist (λ cycle. is_raised (cycle.net asks.number) ≡ is_asked cycle kept.read kept.write wait)
   pub shows : Always netlist (λ cycle. cycle.net back.valid.number ∷ cycle.net wide.number ∷ cycle.net back.code.number ∷ []
-      ≡ shown_oldest (held_in cycle kept.held.words) (cycle.net comes.number ∷ cycle.net answer.word.number ∷ cycle.net answer.code.number ∷ []))
+      ≡ shown_oldest (held_in cycle kept.held.words)
+      (cycle.net comes.number ∷ cycle.net answer.word.number ∷ cycle.net answer.code.number ∷ []))
   pub gives : GivesNow netlist s.narrow_bytes kept.place.width kept.held back.valid wide back.word last next
   pub goes_on : ReadsGoOn netlist kept.held kept.place kept.count answer.word answer.code asks comes last next
 
 -- ---- what stands lasts. No contract reads these proofs; the law of the link cites them
 
-pub gather_keeps_lasts : (s : Gather) (kept : GatherKept) (old new : Netlist) → GatherKeeps s kept old → Extends old new → ((n : ℕ) → owns_reads kept.held n → IsWaiting old n → IsWaiting new n)
+pub gather_keeps_lasts : (s : Gather) (kept : GatherKept) (old new : Netlist) → GatherKeeps s kept old → Extends old new
+    → ((n : ℕ) → owns_reads kept.held n → IsWaiting old n → IsWaiting new n)
     → ((m : ℕ) → owns_read_memories kept.held m → WaitsForWrite old m → WaitsForWrite new m) → GatherKeeps s kept new
 gather_keeps_lasts s kept old new h e w v = record {
   is = h.is;
@@ -151,7 +166,8 @@ gather_keeps_lasts s kept old new h e w v = record {
   waits_for_write = λ m o. v m o (h.waits_for_write m o);
 }
 
-pub gather_command_lasts : (s : Gather) (from to : CommandNets) (kept : GatherKept) (old new : Netlist) → GatherCommand s from to kept old → Extends old new → GatherCommand s from to kept new
+pub gather_command_lasts : (s : Gather) (from to : CommandNets) (kept : GatherKept) (old new : Netlist)
+    → GatherCommand s from to kept old → Extends old new → GatherCommand s from to kept new
 gather_command_lasts s from to kept old new h e = record {
   is = h.is;
   ratio = h.ratio;
@@ -171,7 +187,9 @@ gather_command_lasts s from to kept old new h e = record {
   begins = no_reads_last old new kept.held h.begins e;
 }
 
-pub gather_answer_lasts : (s : Gather) (kept : GatherKept) (wait : NetValue) (answer : AnswerNets) (up : NetValue) (back : AnswerNets) (old new : Netlist) → GatherAnswer s kept wait answer up back old → Extends old new → GatherAnswer s kept wait answer up back new
+pub gather_answer_lasts : (s : Gather) (kept : GatherKept) (wait : NetValue) (answer : AnswerNets) (up : NetValue)
+    (back : AnswerNets) (old new : Netlist)
+    → GatherAnswer s kept wait answer up back old → Extends old new → GatherAnswer s kept wait answer up back new
 gather_answer_lasts s kept wait answer up back old new h e = record {
   waits = λ cycle v. h.waits cycle (e.valuations cycle v);
   comes = h.comes;

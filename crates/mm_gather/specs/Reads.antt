@@ -63,17 +63,24 @@ pub record HoldNoReads (netlist : Netlist) (held : HeldReads) : Type 0 where
 
 -- ---- in a cycle
 
--- of the oldest word, which is there where `full` is high, the narrow word that is given now: `last` where it is the last one, and how many are given then.
+-- of the oldest word, which is there where `full` is high, the narrow word that is given now: `last` where it is the last one,
+-- and how many are given then.
 -- `place` and `count` are those of the oldest read
 pub record GivesNow (netlist : Netlist) (bytes places : ℕ) (held : HeldReads) (full wide word last next : NetValue) : Type 0 where
   pub place : NetValue
   pub count : NetValue
   pub count_net : IsNetOfWidth netlist count held.given.width
-  pub oldest : Always netlist (λ cycle. 1 ≤ cycle.net held.entries.count.number → (coming : List ℕ) → shown_oldest (held_in cycle held.entries) coming ≡ 1 ∷ cycle.net place.number ∷ cycle.net count.number ∷ [])
-  pub word_is : Always netlist (λ cycle. cycle.net word.number ≡ cycle.net wide.number / 2 ^ (bytes * 8 * ((cycle.net place.number + cycle.net held.given.number % 2 ^ places) % 2 ^ places)) % 2 ^ (bytes * 8))
-  pub last_is : Always netlist (λ cycle. is_raised (cycle.net last.number) ≡ (is_raised (cycle.net full.number) && not (nat_lt ((cycle.net held.given.number + 1) % 2 ^ held.given.width) (cycle.net count.number))))
+  pub oldest : Always netlist (λ cycle. 1 ≤ cycle.net held.entries.count.number → (coming : List ℕ)
+      → shown_oldest (held_in cycle held.entries) coming ≡ 1 ∷ cycle.net place.number ∷ cycle.net count.number ∷ [])
+  pub word_is : Always netlist (λ cycle. cycle.net word.number
+      ≡ cycle.net wide.number / 2 ^
+      (bytes * 8 * ((cycle.net place.number + cycle.net held.given.number % 2 ^ places) % 2 ^ places)) % 2 ^ (bytes * 8))
+  pub last_is : Always netlist (λ cycle. is_raised (cycle.net last.number)
+      ≡ (is_raised (cycle.net full.number)
+      && not (nat_lt ((cycle.net held.given.number + 1) % 2 ^ held.given.width) (cycle.net count.number))))
   pub next_is : Always netlist (λ cycle. cycle.net next.number
-      ≡ (if is_raised (cycle.net last.number) then 0 else if is_raised (cycle.net full.number) then (cycle.net held.given.number + 1) % 2 ^ held.given.width else cycle.net held.given.number))
+      ≡ (if is_raised (cycle.net last.number) then 0 else if is_raised (cycle.net full.number)
+      then (cycle.net held.given.number + 1) % 2 ^ held.given.width else cycle.net held.given.number))
 
 -- ---- from cycle to cycle
 
@@ -85,7 +92,8 @@ pub record ReadsGoOn (netlist : Netlist) (held : HeldReads) (place count word co
 
 -- ---- what stands lasts. No contract reads these proofs
 
-pub reads_last : (old new : Netlist) (place count : NetValue) (bits reads : ℕ) (held : HeldReads) → AreReadsHeld old place count bits reads held → Extends old new → AreReadsHeld new place count bits reads held
+pub reads_last : (old new : Netlist) (place count : NetValue) (bits reads : ℕ) (held : HeldReads)
+    → AreReadsHeld old place count bits reads held → Extends old new → AreReadsHeld new place count bits reads held
 reads_last old new place count bits reads held h e = record {
   entries = queue_lasts old new _ held.entries h.entries e;
   like = h.like;
@@ -106,7 +114,9 @@ no_reads_last old new held h e = record {
   given = λ run cycles r. h.given run cycles (e.runs run cycles r);
 }
 
-pub giving_lasts : (old new : Netlist) (bytes places : ℕ) (held : HeldReads) (full wide word last next : NetValue) → GivesNow old bytes places held full wide word last next → Extends old new → GivesNow new bytes places held full wide word last next
+pub giving_lasts : (old new : Netlist) (bytes places : ℕ) (held : HeldReads) (full wide word last next : NetValue)
+    → GivesNow old bytes places held full wide word last next → Extends old new
+    → GivesNow new bytes places held full wide word last next
 giving_lasts old new bytes places held full wide word last next h e = record {
   place = h.place;
   count = h.count;
@@ -117,7 +127,9 @@ giving_lasts old new bytes places held full wide word last next h e = record {
   next_is = λ cycle v. h.next_is cycle (e.valuations cycle v);
 }
 
-pub going_lasts : (old new : Netlist) (held : HeldReads) (place count word code asks comes last next : NetValue) → ReadsGoOn old held place count word code asks comes last next → Extends old new → ReadsGoOn new held place count word code asks comes last next
+pub going_lasts : (old new : Netlist) (held : HeldReads) (place count word code asks comes last next : NetValue)
+    → ReadsGoOn old held place count word code asks comes last next → Extends old new
+    → ReadsGoOn new held place count word code asks comes last next
 going_lasts old new held place count word code asks comes last next h e = record {
   enters = steps_last old new held.entries _ asks last h.enters e;
   arrives = steps_last old new held.words _ comes last h.arrives e;

@@ -1,4 +1,5 @@
-//! A gatherer: a read burst that lies in one wide word goes as one beat, whose word is given out again in narrow words, one a cycle.
+//! A gatherer: a read burst that lies in one wide word goes as one beat, whose word is given out again in narrow words, one a
+//! cycle.
 //! Write beats go as through a lane selector. The reads under way wait in one queue, and their words in another. Its law is that
 //! of `gather_is_a_link`.
 
@@ -54,7 +55,9 @@ fn shut_bit(builder: &mut Builder, held: &HeldReads, write: Net) -> Result<Net, 
     requires wide { held.now.entries.bound < 2 ^ held.now.entries.count.width }
     requires write { IsBit builder.old write }
     ensures net { IfOk result (λ shut. IsBit builder.new shut) }
-    ensures value { IfOk result (λ shut. Always builder.new (λ cycle. is_raised (cycle.net shut.number) ≡ (not (is_raised (cycle.net write.number)) && not (nat_lt (cycle.net held.now.entries.count.number) held.now.entries.bound)))) }
+    ensures value { IfOk result (λ shut. Always builder.new (λ cycle. is_raised (cycle.net shut.number)
+        ≡ (not (is_raised (cycle.net write.number))
+        && not (nat_lt (cycle.net held.now.entries.count.number) held.now.entries.bound)))) }
     ensures adds { AddsNets 5 builder.old builder.new }
     ensures full { result ≡ Err NetFault.TooManyNets → 2 ^ 20 < length builder.old.lines + 5 }
 {
@@ -113,7 +116,9 @@ fn comes_now(builder: &mut Builder, held: &HeldReads, valid: Net) -> Result<Net,
     requires widths { held.now.words.count.width ≡ held.now.entries.count.width }
     requires valid { IsBit builder.old valid }
     ensures net { IfOk result (λ comes. IsBit builder.new comes) }
-    ensures value { IfOk result (λ comes. Always builder.new (λ cycle. is_raised (cycle.net comes.number) ≡ (is_raised (cycle.net valid.number) && nat_lt (cycle.net held.now.words.count.number) (cycle.net held.now.entries.count.number)))) }
+    ensures value { IfOk result (λ comes. Always builder.new (λ cycle. is_raised (cycle.net comes.number)
+        ≡ (is_raised (cycle.net valid.number)
+        && nat_lt (cycle.net held.now.words.count.number) (cycle.net held.now.entries.count.number)))) }
     ensures adds { AddsNets 2 builder.old builder.new }
     ensures full { result ≡ Err NetFault.TooManyNets → 2 ^ 20 < length builder.old.lines + 2 }
 {
@@ -143,12 +148,16 @@ fn shown_word(
     requires words { IsQueueMade builder.old (answer.now.word ∷ answer.now.code ∷ []) held.now.words }
     requires answer { AreAnswerNets builder.old answer.now answer.now.word.width }
     ensures comes { IfOk result (λ shown. IsBit builder.new shown.comes) }
-    ensures comes_is { IfOk result (λ shown. Always builder.new (λ cycle. is_raised (cycle.net shown.comes.number) ≡ (is_raised (cycle.net answer.now.valid.number) && nat_lt (cycle.net held.now.words.count.number) (cycle.net held.now.entries.count.number)))) }
+    ensures comes_is { IfOk result (λ shown. Always builder.new (λ cycle. is_raised (cycle.net shown.comes.number)
+        ≡ (is_raised (cycle.net answer.now.valid.number)
+        && nat_lt (cycle.net held.now.words.count.number) (cycle.net held.now.entries.count.number)))) }
     ensures valid { IfOk result (λ shown. IsBit builder.new shown.valid) }
     ensures wide { IfOk result (λ shown. IsNetOfWidth builder.new shown.wide answer.now.word.width) }
     ensures code { IfOk result (λ shown. IsNetOfWidth builder.new shown.code 2) }
-    ensures shows { IfOk result (λ shown. Always builder.new (λ cycle. cycle.net shown.valid.number ∷ cycle.net shown.wide.number ∷ cycle.net shown.code.number ∷ []
-        ≡ shown_oldest (held_in cycle held.now.words) (cycle.net shown.comes.number ∷ cycle.net answer.now.word.number ∷ cycle.net answer.now.code.number ∷ []))) }
+    ensures shows { IfOk result (λ shown. Always builder.new (λ cycle. cycle.net shown.valid.number ∷ cycle.net shown.wide.number
+        ∷ cycle.net shown.code.number ∷ []
+        ≡ shown_oldest (held_in cycle held.now.words)
+        (cycle.net shown.comes.number ∷ cycle.net answer.now.word.number ∷ cycle.net answer.now.code.number ∷ []))) }
     ensures adds { AddsNets 14 builder.old builder.new }
     ensures full { result ≡ Err NetFault.TooManyNets → 2 ^ 20 < length builder.old.lines + 14 }
 {

@@ -32,7 +32,8 @@ fn low_word(builder: &mut Builder, bit: Net, lanes: u8) -> Result<Net, NetFault>
     requires some { 1 ≤ lanes }
     requires few { lanes ≤ 128 }
     ensures net { IfOk result (λ made. IsNetOfWidth builder.new made lanes) }
-    ensures value { IfOk result (λ made. Always builder.new (λ cycle. cycle.net made.number ≡ 2 ^ (lanes * cycle.net bit.number) - 1)) }
+    ensures value { IfOk result (λ made. Always builder.new (λ cycle. cycle.net made.number
+        ≡ 2 ^ (lanes * cycle.net bit.number) - 1)) }
     ensures adds { AddsNets 4 builder.old builder.new }
     ensures full { result ≡ Err NetFault.TooManyNets → 2 ^ 20 < length builder.old.lines + 4 }
 {
@@ -49,7 +50,8 @@ fn more_words(builder: &mut Builder, top: Net, low: Net, lanes: u8) -> Result<Ne
     requires some { 1 ≤ lanes }
     requires few { low.width + (low.width + lanes) ≤ 128 }
     ensures net { IfOk result (λ made. IsNetOfWidth builder.new made (low.width + (low.width + lanes))) }
-    ensures value { IfOk result (λ made. Always builder.new (λ cycle. cycle.net made.number ≡ (cycle.net low.number + 1) * 2 ^ ((low.width + lanes) * cycle.net top.number) - 1)) }
+    ensures value { IfOk result (λ made. Always builder.new (λ cycle. cycle.net made.number
+        ≡ (cycle.net low.number + 1) * 2 ^ ((low.width + lanes) * cycle.net top.number) - 1)) }
     ensures adds { AddsNets 6 builder.old builder.new }
     ensures full { result ≡ Err NetFault.TooManyNets → 2 ^ 20 < length builder.old.lines + 6 }
 {
@@ -69,7 +71,8 @@ fn low_words(builder: &mut Builder, count: Net, lanes: u8, bits: u8) -> Result<N
     requires lanes { 1 ≤ lanes }
     requires few { lanes * 2 ^ bits ≤ 128 }
     ensures net { IfOk result (λ made. IsNetOfWidth builder.new made (lanes * (2 ^ bits - 1))) }
-    ensures value { IfOk result (λ made. Always builder.new (λ cycle. cycle.net made.number ≡ 2 ^ (lanes * cycle.net count.number) - 1)) }
+    ensures value { IfOk result (λ made. Always builder.new (λ cycle. cycle.net made.number
+        ≡ 2 ^ (lanes * cycle.net count.number) - 1)) }
     ensures adds { AddsNets (8 * bits) builder.old builder.new }
     ensures full { result ≡ Err NetFault.TooManyNets → 2 ^ 20 < length builder.old.lines + 8 * bits }
 {
@@ -90,7 +93,8 @@ fn pushed(builder: &mut Builder, net: Net, by: u8, bit: Net) -> Result<Net, NetF
     requires some { 1 ≤ by }
     requires less { by < net.width }
     ensures net { IfOk result (λ made. IsNetOfWidth builder.new made net.width) }
-    ensures value { IfOk result (λ made. Always builder.new (λ cycle. cycle.net made.number ≡ (cycle.net net.number * 2 ^ (by * cycle.net bit.number)) % 2 ^ net.width)) }
+    ensures value { IfOk result (λ made. Always builder.new (λ cycle. cycle.net made.number
+        ≡ (cycle.net net.number * 2 ^ (by * cycle.net bit.number)) % 2 ^ net.width)) }
     ensures adds { AddsNets 4 builder.old builder.new }
     ensures full { result ≡ Err NetFault.TooManyNets → 2 ^ 20 < length builder.old.lines + 4 }
 {
@@ -117,7 +121,8 @@ fn pushed_to(
     requires within { lanes * 2 ^ bits ≤ net.width }
     requires few { lanes * 2 ^ bits ≤ 128 }
     ensures net { IfOk result (λ made. IsNetOfWidth builder.new made net.width) }
-    ensures value { IfOk result (λ made. Always builder.new (λ cycle. cycle.net made.number ≡ (cycle.net net.number * 2 ^ (lanes * cycle.net place.number)) % 2 ^ net.width)) }
+    ensures value { IfOk result (λ made. Always builder.new (λ cycle. cycle.net made.number
+        ≡ (cycle.net net.number * 2 ^ (lanes * cycle.net place.number)) % 2 ^ net.width)) }
     ensures adds { AddsNets (6 * bits) builder.old builder.new }
     ensures full { result ≡ Err NetFault.TooManyNets → 2 ^ 20 < length builder.old.lines + 6 * bits }
 {
@@ -145,7 +150,10 @@ pub(crate) fn burst_lanes(
     requires some { 1 ≤ places }
     requires few { enables.width * 2 ^ (places + 1) ≤ 128 }
     ensures net { IfOk result (λ made. IsNetOfWidth builder.new made (enables.width * 2 ^ places)) }
-    ensures value { IfOk result (λ made. Always builder.new (λ cycle. cycle.net made.number ≡ (spread enables.width (cycle.net count.number) (cycle.net enables.number) * 2 ^ (enables.width * cycle.net place.number)) % 2 ^ (enables.width * 2 ^ places))) }
+    ensures value { IfOk result (λ made. Always builder.new (λ cycle. cycle.net made.number
+        ≡ (spread enables.width (cycle.net count.number) (cycle.net enables.number)
+        * 2 ^ (enables.width * cycle.net place.number)) % 2 ^
+        (enables.width * 2 ^ places))) }
     ensures adds { AddsNets (15 * places + 10) builder.old builder.new }
     ensures full { result ≡ Err NetFault.TooManyNets → 2 ^ 20 < length builder.old.lines + (15 * places + 10) }
 {

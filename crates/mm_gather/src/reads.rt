@@ -38,7 +38,8 @@ fn hold_words(builder: &mut Builder, bits: u8, reads: u8) -> Result<ItemQueue<2>
     ensures bound { IfOk result (λ queue. queue.bound ≡ reads) }
     ensures starts { IfOk result (λ queue. StartsEmpty builder.new queue) }
     ensures owned { IfOk result (λ queue. AreMadeBetween (owns queue) builder.old builder.new) }
-    ensures owned_memories { IfOk result (λ queue. (m : ℕ) → owns_memories queue m → (length builder.old.memories ≤ m) × (m < length builder.new.memories)) }
+    ensures owned_memories { IfOk result (λ queue. (m : ℕ) → owns_memories queue m
+        → (length builder.old.memories ≤ m) × (m < length builder.new.memories)) }
     ensures grows { GrowsInMemory 9 2 builder.old builder.new }
     ensures still_wait { StillWait builder.old builder.new }
     ensures own_wait { IfOk result (λ queue. (n : ℕ) → owns queue n → IsWaiting builder.new n) }
@@ -46,7 +47,8 @@ fn hold_words(builder: &mut Builder, bits: u8, reads: u8) -> Result<ItemQueue<2>
     ensures still_wait_for_write { StillWaitForWrite builder.old builder.new }
     ensures own_wait_for_write { IfOk result (λ queue. (m : ℕ) → owns_memories queue m → WaitsForWrite builder.new m) }
     ensures newly_written { IfOk result (λ queue. WriteWaitsBeside (owns_memories queue) builder.old builder.new) }
-    ensures full { result ≡ Err NetFault.TooManyNets → (2 ^ 20 < length builder.old.lines + 9) ⊎ (2 ^ 16 < length builder.old.memories + 2) }
+    ensures full { result ≡ Err NetFault.TooManyNets
+        → (2 ^ 20 < length builder.old.lines + 9) ⊎ (2 ^ 16 < length builder.old.memories + 2) }
 {
     let word = constant(builder, bits, 0)?;
     let code = constant(builder, 2, 0)?;
@@ -70,7 +72,8 @@ pub(crate) fn hold_reads(
     ensures held { IfOk result (λ held. AreReadsHeld builder.new place count bits reads held) }
     ensures begins { IfOk result (λ held. HoldNoReads builder.new held) }
     ensures owned { IfOk result (λ held. AreMadeBetween (owns_reads held) builder.old builder.new) }
-    ensures owned_memories { IfOk result (λ held. (m : ℕ) → owns_read_memories held m → (length builder.old.memories ≤ m) × (m < length builder.new.memories)) }
+    ensures owned_memories { IfOk result (λ held. (m : ℕ) → owns_read_memories held m
+        → (length builder.old.memories ≤ m) × (m < length builder.new.memories)) }
     ensures grows { GrowsInMemory 17 4 builder.old builder.new }
     ensures still_wait { StillWait builder.old builder.new }
     ensures own_wait { IfOk result (λ held. (n : ℕ) → owns_reads held n → IsWaiting builder.new n) }
@@ -78,7 +81,8 @@ pub(crate) fn hold_reads(
     ensures still_wait_for_write { StillWaitForWrite builder.old builder.new }
     ensures own_wait_for_write { IfOk result (λ held. (m : ℕ) → owns_read_memories held m → WaitsForWrite builder.new m) }
     ensures newly_written { IfOk result (λ held. WriteWaitsBeside (owns_read_memories held) builder.old builder.new) }
-    ensures full { result ≡ Err NetFault.TooManyNets → (2 ^ 20 < length builder.old.lines + 17) ⊎ (2 ^ 16 < length builder.old.memories + 4) }
+    ensures full { result ≡ Err NetFault.TooManyNets
+        → (2 ^ 20 < length builder.old.lines + 17) ⊎ (2 ^ 16 < length builder.old.memories + 4) }
 {
     let width = builder.width(count);
     let entries = make_queue(builder, &[place, count], reads)?;
@@ -110,7 +114,8 @@ fn oldest_read(
     requires entries { IsQueueMade builder.old (place ∷ count ∷ []) held.now.entries }
     ensures place { IfOk result (λ made. IsNetOfWidth builder.new made.0 place.width) }
     ensures count { IfOk result (λ made. IsNetOfWidth builder.new made.1 count.width) }
-    ensures value { IfOk result (λ made. Always builder.new (λ cycle. 1 ≤ cycle.net held.now.entries.count.number → (coming : List ℕ)
+    ensures value { IfOk result (λ made. Always builder.new (λ cycle. 1 ≤ cycle.net held.now.entries.count.number
+        → (coming : List ℕ)
         → shown_oldest (held_in cycle held.now.entries) coming ≡ 1 ∷ cycle.net made.0.number ∷ cycle.net made.1.number ∷ [])) }
     ensures adds { AddsNets 8 builder.old builder.new }
     ensures full { result ≡ Err NetFault.TooManyNets → 2 ^ 20 < length builder.old.lines + 8 }
@@ -124,7 +129,8 @@ fn oldest_read(
 fn one_more(builder: &mut Builder, given: Net) -> Result<Net, NetFault>
     requires given { IsNet builder.old given }
     ensures net { IfOk result (λ more. IsNetOfWidth builder.new more given.width) }
-    ensures value { IfOk result (λ more. Always builder.new (λ cycle. cycle.net more.number ≡ (cycle.net given.number + 1) % 2 ^ given.width)) }
+    ensures value { IfOk result (λ more. Always builder.new (λ cycle. cycle.net more.number
+        ≡ (cycle.net given.number + 1) % 2 ^ given.width)) }
     ensures adds { AddsNets 2 builder.old builder.new }
     ensures full { result ≡ Err NetFault.TooManyNets → 2 ^ 20 < length builder.old.lines + 2 }
 {
@@ -141,7 +147,8 @@ fn last_now(builder: &mut Builder, full: Net, more: Net, many: Net) -> Result<Ne
     requires many { IsNet builder.old many }
     requires widths { more.width ≡ many.width }
     ensures net { IfOk result (λ last. IsBit builder.new last) }
-    ensures value { IfOk result (λ last. Always builder.new (λ cycle. is_raised (cycle.net last.number) ≡ (is_raised (cycle.net full.number) && not (nat_lt (cycle.net more.number) (cycle.net many.number))))) }
+    ensures value { IfOk result (λ last. Always builder.new (λ cycle. is_raised (cycle.net last.number)
+        ≡ (is_raised (cycle.net full.number) && not (nat_lt (cycle.net more.number) (cycle.net many.number))))) }
     ensures adds { AddsNets 3 builder.old builder.new }
     ensures full { result ≡ Err NetFault.TooManyNets → 2 ^ 20 < length builder.old.lines + 3 }
 {
@@ -163,7 +170,9 @@ fn next_given(
     requires full { IsBit builder.old full }
     requires last { IsBit builder.old last }
     ensures net { IfOk result (λ next. IsNetOfWidth builder.new next given.width) }
-    ensures value { IfOk result (λ next. Always builder.new (λ cycle. cycle.net next.number ≡ (if is_raised (cycle.net last.number) then 0 else if is_raised (cycle.net full.number) then cycle.net more.number else cycle.net given.number))) }
+    ensures value { IfOk result (λ next. Always builder.new (λ cycle. cycle.net next.number
+        ≡ (if is_raised (cycle.net last.number) then 0 else if is_raised (cycle.net full.number) then cycle.net more.number
+        else cycle.net given.number))) }
     ensures adds { AddsNets 3 builder.old builder.new }
     ensures full { result ≡ Err NetFault.TooManyNets → 2 ^ 20 < length builder.old.lines + 3 }
 {
@@ -192,7 +201,8 @@ fn due_word(
     requires few_bits { width * 2 ^ first.width ≤ 128 }
     ensures net { IfOk result (λ word. IsNetOfWidth builder.new word width) }
     ensures value { IfOk result (λ word. Always builder.new (λ cycle. cycle.net word.number
-        ≡ cycle.net wide.number / 2 ^ (width * ((cycle.net first.number + cycle.net given.number % 2 ^ first.width) % 2 ^ first.width)) % 2 ^ width)) }
+        ≡ cycle.net wide.number / 2 ^
+        (width * ((cycle.net first.number + cycle.net given.number % 2 ^ first.width) % 2 ^ first.width)) % 2 ^ width)) }
     ensures adds { AddsNets 22 builder.old builder.new }
     ensures full { result ≡ Err NetFault.TooManyNets → 2 ^ 20 < length builder.old.lines + 22 }
 {
@@ -281,11 +291,13 @@ pub(crate) fn move_reads(
     requires next { IsNetOfWidth builder.old by.now.next held.now.given.width }
     requires waits { (n : ℕ) → owns_reads held.now n → IsWaiting builder.old n }
     requires waits_for_write { (m : ℕ) → owns_read_memories held.now m → WaitsForWrite builder.old m }
-    ensures goes_on { OnOk result (ReadsGoOn builder.new held.now by.now.place by.now.count by.now.word by.now.code by.now.asks by.now.comes by.now.last by.now.next) }
+    ensures goes_on { OnOk result
+        (ReadsGoOn builder.new held.now by.now.place by.now.count by.now.word by.now.code by.now.asks by.now.comes by.now.last by.now.next) }
     ensures grows { GrowsInMemory 36 0 builder.old builder.new }
     ensures waits { (n : ℕ) → ¬ owns_reads held.now n → IsWaiting builder.old n → IsWaiting builder.new n }
     ensures no_more_wait { OnOk result (WaitsWithout (owns_reads held.now) builder.old builder.new) }
-    ensures still_wait_for_write { (m : ℕ) → ¬ owns_read_memories held.now m → WaitsForWrite builder.old m → WaitsForWrite builder.new m }
+    ensures still_wait_for_write { (m : ℕ) → ¬ owns_read_memories held.now m → WaitsForWrite builder.old m
+        → WaitsForWrite builder.new m }
     ensures no_more_write { OnOk result (WriteWaitsWithout (owns_read_memories held.now) builder.old builder.new) }
     ensures full { result ≡ Err NetFault.TooManyNets → 2 ^ 20 < length builder.old.lines + 36 }
 {

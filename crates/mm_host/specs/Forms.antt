@@ -31,7 +31,20 @@ abbrev pub owns : HeldHost → ℕ → Type 0
 owns held n = owns_reads held.reads n ⊎ owns_writes held.writes n
 
 abbrev pub command_of : Fields → NetValue → NetValue → CommandNets
-command_of fields shown more = record { read = shown; write = fields.write; address = fields.address; word = fields.word; enables = fields.enables; count = fields.count; more = more; tag = fields.tag }
+command_of fields shown more =
+    record {
+      read =
+          shown;
+      write =
+          fields.write;
+      address =
+          fields.address;
+      word = fields.word;
+      enables = fields.enables;
+      count = fields.count;
+      more = more;
+      tag = fields.tag;
+    }
 
 -- what the host alone determines
 abbrev pub fields_of : HeldHost → Fields
@@ -85,9 +98,11 @@ valid_of port valid = if port.readdatavalid then Some valid else None
 
 -- the code of a word that comes, where the host has the port; 0 without a word
 abbrev pub response_in : HostPort → AnswerNets → Cycle → ℕ
-response_in port answer cycle = if port.response && is_raised (cycle.net answer.valid.number) then cycle.net answer.code.number else 0
+response_in port answer cycle =
+    if port.response && is_raised (cycle.net answer.valid.number) then cycle.net answer.code.number else 0
 
-pub record HostGoesOn (netlist : Netlist) (held : HeldHost) (port : HostPort) (wait : NetValue) (answer : AnswerNets) (made : HostAnswer) : Type 0 where
+pub record HostGoesOn (netlist : Netlist) (held : HeldHost) (port : HostPort) (wait : NetValue) (answer : AnswerNets)
+    (made : HostAnswer) : Type 0 where
   pub reads : ReadsGoOn netlist held.read held.command.count held.command.read wait answer.valid made.waitrequest held.reads
   pub writes : WritesGoOn netlist held.command.write wait held.writes
   pub word : made.readdata ≡ answer.word
@@ -96,17 +111,21 @@ pub record HostGoesOn (netlist : Netlist) (held : HeldHost) (port : HostPort) (w
 
 -- the shape of the side below: addresses count bytes, and each lane has its enable
 abbrev pub shape_below : HostPort → Shape
-shape_below port = record { word_bytes = port.word_bytes; unit_bytes = 1; burst_bits = burst_width port.burst_bits; has_enables = true }
+shape_below port =
+    record { word_bytes = port.word_bytes; unit_bytes = 1; burst_bits = burst_width port.burst_bits; has_enables = true }
 
 -- the run has a state with which it is one of the machine of a host
-pub record IsHostRun (port : HostPort) (held : HeldHost) (wait : NetValue) (answer : AnswerNets) (made : HostAnswer) (run : Run) (end : ℕ) : Type 0 where
+pub record IsHostRun (port : HostPort) (held : HeldHost) (wait : NetValue) (answer : AnswerNets) (made : HostAnswer) (run : Run)
+    (end : ℕ) : Type 0 where
   pub state : HostState
-  pub machine : IsHostMachine AreCodes (host_side port) (host_view port held.nets made run) (port_in (shape_below port) run held.command wait answer) state end
+  pub machine : IsHostMachine AreCodes (host_side port) (host_view port held.nets made run)
+      (port_in (shape_below port) run held.command wait answer) state end
 
 -- so is each endless run of each longer netlist
 abbrev pub RunsAsHost : Netlist → HostPort → HeldHost → NetValue → AnswerNets → HostAnswer → Type 0
 RunsAsHost netlist port held wait answer made =
-    (longer : Netlist) → Extends netlist longer → (run : Run) → IsEndlessRun longer run → (end : ℕ) → IsHostRun port held wait answer made run end
+    (longer : Netlist) → Extends netlist longer → (run : Run) → IsEndlessRun longer run → (end : ℕ)
+    → IsHostRun port held wait answer made run end
 
 -- where nothing next to the host bounds its reads, fewer than 16 are unanswered in each cycle before `end`
 abbrev pub IsBoundedBelow : HeldHost → NetValue → AnswerNets → Run → ℕ → Type 0
@@ -120,12 +139,17 @@ RunsAsHostWhile netlist port held wait answer made =
     → IsBoundedBelow held wait answer run end → IsHostRun port held wait answer made run end
 
 -- a host whose reads are bounded next to it runs whatever stands below
-pub bounded_hosts_run : (netlist : Netlist) (port : HostPort) (held : HeldHost) (wait : NetValue) (answer : AnswerNets) (made : HostAnswer) → is_unbounded held.reads ≡ false → RunsAsHostWhile netlist port held wait answer made → RunsAsHost netlist port held wait answer made
-bounded_hosts_run netlist port held wait answer made bounded h longer e run endless end = h longer e run endless end (λ some. absurd (let none = bounded in cc))
+pub bounded_hosts_run : (netlist : Netlist) (port : HostPort) (held : HeldHost) (wait : NetValue) (answer : AnswerNets)
+    (made : HostAnswer)
+    → is_unbounded held.reads ≡ false → RunsAsHostWhile netlist port held wait answer made
+    → RunsAsHost netlist port held wait answer made
+bounded_hosts_run netlist port held wait answer made bounded h longer e run endless end =
+    h longer e run endless end (λ some. absurd (let none = bounded in cc))
 
 -- ---- what stands lasts. No contract reads these proofs; the laws of a host cite them
 
-pub host_lasts : (old new : Netlist) (port : HostPort) (nets : HostNets) → AreHostNets old port nets → Extends old new → AreHostNets new port nets
+pub host_lasts : (old new : Netlist) (port : HostPort) (nets : HostNets) → AreHostNets old port nets → Extends old new
+    → AreHostNets new port nets
 host_lasts old new port nets h e = record {
   address = net_lasts old new nets.address port.address_bits e h.address;
   read = has_lasts old new port.reads 1 nets.read h.read e;
@@ -135,7 +159,8 @@ host_lasts old new port nets h e = record {
   burstcount = has_lasts old new _ (burst_width port.burst_bits) nets.burstcount h.burstcount e;
 }
 
-pub fields_last : (old new : Netlist) (port : HostPort) (made : Fields) → AreFields old port made → Extends old new → AreFields new port made
+pub fields_last : (old new : Netlist) (port : HostPort) (made : Fields) → AreFields old port made → Extends old new
+    → AreFields new port made
 fields_last old new port made h e = record {
   read = net_lasts old new made.read 1 e h.read;
   write = net_lasts old new made.write 1 e h.write;
@@ -147,7 +172,8 @@ fields_last old new port made h e = record {
   tag = net_lasts old new made.tag 1 e h.tag;
 }
 
-pub held_lasts : (old new : Netlist) (port : HostPort) (held : HeldHost) → IsHeld old port held → Extends old new → IsHeld new port held
+pub held_lasts : (old new : Netlist) (port : HostPort) (held : HeldHost) → IsHeld old port held → Extends old new
+    → IsHeld new port held
 held_lasts old new port held h e = record {
   host = host_lasts old new port held.nets h.host e;
   shown = net_lasts old new held.command.read 1 e h.shown;
@@ -159,9 +185,12 @@ held_lasts old new port held h e = record {
   apart = h.apart;
 }
 
-pub goes_on_lasts : (old new : Netlist) (held : HeldHost) (port : HostPort) (wait : NetValue) (answer : AnswerNets) (made : HostAnswer) → HostGoesOn old held port wait answer made → Extends old new → HostGoesOn new held port wait answer made
+pub goes_on_lasts : (old new : Netlist) (held : HeldHost) (port : HostPort) (wait : NetValue) (answer : AnswerNets)
+    (made : HostAnswer)
+    → HostGoesOn old held port wait answer made → Extends old new → HostGoesOn new held port wait answer made
 goes_on_lasts old new held port wait answer made g e = record {
-  reads = reads_go_on old new held.read held.command.count held.command.read wait answer.valid made.waitrequest held.reads g.reads e;
+  reads =
+      reads_go_on old new held.read held.command.count held.command.read wait answer.valid made.waitrequest held.reads g.reads e;
   writes = writes_go_on old new held.command.write wait held.writes g.writes e;
   word = g.word;
   valid = g.valid;

@@ -1,4 +1,5 @@
--- The unanswered reads of a host that reads in bursts: a queue holds their counts, and a register the words that the oldest has got.
+-- The unanswered reads of a host that reads in bursts: a queue holds their counts, and a register the words that the oldest has
+-- got.
 use Rattle.std.specs.Prelude.{◌≡◌, ℕ, ◌+◌, ◌-◌, ◌≤◌, Bool, not, ◌&&◌, ◌||◌, nat_eq, if◌then◌else◌, ◌⊎◌, List, [], ◌∷◌}
 use Rattle.histories.specs.History.{is_raised, one_if}
 use Rattle.netlist.specs.Nets.{NetValue}
@@ -40,7 +41,9 @@ pub record IsOldestAnswered (came some : Bool) (lacks got : ℕ) (last : Bool) (
 abbrev pub AnswersOldest : Netlist → NetValue → NetValue → NetValue → NetValue → NetValue → NetValue → Type 0
 AnswersOldest netlist valid some beats got last next =
     Always netlist (λ cycle. cycle.net got.number ≤ cycle.net beats.number
-    → IsOldestAnswered (is_raised (cycle.net valid.number)) (is_raised (cycle.net some.number)) (cycle.net beats.number - cycle.net got.number) (cycle.net got.number) (is_raised (cycle.net last.number)) (cycle.net next.number))
+    → IsOldestAnswered (is_raised (cycle.net valid.number)) (is_raised (cycle.net some.number))
+    (cycle.net beats.number - cycle.net got.number) (cycle.net got.number) (is_raised (cycle.net last.number))
+    (cycle.net next.number))
 
 -- a queue holds the counts of the unanswered reads: one that is taken comes, and the oldest one goes with its last word
 pub record WordsGoOn (netlist : Netlist) (count unanswered taken valid : NetValue) : Type 0 where
@@ -56,22 +59,26 @@ pub record WordsGoOn (netlist : Netlist) (count unanswered taken valid : NetValu
   pub none_got : StartsLow netlist got
   pub last_bit : IsBit netlist last
   pub some_is : Always netlist (λ cycle. is_raised (cycle.net some.number) ≡ not (nat_eq (cycle.net queue.count.number) 0))
-  pub oldest : Always netlist (λ cycle. 1 ≤ cycle.net queue.count.number → (coming : List ℕ) → shown_oldest (held_in cycle queue) coming ≡ 1 ∷ cycle.net beats.number ∷ [])
+  pub oldest : Always netlist (λ cycle. 1 ≤ cycle.net queue.count.number → (coming : List ℕ)
+      → shown_oldest (held_in cycle queue) coming ≡ 1 ∷ cycle.net beats.number ∷ [])
   pub answered : AnswersOldest netlist valid some beats got last next
   pub steps : StepsQueue netlist queue (count ∷ []) taken last
   pub follows : TakesNext netlist got next
 
 -- a read waits while there is no room; one that is taken comes into the queue
 pub record QueuesOn (netlist : Netlist) (read count shown unanswered full wait valid told : NetValue) : Type 0 where
-  pub tells : Always netlist (λ cycle. is_raised (cycle.net told.number) ≡ ((is_raised (cycle.net full.number) && is_raised (cycle.net read.number)) || is_raised (cycle.net wait.number)))
+  pub tells : Always netlist (λ cycle. is_raised (cycle.net told.number)
+      ≡ ((is_raised (cycle.net full.number) && is_raised (cycle.net read.number)) || is_raised (cycle.net wait.number)))
   pub taken : NetValue
   pub taken_bit : IsBit netlist taken
-  pub takes : Always netlist (λ cycle. is_raised (cycle.net taken.number) ≡ (is_raised (cycle.net shown.number) && not (is_raised (cycle.net wait.number))))
+  pub takes : Always netlist (λ cycle. is_raised (cycle.net taken.number)
+      ≡ (is_raised (cycle.net shown.number) && not (is_raised (cycle.net wait.number))))
   pub words : WordsGoOn netlist count unanswered taken valid
 
 -- ---- what stands lasts. No contract reads these proofs; the laws of the host cite them
 
-pub words_go_on : (old new : Netlist) (count unanswered taken valid : NetValue) → WordsGoOn old count unanswered taken valid → Extends old new → WordsGoOn new count unanswered taken valid
+pub words_go_on : (old new : Netlist) (count unanswered taken valid : NetValue) → WordsGoOn old count unanswered taken valid
+    → Extends old new → WordsGoOn new count unanswered taken valid
 words_go_on old new count unanswered taken valid h e = record {
   queue = h.queue;
   got = h.got;
@@ -91,7 +98,9 @@ words_go_on old new count unanswered taken valid h e = record {
   follows = λ run cycles r. h.follows run cycles (e.runs run cycles r);
 }
 
-pub queue_goes_on : (old new : Netlist) (read count shown unanswered full wait valid told : NetValue) → QueuesOn old read count shown unanswered full wait valid told → Extends old new → QueuesOn new read count shown unanswered full wait valid told
+pub queue_goes_on : (old new : Netlist) (read count shown unanswered full wait valid told : NetValue)
+    → QueuesOn old read count shown unanswered full wait valid told → Extends old new
+    → QueuesOn new read count shown unanswered full wait valid told
 queue_goes_on old new read count shown unanswered full wait valid told h e = record {
   tells = λ cycle v. h.tells cycle (e.valuations cycle v);
   taken = h.taken;

@@ -86,30 +86,42 @@ takes_in cycle shown wait = is_raised (cycle.net shown.number) && not (is_raised
 abbrev pub unanswered_in : Run → NetValue → NetValue → NetValue → ℕ → ℕ
 unanswered_in run shown wait valid zero = 0
 unanswered_in run shown wait valid (suc c) =
-    (unanswered_in run shown wait valid c - one_if (is_raised (run.net c valid.number))) + one_if (takes_in (cycle_of run c) shown wait)
+    (unanswered_in run shown wait valid c - one_if (is_raised (run.net c valid.number)))
+    + one_if (takes_in (cycle_of run c) shown wait)
 
 -- a read waits until its word comes
 pub record AsksOn (netlist : Netlist) (read shown asked wait valid told : NetValue) : Type 0 where
-  pub tells : Always netlist (λ cycle. is_raised (cycle.net told.number) ≡ (if is_raised (cycle.net read.number) then not (is_raised (cycle.net asked.number) && is_raised (cycle.net valid.number)) else is_raised (cycle.net wait.number)))
+  pub tells : Always netlist (λ cycle. is_raised (cycle.net told.number)
+      ≡ (if is_raised (cycle.net read.number) then not (is_raised (cycle.net asked.number) && is_raised (cycle.net valid.number))
+      else is_raised (cycle.net wait.number)))
   pub next : (run : Run) (cycles : ℕ) → IsRun netlist run cycles → (c : ℕ) → c + 1 < cycles
-      → is_raised (run.net (c + 1) asked.number) ≡ ((is_raised (run.net c asked.number) || takes_in (cycle_of run c) shown wait) && not (is_raised (run.net c valid.number)))
+      → is_raised (run.net (c + 1) asked.number)
+      ≡ ((is_raised (run.net c asked.number) || takes_in (cycle_of run c) shown wait)
+      && not (is_raised (run.net c valid.number)))
 
 -- a read waits while 16 are unanswered; the count rises where one is taken, and falls where a word comes
 pub record CountsOn (netlist : Netlist) (read shown unanswered full wait valid told : NetValue) : Type 0 where
-  pub tells : Always netlist (λ cycle. is_raised (cycle.net told.number) ≡ ((is_raised (cycle.net full.number) && is_raised (cycle.net read.number)) || is_raised (cycle.net wait.number)))
-  pub next : (run : Run) (cycles : ℕ) → IsRun netlist run cycles → (c : ℕ) → c + 1 < cycles → run.net c unanswered.number + one_if (takes_in (cycle_of run c) shown wait) < 32
-      → run.net (c + 1) unanswered.number ≡ (run.net c unanswered.number - one_if (is_raised (run.net c valid.number))) + one_if (takes_in (cycle_of run c) shown wait)
+  pub tells : Always netlist (λ cycle. is_raised (cycle.net told.number)
+      ≡ ((is_raised (cycle.net full.number) && is_raised (cycle.net read.number)) || is_raised (cycle.net wait.number)))
+  pub next : (run : Run) (cycles : ℕ) → IsRun netlist run cycles → (c : ℕ) → c + 1 < cycles
+      → run.net c unanswered.number + one_if (takes_in (cycle_of run c) shown wait) < 32
+      → run.net (c + 1) unanswered.number
+      ≡ (run.net c unanswered.number - one_if (is_raised (run.net c valid.number)))
+      + one_if (takes_in (cycle_of run c) shown wait)
 
 abbrev pub ReadsGoOn : Netlist → NetValue → NetValue → NetValue → NetValue → NetValue → NetValue → HeldReads → Type 0
 ReadsGoOn netlist read count shown wait valid told Never = told ≡ wait
 ReadsGoOn netlist read count shown wait valid told (Asks asked) = AsksOn netlist read shown asked wait valid told
-ReadsGoOn netlist read count shown wait valid told (Counts unanswered full) = CountsOn netlist read shown unanswered full wait valid told
-ReadsGoOn netlist read count shown wait valid told (Queues unanswered full) = QueuesOn netlist read count shown unanswered full wait valid told
+ReadsGoOn netlist read count shown wait valid told (Counts unanswered full) =
+    CountsOn netlist read shown unanswered full wait valid told
+ReadsGoOn netlist read count shown wait valid told (Queues unanswered full) =
+    QueuesOn netlist read count shown unanswered full wait valid told
 ReadsGoOn netlist read count shown wait valid told Unbounded = told ≡ wait
 
 -- ---- what stands lasts. No contract reads these proofs; the laws of the host cite them
 
-pub counted_last : (old new : Netlist) (read shown unanswered full : NetValue) → AreCounted old read shown unanswered full → Extends old new → AreCounted new read shown unanswered full
+pub counted_last : (old new : Netlist) (read shown unanswered full : NetValue) → AreCounted old read shown unanswered full
+    → Extends old new → AreCounted new read shown unanswered full
 counted_last old new read shown unanswered full h e = record {
   net = net_lasts old new unanswered 5 e h.net;
   bit = net_lasts old new full 1 e h.bit;
@@ -118,21 +130,31 @@ counted_last old new read shown unanswered full h e = record {
   shows = λ cycle v. h.shows cycle (e.valuations cycle v);
 }
 
-pub reads_last : (old new : Netlist) (port : HostPort) (read shown : NetValue) (held : HeldReads) → AreReadsHeld old port read shown held → Extends old new → AreReadsHeld new port read shown held
-reads_last old new port read shown Never h e = record { kind = h.kind; low = λ cycle v. h.low cycle (e.valuations cycle v); shows = h.shows }
+pub reads_last : (old new : Netlist) (port : HostPort) (read shown : NetValue) (held : HeldReads)
+    → AreReadsHeld old port read shown held → Extends old new → AreReadsHeld new port read shown held
+reads_last old new port read shown Never h e =
+    record { kind = h.kind; low = λ cycle v. h.low cycle (e.valuations cycle v); shows = h.shows }
 reads_last old new port read shown (Asks asked) h e = record {
   kind = h.kind;
   net = net_lasts old new asked 1 e h.net;
   starts = λ run cycles r. h.starts run cycles (e.runs run cycles r);
   shows = λ cycle v. h.shows cycle (e.valuations cycle v);
 }
-reads_last old new port read shown (Counts unanswered full) h e = record { kind = h.kind; words = h.words; counted = counted_last old new read shown unanswered full h.counted e }
-reads_last old new port read shown (Queues unanswered full) h e = record { kind = h.kind; counted = counted_last old new read shown unanswered full h.counted e }
+reads_last old new port read shown (Counts unanswered full) h e =
+    record { kind = h.kind; words = h.words; counted = counted_last old new read shown unanswered full h.counted e }
+reads_last old new port read shown (Queues unanswered full) h e =
+    record { kind = h.kind; counted = counted_last old new read shown unanswered full h.counted e }
 reads_last old new port read shown Unbounded h e = h
 
-pub reads_go_on : (old new : Netlist) (read count shown wait valid told : NetValue) (held : HeldReads) → ReadsGoOn old read count shown wait valid told held → Extends old new → ReadsGoOn new read count shown wait valid told held
+pub reads_go_on : (old new : Netlist) (read count shown wait valid told : NetValue) (held : HeldReads)
+    → ReadsGoOn old read count shown wait valid told held → Extends old new → ReadsGoOn new read count shown wait valid told held
 reads_go_on old new read count shown wait valid told Never h e = h
-reads_go_on old new read count shown wait valid told (Asks asked) h e = record { tells = λ cycle v. h.tells cycle (e.valuations cycle v); next = λ run cycles r. h.next run cycles (e.runs run cycles r) }
-reads_go_on old new read count shown wait valid told (Counts unanswered full) h e = record { tells = λ cycle v. h.tells cycle (e.valuations cycle v); next = λ run cycles r. h.next run cycles (e.runs run cycles r) }
-reads_go_on old new read count shown wait valid told (Queues unanswered full) h e = queue_goes_on old new read count shown unanswered full wait valid told h e
+reads_go_on old new read count shown wait valid told (Asks asked) h e =
+    record
+    { tells = λ cycle v. h.tells cycle (e.valuations cycle v); next = λ run cycles r. h.next run cycles (e.runs run cycles r) }
+reads_go_on old new read count shown wait valid told (Counts unanswered full) h e =
+    record
+    { tells = λ cycle v. h.tells cycle (e.valuations cycle v); next = λ run cycles r. h.next run cycles (e.runs run cycles r) }
+reads_go_on old new read count shown wait valid told (Queues unanswered full) h e =
+    queue_goes_on old new read count shown unanswered full wait valid told h e
 reads_go_on old new read count shown wait valid told Unbounded h e = h

@@ -31,8 +31,10 @@ pub record LacksBeats (netlist : Netlist) (port : HostPort) (write count more : 
   pub left : IsNetOfWidth netlist held.left (burst_width port.burst_bits)
   pub beats : IsNetOfWidth netlist held.beats (burst_width port.burst_bits)
   pub starts : StartsLow netlist held.left
-  pub beats_are : Always netlist (λ cycle. cycle.net held.beats.number ≡ beats_of (cycle.net held.left.number) (cycle.net count.number))
-  pub joins : Always netlist (λ cycle. cycle.net more.number ≡ one_if (is_raised (cycle.net write.number) && not (nat_eq (cycle.net held.beats.number) 1)))
+  pub beats_are : Always netlist (λ cycle. cycle.net held.beats.number
+      ≡ beats_of (cycle.net held.left.number) (cycle.net count.number))
+  pub joins : Always netlist (λ cycle. cycle.net more.number
+      ≡ one_if (is_raised (cycle.net write.number) && not (nat_eq (cycle.net held.beats.number) 1)))
 
 abbrev pub AreWritesHeld : Netlist → HostPort → NetValue → NetValue → NetValue → Option HeldWrites → Type 0
 AreWritesHeld netlist port write count more None = OneBeat netlist write count more
@@ -44,7 +46,9 @@ AreWritesHeld netlist port write count more (Some held) = LacksBeats netlist por
 abbrev pub LacksOn : Netlist → NetValue → NetValue → HeldWrites → Type 0
 LacksOn netlist write wait held =
     (run : Run) (cycles : ℕ) → IsRun netlist run cycles → (c : ℕ) → c + 1 < cycles
-    → run.net (c + 1) held.left.number ≡ (if is_raised (run.net c write.number) && not (is_raised (run.net c wait.number)) then run.net c held.beats.number - 1 else run.net c held.left.number)
+    → run.net (c + 1) held.left.number
+    ≡ (if is_raised (run.net c write.number) && not (is_raised (run.net c wait.number)) then run.net c held.beats.number - 1
+    else run.net c held.left.number)
 
 abbrev pub WritesGoOn : Netlist → NetValue → NetValue → Option HeldWrites → Type 0
 WritesGoOn netlist write wait None = Unit {0}
@@ -52,8 +56,10 @@ WritesGoOn netlist write wait (Some held) = LacksOn netlist write wait held
 
 -- ---- what stands lasts. No contract reads these proofs; the laws of the host cite them
 
-pub writes_last : (old new : Netlist) (port : HostPort) (write count more : NetValue) (held : Option HeldWrites) → AreWritesHeld old port write count more held → Extends old new → AreWritesHeld new port write count more held
-writes_last old new port write count more None h e = record { single = λ cycle v. h.single cycle (e.valuations cycle v); low = λ cycle v. h.low cycle (e.valuations cycle v) }
+pub writes_last : (old new : Netlist) (port : HostPort) (write count more : NetValue) (held : Option HeldWrites)
+    → AreWritesHeld old port write count more held → Extends old new → AreWritesHeld new port write count more held
+writes_last old new port write count more None h e =
+    record { single = λ cycle v. h.single cycle (e.valuations cycle v); low = λ cycle v. h.low cycle (e.valuations cycle v) }
 writes_last old new port write count more (Some held) h e = record {
   left = net_lasts old new held.left (burst_width port.burst_bits) e h.left;
   beats = net_lasts old new held.beats (burst_width port.burst_bits) e h.beats;
@@ -62,6 +68,7 @@ writes_last old new port write count more (Some held) h e = record {
   joins = λ cycle v. h.joins cycle (e.valuations cycle v);
 }
 
-pub writes_go_on : (old new : Netlist) (write wait : NetValue) (held : Option HeldWrites) → WritesGoOn old write wait held → Extends old new → WritesGoOn new write wait held
+pub writes_go_on : (old new : Netlist) (write wait : NetValue) (held : Option HeldWrites) → WritesGoOn old write wait held
+    → Extends old new → WritesGoOn new write wait held
 writes_go_on old new write wait None h e = tt
 writes_go_on old new write wait (Some held) h e = λ run cycles r. h run cycles (e.runs run cycles r)

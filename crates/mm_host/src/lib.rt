@@ -1,4 +1,5 @@
-//! The equations of the part next to a memory-mapped host: byte addresses, a bound of 16 on unanswered reads, and the end of each command.
+//! The equations of the part next to a memory-mapped host: byte addresses, a bound of 16 on unanswered reads, and the end of each
+//! command.
 //!
 //! A command goes on in the cycle in which it is shown: at the byte address of its word, with constants for what the host
 //! lacks (all lanes, a count of 1), and with `more` on each beat of a write burst but the last. A word comes up in its

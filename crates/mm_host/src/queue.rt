@@ -39,7 +39,9 @@ fn count_got(
     requires few { bits ≤ 128 }
     ensures net { IfOk result (λ next. IsNetOfWidth builder.new next bits) }
     ensures value { IfOk result (λ next. Always builder.new (λ cycle. cycle.net got.number + cycle.net lacks.number < 2 ^ bits
-        → cycle.net next.number ≡ (if is_raised (cycle.net last.number) then 0 else cycle.net got.number + one_if (is_raised (cycle.net goes.number) && not (nat_eq (cycle.net lacks.number) 0))))) }
+        → cycle.net next.number
+        ≡ (if is_raised (cycle.net last.number) then 0
+        else cycle.net got.number + one_if (is_raised (cycle.net goes.number) && not (nat_eq (cycle.net lacks.number) 0))))) }
     ensures adds { AddsNets 7 builder.old builder.new }
     ensures full { result ≡ Err NetFault.TooManyNets → 2 ^ 20 < length builder.old.lines + 7 }
 {
@@ -130,7 +132,8 @@ fn hold_words(
     ensures still_wait_for_write { StillWaitForWrite builder.old builder.new }
     ensures own_wait_for_write { IfOk result (λ held. (m : ℕ) → owns_memories held.queue m → WaitsForWrite builder.new m) }
     ensures newly_written { IfOk result (λ held. WriteWaitsBeside (owns_memories held.queue) builder.old builder.new) }
-    ensures full { result ≡ Err NetFault.TooManyNets → (2 ^ 20 < length builder.old.lines + 4) ⊎ (2 ^ 16 < length builder.old.memories + 1) }
+    ensures full { result ≡ Err NetFault.TooManyNets
+        → (2 ^ 20 < length builder.old.lines + 4) ⊎ (2 ^ 16 < length builder.old.memories + 1) }
 {
     let queue = hold_items(builder, &[count], MOST_READS, unanswered)?;
     let got = register(builder, bits)?;
@@ -161,7 +164,8 @@ fn move_words(
     ensures grows { GrowsInMemory 34 0 builder.old builder.new }
     ensures waits { (n : ℕ) → ¬ owns_words held n → IsWaiting builder.old n → IsWaiting builder.new n }
     ensures no_more_wait { OnOk result (WaitsWithout (owns_words held) builder.old builder.new) }
-    ensures still_wait_for_write { (m : ℕ) → ¬ owns_memories held.queue m → WaitsForWrite builder.old m → WaitsForWrite builder.new m }
+    ensures still_wait_for_write { (m : ℕ) → ¬ owns_memories held.queue m → WaitsForWrite builder.old m
+        → WaitsForWrite builder.new m }
     ensures no_more_write { OnOk result (WriteWaitsWithout (owns_memories held.queue) builder.old builder.new) }
     ensures full { result ≡ Err NetFault.TooManyNets → 2 ^ 20 < length builder.old.lines + 34 }
 {
@@ -174,7 +178,8 @@ fn move_words(
     Ok(())
 }
 
-/// Counts the words of reads in bursts: a read that is taken below comes with its count, and the oldest one goes with its last word.
+/// Counts the words of reads in bursts: a read that is taken below comes with its count, and the oldest one goes with its last
+/// word.
 pub(crate) fn count_words(
     builder: &mut Builder,
     port: &HostPort,
@@ -196,7 +201,8 @@ pub(crate) fn count_words(
     ensures no_more_wait { OnOk result (WaitsWithout (λ n. n ≡ unanswered.number) builder.old builder.new) }
     ensures still_wait_for_write { StillWaitForWrite builder.old builder.new }
     ensures no_more_wait_for_write { OnOk result (StillWaitForWrite builder.new builder.old) }
-    ensures full { result ≡ Err NetFault.TooManyNets → (2 ^ 20 < length builder.old.lines + 38) ⊎ (2 ^ 16 < length builder.old.memories + 1) }
+    ensures full { result ≡ Err NetFault.TooManyNets
+        → (2 ^ 20 < length builder.old.lines + 38) ⊎ (2 ^ 16 < length builder.old.memories + 1) }
 {
     let bits = count_bits(port);
     match hold_words(builder, bits, count, unanswered) {

@@ -66,7 +66,8 @@ fn hold_asked(builder: &mut Builder, port: &HostPort, read: Net) -> Result<Shown
 fn are_sixteen(builder: &mut Builder, unanswered: Net) -> Result<Net, NetFault>
     requires unanswered { IsNetOfWidth builder.old unanswered 5 }
     ensures net { IfOk result (λ full. IsBit builder.new full) }
-    ensures value { IfOk result (λ full. Always builder.new (λ cycle. cycle.net full.number ≡ cycle.net unanswered.number / 16 % 2)) }
+    ensures value { IfOk result (λ full. Always builder.new (λ cycle. cycle.net full.number
+        ≡ cycle.net unanswered.number / 16 % 2)) }
     ensures adds { AddsNets 1 builder.old builder.new }
     ensures full { result ≡ Err NetFault.TooManyNets → 2 ^ 20 < length builder.old.lines + 1 }
 {
@@ -155,7 +156,8 @@ fn hold_queue(builder: &mut Builder, port: &HostPort, read: Net) -> Result<Shown
     })
 }
 
-/// Shows the reads of a host below, so far as the registers let them. Reads of one word need none where what stands below bounds them.
+/// Shows the reads of a host below, so far as the registers let them. Reads of one word need none where what stands below bounds
+/// them.
 pub(crate) fn hold_reads(
     builder: &mut Builder,
     port: &HostPort,
@@ -204,8 +206,12 @@ fn next_count(
     requires taken { IsBit builder.old taken }
     requires valid { IsBit builder.old valid }
     ensures net { IfOk result (λ next. IsNetOfWidth builder.new next 5) }
-    ensures value { IfOk result (λ next. Always builder.new (λ cycle. cycle.net unanswered.number + one_if (is_raised (cycle.net taken.number)) < 32
-        → cycle.net next.number ≡ (cycle.net unanswered.number - one_if (is_raised (cycle.net valid.number))) + one_if (is_raised (cycle.net taken.number)))) }
+    ensures value { IfOk result (λ next. Always builder.new (λ cycle. cycle.net unanswered.number
+        + one_if (is_raised (cycle.net taken.number))
+        < 32
+        → cycle.net next.number
+        ≡ (cycle.net unanswered.number - one_if (is_raised (cycle.net valid.number)))
+        + one_if (is_raised (cycle.net taken.number)))) }
     ensures adds { AddsNets 8 builder.old builder.new }
     ensures full { result ≡ Err NetFault.TooManyNets → 2 ^ 20 < length builder.old.lines + 8 }
 {
@@ -229,7 +235,8 @@ fn wait_for_word(
     requires unanswered { IsBit builder.old unanswered }
     requires wait { IsBit builder.old wait }
     ensures net { IfOk result (λ told. IsBit builder.new told) }
-    ensures value { IfOk result (λ told. Always builder.new (λ cycle. cycle.net told.number ≡ (if cycle.net read.number == 0 then cycle.net wait.number else cycle.net unanswered.number))) }
+    ensures value { IfOk result (λ told. Always builder.new (λ cycle. cycle.net told.number
+        ≡ (if cycle.net read.number == 0 then cycle.net wait.number else cycle.net unanswered.number))) }
     ensures adds { AddsNets 1 builder.old builder.new }
     ensures full { result ≡ Err NetFault.TooManyNets → 2 ^ 20 < length builder.old.lines + 1 }
 {
@@ -330,7 +337,8 @@ fn finish_queue(
     ensures no_more_wait { OnOk result (WaitsWithout (λ n. n ≡ unanswered.number) builder.old builder.new) }
     ensures still_wait_for_write { StillWaitForWrite builder.old builder.new }
     ensures no_more_wait_for_write { OnOk result (StillWaitForWrite builder.new builder.old) }
-    ensures full { result ≡ Err NetFault.TooManyNets → (2 ^ 20 < length builder.old.lines + 42) ⊎ (2 ^ 16 < length builder.old.memories + 1) }
+    ensures full { result ≡ Err NetFault.TooManyNets
+        → (2 ^ 20 < length builder.old.lines + 42) ⊎ (2 ^ 16 < length builder.old.memories + 1) }
 {
     let shut = both(builder, full, read)?;
     let told = either(builder, shut, wait)?;
@@ -364,7 +372,8 @@ pub(crate) fn finish_reads(
     ensures no_more_wait { OnOk result (WaitsWithout (owns_reads shown.now.held) builder.old builder.new) }
     ensures still_wait_for_write { StillWaitForWrite builder.old builder.new }
     ensures no_more_wait_for_write { OnOk result (StillWaitForWrite builder.new builder.old) }
-    ensures full { result ≡ Err NetFault.TooManyNets → (2 ^ 20 < length builder.old.lines + 42) ⊎ (2 ^ 16 < length builder.old.memories + 1) }
+    ensures full { result ≡ Err NetFault.TooManyNets
+        → (2 ^ 20 < length builder.old.lines + 42) ⊎ (2 ^ 16 < length builder.old.memories + 1) }
 {
     match shown.held {
         HeldReads::Never | HeldReads::Unbounded => Ok(wait),

@@ -38,7 +38,8 @@ fn count_beats(builder: &mut Builder, left: Net, count: Net, bits: u8) -> Result
     requires left { IsNetOfWidth builder.old left bits }
     requires count { IsNetOfWidth builder.old count bits }
     ensures net { IfOk result (λ beats. IsNetOfWidth builder.new beats bits) }
-    ensures value { IfOk result (λ beats. Always builder.new (λ cycle. cycle.net beats.number ≡ beats_of (cycle.net left.number) (cycle.net count.number))) }
+    ensures value { IfOk result (λ beats. Always builder.new (λ cycle. cycle.net beats.number
+        ≡ beats_of (cycle.net left.number) (cycle.net count.number))) }
     ensures adds { AddsNets 2 builder.old builder.new }
     ensures full { result ≡ Err NetFault.TooManyNets → 2 ^ 20 < length builder.old.lines + 2 }
 {
@@ -54,7 +55,8 @@ fn joins_next(builder: &mut Builder, write: Net, beats: Net, bits: u8) -> Result
     requires some { 1 ≤ bits }
     requires few { bits ≤ 128 }
     ensures net { IfOk result (λ more. IsBit builder.new more) }
-    ensures value { IfOk result (λ more. Always builder.new (λ cycle. cycle.net more.number ≡ one_if (is_raised (cycle.net write.number) && not (nat_eq (cycle.net beats.number) 1)))) }
+    ensures value { IfOk result (λ more. Always builder.new (λ cycle. cycle.net more.number
+        ≡ one_if (is_raised (cycle.net write.number) && not (nat_eq (cycle.net beats.number) 1)))) }
     ensures adds { AddsNets 4 builder.old builder.new }
     ensures full { result ≡ Err NetFault.TooManyNets → 2 ^ 20 < length builder.old.lines + 4 }
 {

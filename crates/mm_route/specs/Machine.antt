@@ -32,7 +32,8 @@ has_entry (entry ∷ later) agent = nat_eq entry.agent agent || has_entry later 
 -- the place of an address is the agent of exactly those entries that hold it
 abbrev pub AreHeld : List Route → Kind → ℕ → Option ℕ → Type 0
 AreHeld [] kind address place = Unit {0}
-AreHeld (entry ∷ later) kind address place = (is_agent entry.agent place ≡ holds entry kind address) × AreHeld later kind address place
+AreHeld (entry ∷ later) kind address place =
+    (is_agent entry.agent place ≡ holds entry kind address) × AreHeld later kind address place
 
 -- each footprint is a whole number of words
 abbrev pub HoldWords : ℕ → List Route → Type 0
@@ -44,7 +45,8 @@ pub record MapsAs (entries : List Route) (width : ℕ) (system : System) (host :
   pub bytes : shape.unit_bytes ≡ 1
   pub words : HoldWords shape.word_bytes entries
   pub held : (kind : Kind) (address : ℕ) → address < 2 ^ width → AreHeld entries kind address (system.place host kind address)
-  pub others : (kind : Kind) (address agent : ℕ) → address < 2 ^ width → system.place host kind address ≡ Some agent → has_entry entries agent ≡ true
+  pub others : (kind : Kind) (address agent : ℕ) → address < 2 ^ width → system.place host kind address ≡ Some agent
+      → has_entry entries agent ≡ true
 
 -- ---- the sides below
 
@@ -83,7 +85,8 @@ pub record KeptPlaces : Type 0 where
   pub owing : Option ℕ
 
 abbrev pub place_by : System → ℕ → Port → Bool → Option ℕ → ℕ → Option ℕ
-place_by system host up inside kept c = if inside then kept else system.place host (kind_at up c) (byte_address up.shape (up.commands.address c))
+place_by system host up inside kept c =
+    if inside then kept else system.place host (kind_at up c) (byte_address up.shape (up.commands.address c))
 
 abbrev pub places_at : System → ℕ → Port → (ℕ → Bool) → ℕ → KeptPlaces
 places_at system host up inside zero = record { kept = None; owing = None }
@@ -112,12 +115,17 @@ pub record RunsAsRoute (system : System) (host room : ℕ) (up : Port) (down : �
   pub state : RouteState
   pub is_machine : IsRouteMachine AreCodes system host room up down state end
 
--- in every endless run of each longer netlist, the nets are the machine of a route of each system whose map of this host these entries are,
+-- in every endless run of each longer netlist, the nets are the machine of a route of each system whose map of this host these
+-- entries are,
 -- whatever agents without an entry answer
-abbrev pub RunsAsMachine : Netlist → List Route → ℕ → CommandNets → List CommandNets → ℕ → List BackNets → NetValue → AnswerNets → Type 0
+abbrev pub RunsAsMachine : Netlist → List Route → ℕ → CommandNets → List CommandNets → ℕ → List BackNets → NetValue → AnswerNets
+    → Type 0
 RunsAsMachine netlist entries host command commands room_bits backs wait answer =
-    (longer : Netlist) → Extends netlist longer → (run : Run) → IsEndlessRun longer run → (system : System) (shape : Shape) (others : ℕ → AnswerView) (room end : ℕ) → MapsAs entries command.address.width system host shape → room ≤ 2 ^ room_bits →
-    RunsAsRoute system host room (port_in shape run command wait answer) (down_at shape run command host others entries commands backs) end
+    (longer : Netlist) → Extends netlist longer → (run : Run) → IsEndlessRun longer run
+    → (system : System) (shape : Shape) (others : ℕ → AnswerView) (room end : ℕ)
+    → MapsAs entries command.address.width system host shape → room ≤ 2 ^ room_bits →
+    RunsAsRoute system host room (port_in shape run command wait answer)
+    (down_at shape run command host others entries commands backs) end
 
 -- these commands show the same in both cycles
 abbrev pub ShowAllSame : List CommandNets → Cycle → Cycle → Type 0

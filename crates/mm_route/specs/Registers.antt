@@ -47,27 +47,39 @@ pub record RegistersWait (netlist : Netlist) (registers : RegisterNets) : Type 0
 
 -- ---- laws. No contract reads a proof of these
 
-latch_lasts : (a b : Netlist) (count : ℕ) (latch : Option LatchNets) → Extends a b → IfSome latch (IsLatch a count) → IfSome latch (IsLatch b count)
+latch_lasts : (a b : Netlist) (count : ℕ) (latch : Option LatchNets) → Extends a b → IfSome latch (IsLatch a count)
+    → IfSome latch (IsLatch b count)
 latch_lasts a b count None e h = tt
-latch_lasts a b count (Some latch) e h = record { inside = net_lasts a b latch.inside 1 e h.inside; kept = net_lasts a b latch.kept count e h.kept }
+latch_lasts a b count (Some latch) e h =
+    record { inside = net_lasts a b latch.inside 1 e h.inside; kept = net_lasts a b latch.kept count e h.kept }
 
-pub register_nets_last : (a b : Netlist) (registers : RegisterNets) (count room_bits : ℕ) → Extends a b → AreRegisterNets a registers count room_bits → AreRegisterNets b registers count room_bits
+pub register_nets_last : (a b : Netlist) (registers : RegisterNets) (count room_bits : ℕ) → Extends a b
+    → AreRegisterNets a registers count room_bits → AreRegisterNets b registers count room_bits
 register_nets_last a b registers count room_bits e h = record {
   owed = net_lasts a b registers.owed room_bits e h.owed;
   owing = net_lasts a b registers.owing count e h.owing;
   latch = latch_lasts a b count registers.latch e h.latch;
 }
 
-latch_start_lasts : (a b : Netlist) (latch : Option LatchNets) → Extends a b → IfSome latch (LatchStartsLow a) → IfSome latch (LatchStartsLow b)
+latch_start_lasts : (a b : Netlist) (latch : Option LatchNets) → Extends a b → IfSome latch (LatchStartsLow a)
+    → IfSome latch (LatchStartsLow b)
 latch_start_lasts a b None e h = tt
-latch_start_lasts a b (Some latch) e h = record { inside = λ run cycles r. h.inside run cycles (e.runs run cycles r); kept = λ run cycles r. h.kept run cycles (e.runs run cycles r) }
+latch_start_lasts a b (Some latch) e h =
+    record {
+      inside =
+          λ run cycles r. h.inside run cycles (e.runs run cycles r);
+      kept = λ run cycles r. h.kept run cycles (e.runs run cycles r);
+    }
 
-pub start_lasts : (a b : Netlist) (registers : RegisterNets) → Extends a b → RegistersStartLow a registers → RegistersStartLow b registers
+pub start_lasts : (a b : Netlist) (registers : RegisterNets) → Extends a b → RegistersStartLow a registers
+    → RegistersStartLow b registers
 start_lasts a b registers e h = record {
   owed = λ run cycles r. h.owed run cycles (e.runs run cycles r);
   owing = λ run cycles r. h.owing run cycles (e.runs run cycles r);
   latch = latch_start_lasts a b registers.latch e h.latch;
 }
 
-pub registers_wait_on : (a b : Netlist) (registers : RegisterNets) → ((n : ℕ) → InGroup (registers_of registers) n → IsWaiting a n → IsWaiting b n) → RegistersWait a registers → RegistersWait b registers
+pub registers_wait_on : (a b : Netlist) (registers : RegisterNets)
+    → ((n : ℕ) → InGroup (registers_of registers) n → IsWaiting a n → IsWaiting b n) → RegistersWait a registers
+    → RegistersWait b registers
 registers_wait_on a b registers on h = record { start = h.start; numbers = h.numbers; wait = λ n o. on n o (h.wait n o) }

@@ -8,7 +8,9 @@ use Rattle.command_nets.specs.declared.nets.CommandNets.{CommandNets}
 
 -- a beat is taken
 abbrev pub taken_in : Cycle → CommandNets → NetValue → Bool
-taken_in cycle command wait = (is_raised (cycle.net command.read.number) || is_raised (cycle.net command.write.number)) && not (is_raised (cycle.net wait.number))
+taken_in cycle command wait =
+    (is_raised (cycle.net command.read.number) || is_raised (cycle.net command.write.number))
+    && not (is_raised (cycle.net wait.number))
 
 abbrev pub reads_in : Cycle → CommandNets → NetValue → Bool
 reads_in cycle command wait = taken_in cycle command wait && is_raised (cycle.net command.read.number)
@@ -19,4 +21,5 @@ asked_in cycle command wait = if reads_in cycle command wait then cycle.net comm
 
 -- in each run, of each cycle and the next one
 abbrev pub EachStep : Netlist → (Cycle → Cycle → Type 0) → Type 0
-EachStep netlist P = (run : Run) (cycles : ℕ) → IsRun netlist run cycles → (c : ℕ) → c + 1 < cycles → P (cycle_of run c) (cycle_of run (c + 1))
+EachStep netlist P =
+    (run : Run) (cycles : ℕ) → IsRun netlist run cycles → (c : ℕ) → c + 1 < cycles → P (cycle_of run c) (cycle_of run (c + 1))

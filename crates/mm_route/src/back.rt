@@ -36,7 +36,8 @@ pub(crate) fn pick_wait(
     requires backs { AreBackNets builder.old word_bits backs.now }
     requires low { IsBit builder.old low }
     ensures net { IfOk result (λ made. IsBit builder.new made) }
-    ensures value { IfOk result (λ made. Always builder.new (λ cycle. cycle.net made.number ≡ picked k (cycle.net bits.number) (waits_in cycle backs.now) (cycle.net low.number))) }
+    ensures value { IfOk result (λ made. Always builder.new (λ cycle. cycle.net made.number
+        ≡ picked k (cycle.net bits.number) (waits_in cycle backs.now) (cycle.net low.number))) }
     ensures adds { AddsNets (2 * length backs.now) builder.old builder.new }
     ensures full { result ≡ Err NetFault.TooManyNets → 2 ^ 20 < length builder.old.lines + 2 * length backs.now }
 {
@@ -62,7 +63,9 @@ fn choose_answer(
     requires one { AreAnswerNets builder.old one.now word_bits }
     requires other { AreAnswerNets builder.old other.now word_bits }
     ensures nets { IfOk result (λ made. AreAnswerNets builder.new made word_bits) }
-    ensures value { IfOk result (λ made. Always builder.new (λ cycle. values_of cycle (answer_group made) ≡ (if cycle.net bit.number == 0 then values_of cycle (answer_group other.now) else values_of cycle (answer_group one.now)))) }
+    ensures value { IfOk result (λ made. Always builder.new (λ cycle. values_of cycle (answer_group made)
+        ≡ (if cycle.net bit.number == 0 then values_of cycle (answer_group other.now)
+        else values_of cycle (answer_group one.now)))) }
     ensures adds { AddsNets 3 builder.old builder.new }
     ensures full { result ≡ Err NetFault.TooManyNets → 2 ^ 20 < length builder.old.lines + 3 }
 {
@@ -91,7 +94,8 @@ pub(crate) fn pick_answer(
     requires backs { AreBackNets builder.old word_bits backs.now }
     requires none { AreAnswerNets builder.old none.now word_bits }
     ensures nets { IfOk result (λ made. AreAnswerNets builder.new made word_bits) }
-    ensures value { IfOk result (λ made. Always builder.new (λ cycle. values_of cycle (answer_group made) ≡ picked k (cycle.net bits.number) (answers_in cycle backs.now) (values_of cycle (answer_group none.now)))) }
+    ensures value { IfOk result (λ made. Always builder.new (λ cycle. values_of cycle (answer_group made)
+        ≡ picked k (cycle.net bits.number) (answers_in cycle backs.now) (values_of cycle (answer_group none.now)))) }
     ensures adds { AddsNets (4 * length backs.now) builder.old builder.new }
     ensures full { result ≡ Err NetFault.TooManyNets → 2 ^ 20 < length builder.old.lines + 4 * length backs.now }
 {

@@ -42,7 +42,8 @@ fn high_bits(builder: &mut Builder, address: Net, width: u8, bits: u8) -> Result
     requires address { IsNetOfWidth builder.old address width }
     requires some { bits < width }
     ensures net { IfOk result (λ high. IsNetOfWidth builder.new high (width - bits)) }
-    ensures value { IfOk result (λ high. Always builder.new (λ cycle. cycle.net high.number ≡ cycle.net address.number / 2 ^ bits % 2 ^ (width - bits))) }
+    ensures value { IfOk result (λ high. Always builder.new (λ cycle. cycle.net high.number
+        ≡ cycle.net address.number / 2 ^ bits % 2 ^ (width - bits))) }
     ensures adds { AddsNets 1 builder.old builder.new }
     ensures full { result ≡ Err NetFault.TooManyNets → 2 ^ 20 < length builder.old.lines + 1 }
 {
@@ -56,7 +57,8 @@ fn is_inside(builder: &mut Builder, address: Net, width: u8, entry: &Route) -> R
     requires entry { IsEntry width entry.now }
     requires small { width ≤ 128 }
     ensures net { IfOk result (λ inside. IsBit builder.new inside) }
-    ensures value { IfOk result (λ inside. Always builder.new (λ cycle. cycle.net inside.number ≡ one_if (is_inside entry.now (cycle.net address.number)))) }
+    ensures value { IfOk result (λ inside. Always builder.new (λ cycle. cycle.net inside.number
+        ≡ one_if (is_inside entry.now (cycle.net address.number)))) }
     ensures adds { AddsNets 3 builder.old builder.new }
     ensures full { result ≡ Err NetFault.TooManyNets → 2 ^ 20 < length builder.old.lines + 3 }
 {
@@ -74,7 +76,8 @@ fn where_read(builder: &mut Builder, asked: &AskedNets, inside: Net) -> Result<N
     requires asked { AreAskedNets builder.old asked.now }
     requires inside { IsBit builder.old inside }
     ensures net { IfOk result (λ held. IsBit builder.new held) }
-    ensures value { IfOk result (λ held. Always builder.new (λ cycle. cycle.net held.number ≡ (if is_raised (cycle.net asked.now.no_write.number) then cycle.net inside.number else 0))) }
+    ensures value { IfOk result (λ held. Always builder.new (λ cycle. cycle.net held.number
+        ≡ (if is_raised (cycle.net asked.now.no_write.number) then cycle.net inside.number else 0))) }
     ensures adds { AddsNets 1 builder.old builder.new }
     ensures full { result ≡ Err NetFault.TooManyNets → 2 ^ 20 < length builder.old.lines + 1 }
 {
@@ -92,7 +95,8 @@ fn of_kind(
     requires asked { AreAskedNets builder.old asked.now }
     requires inside { IsBit builder.old inside }
     ensures net { IfOk result (λ held. IsBit builder.new held) }
-    ensures value { IfOk result (λ held. Always builder.new (λ cycle. cycle.net held.number ≡ (if serves entry.now (kind_of (cycle.net asked.now.write.number)) then cycle.net inside.number else 0))) }
+    ensures value { IfOk result (λ held. Always builder.new (λ cycle. cycle.net held.number
+        ≡ (if serves entry.now (kind_of (cycle.net asked.now.write.number)) then cycle.net inside.number else 0))) }
     ensures adds { AddsNets 1 builder.old builder.new }
     ensures full { result ≡ Err NetFault.TooManyNets → 2 ^ 20 < length builder.old.lines + 1 }
 {
@@ -115,7 +119,8 @@ fn hit(builder: &mut Builder, asked: &AskedNets, entry: &Route) -> Result<Net, N
     requires entry { IsEntry asked.now.width entry.now }
     requires small { asked.now.width ≤ 128 }
     ensures net { IfOk result (λ held. IsBit builder.new held) }
-    ensures value { IfOk result (λ held. Always builder.new (λ cycle. cycle.net held.number ≡ one_if (held_in cycle asked.now entry.now))) }
+    ensures value { IfOk result (λ held. Always builder.new (λ cycle. cycle.net held.number
+        ≡ one_if (held_in cycle asked.now entry.now))) }
     ensures adds { AddsNets 4 builder.old builder.new }
     ensures full { result ≡ Err NetFault.TooManyNets → 2 ^ 20 < length builder.old.lines + 4 }
 {
@@ -136,7 +141,8 @@ pub(crate) fn decode(
     requires small { asked.now.width ≤ 128 }
     requires few { length later.now + 1 ≤ 128 }
     ensures net { IfOk result (λ bits. IsNetOfWidth builder.new bits (length later.now + 1)) }
-    ensures value { IfOk result (λ bits. Always builder.new (λ cycle. cycle.net bits.number ≡ hits_in cycle asked.now (first.now ∷ later.now))) }
+    ensures value { IfOk result (λ bits. Always builder.new (λ cycle. cycle.net bits.number
+        ≡ hits_in cycle asked.now (first.now ∷ later.now))) }
     ensures adds { AddsNets (5 * (length later.now + 1)) builder.old builder.new }
     ensures full { result ≡ Err NetFault.TooManyNets → 2 ^ 20 < length builder.old.lines + 5 * (length later.now + 1) }
 {

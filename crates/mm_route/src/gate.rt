@@ -60,7 +60,8 @@ fn decode_command(
     requires entries { AreEntries command.now.address.width entries.now }
     requires command { AreCommandNets builder.old command.now }
     ensures net { IfOk result (λ bits. IsNetOfWidth builder.new bits (length entries.now)) }
-    ensures value { IfOk result (λ bits. Always builder.new (λ cycle. cycle.net bits.number ≡ hits entries.now (kind_of (cycle.net command.now.write.number)) (cycle.net command.now.address.number))) }
+    ensures value { IfOk result (λ bits. Always builder.new (λ cycle. cycle.net bits.number
+        ≡ hits entries.now (kind_of (cycle.net command.now.write.number)) (cycle.net command.now.address.number))) }
     ensures adds { AddsNets (1 + 5 * length entries.now) builder.old builder.new }
     ensures full { result ≡ Err NetFault.TooManyNets → 2 ^ 20 < length builder.old.lines + (1 + 5 * length entries.now) }
 {
@@ -83,7 +84,8 @@ pub(crate) fn place_now(
     requires registers { AreRegisterNets builder.old registers.now (length entries.now) room_bits }
     requires command { AreCommandNets builder.old command.now }
     ensures net { IfOk result (λ place. IsNetOfWidth builder.new place (length entries.now)) }
-    ensures value { IfOk result (λ place. Always builder.new (λ cycle. cycle.net place.number ≡ place_in cycle entries.now registers.now command.now)) }
+    ensures value { IfOk result (λ place. Always builder.new (λ cycle. cycle.net place.number
+        ≡ place_in cycle entries.now registers.now command.now)) }
     ensures adds { AddsNets (2 + 5 * length entries.now) builder.old builder.new }
     ensures full { result ≡ Err NetFault.TooManyNets → 2 ^ 20 < length builder.old.lines + (2 + 5 * length entries.now) }
 {
@@ -106,7 +108,8 @@ fn owes_here(
     requires registers { AreRegisterNets builder.old registers.now count room_bits }
     requires place { IsNetOfWidth builder.old place count }
     ensures net { IfOk result (λ same. IsBit builder.new same) }
-    ensures value { IfOk result (λ same. Always builder.new (λ cycle. cycle.net same.number ≡ (if cycle.net registers.now.owing.number == cycle.net place.number then 1 else 0))) }
+    ensures value { IfOk result (λ same. Always builder.new (λ cycle. cycle.net same.number
+        ≡ (if cycle.net registers.now.owing.number == cycle.net place.number then 1 else 0))) }
     ensures adds { AddsNets 1 builder.old builder.new }
     ensures full { result ≡ Err NetFault.TooManyNets → 2 ^ 20 < length builder.old.lines + 1 }
 {
@@ -119,7 +122,8 @@ fn may_read(builder: &mut Builder, free: Net, same: Net) -> Result<Net, NetFault
     requires free { IsBit builder.old free }
     requires same { IsBit builder.old same }
     ensures net { IfOk result (λ reads. IsBit builder.new reads) }
-    ensures value { IfOk result (λ reads. Always builder.new (λ cycle. is_raised (cycle.net reads.number) ≡ (is_raised (cycle.net free.number) || is_raised (cycle.net same.number)))) }
+    ensures value { IfOk result (λ reads. Always builder.new (λ cycle. is_raised (cycle.net reads.number)
+        ≡ (is_raised (cycle.net free.number) || is_raised (cycle.net same.number)))) }
     ensures adds { AddsNets 1 builder.old builder.new }
     ensures full { result ≡ Err NetFault.TooManyNets → 2 ^ 20 < length builder.old.lines + 1 }
 {
@@ -141,7 +145,8 @@ pub(crate) fn open_gate(
     requires write { IsBit builder.old write }
     ensures owes { IfOk result (λ made. IsBit builder.new made.owes) }
     ensures gate { IfOk result (λ made. IsBit builder.new made.gate) }
-    ensures owes_is { IfOk result (λ made. Always builder.new (λ cycle. cycle.net made.owes.number ≡ one_if (nat_lt 0 (cycle.net registers.now.owed.number)))) }
+    ensures owes_is { IfOk result (λ made. Always builder.new (λ cycle. cycle.net made.owes.number
+        ≡ one_if (nat_lt 0 (cycle.net registers.now.owed.number)))) }
     ensures gate_is { IfOk result (λ made. Always builder.new (λ cycle. IsGate cycle registers.now write place made.gate)) }
     ensures adds { AddsNets 5 builder.old builder.new }
     ensures full { result ≡ Err NetFault.TooManyNets → 2 ^ 20 < length builder.old.lines + 5 }

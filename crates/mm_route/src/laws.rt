@@ -13,7 +13,8 @@ ghost use Rattle.mm_route.specs.Machine.{ShowAllSame};
 /// What is shown below in a cycle doesn't depend on the waits or the answers of that cycle: two valuations with one state of the
 /// route and the same command above have the same commands below.
 pub fn route_ignores_answers()
-    ensures { (entries : List Route) (host : ℕ) (command : CommandNets) (commands : List CommandNets) (held : HeldRoute) (netlist : Netlist)
+    ensures { (entries : List Route) (host : ℕ) (command : CommandNets) (commands : List CommandNets) (held : HeldRoute)
+        (netlist : Netlist)
         → RouteForward entries host command commands held netlist
         → (one other : Cycle) → IsValuation netlist one → IsValuation netlist other
         → ((n : ℕ) → owns held n → one.net n ≡ other.net n) → ShowSame command one other → ShowAllSame commands one other }

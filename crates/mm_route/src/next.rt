@@ -48,8 +48,10 @@ fn taken_bits(
     requires wait { IsBit builder.old wait }
     ensures beat { IfOk result (λ taken. IsBit builder.new taken.beat) }
     ensures read { IfOk result (λ taken. IsBit builder.new taken.read) }
-    ensures beat_is { IfOk result (λ taken. Always builder.new (λ cycle. is_raised (cycle.net taken.beat.number) ≡ taken_in cycle command.now wait)) }
-    ensures read_is { IfOk result (λ taken. Always builder.new (λ cycle. is_raised (cycle.net taken.read.number) ≡ reads_in cycle command.now wait)) }
+    ensures beat_is { IfOk result (λ taken. Always builder.new (λ cycle. is_raised (cycle.net taken.beat.number)
+        ≡ taken_in cycle command.now wait)) }
+    ensures read_is { IfOk result (λ taken. Always builder.new (λ cycle. is_raised (cycle.net taken.read.number)
+        ≡ reads_in cycle command.now wait)) }
     ensures adds { AddsNets 4 builder.old builder.new }
     ensures full { result ≡ Err NetFault.TooManyNets → 2 ^ 20 < length builder.old.lines + 4 }
 {
@@ -73,7 +75,8 @@ fn asked_words(
     requires some { 1 ≤ room_bits }
     requires few { room_bits ≤ 128 }
     ensures net { IfOk result (λ asked. IsNetOfWidth builder.new asked room_bits) }
-    ensures value { IfOk result (λ asked. Always builder.new (λ cycle. cycle.net asked.number ≡ (if is_raised (cycle.net taken.number) then cycle.net count.number else 0) % 2 ^ room_bits)) }
+    ensures value { IfOk result (λ asked. Always builder.new (λ cycle. cycle.net asked.number
+        ≡ (if is_raised (cycle.net taken.number) then cycle.net count.number else 0) % 2 ^ room_bits)) }
     ensures adds { AddsNets 4 builder.old builder.new }
     ensures full { result ≡ Err NetFault.TooManyNets → 2 ^ 20 < length builder.old.lines + 4 }
 {
@@ -98,7 +101,8 @@ fn next_owed(
     requires some { 1 ≤ room_bits }
     requires few { room_bits ≤ 128 }
     ensures net { IfOk result (λ next. IsNetOfWidth builder.new next room_bits) }
-    ensures value { IfOk result (λ next. Always builder.new (λ cycle. IsNextOwed (2 ^ room_bits) (cycle.net owed.number) (cycle.net asked.number) (one_if (is_raised (cycle.net valid.number))) (cycle.net next.number))) }
+    ensures value { IfOk result (λ next. Always builder.new (λ cycle. IsNextOwed (2 ^ room_bits) (cycle.net owed.number)
+        (cycle.net asked.number) (one_if (is_raised (cycle.net valid.number))) (cycle.net next.number))) }
     ensures adds { AddsNets 4 builder.old builder.new }
     ensures full { result ≡ Err NetFault.TooManyNets → 2 ^ 20 < length builder.old.lines + 4 }
 {
@@ -125,8 +129,10 @@ fn next_debt(
     ensures beat { IfOk result (λ next. IsBit builder.new next.beat) }
     ensures owed { IfOk result (λ next. IsNetOfWidth builder.new next.owed room_bits) }
     ensures owing { IfOk result (λ next. IsNetOfWidth builder.new next.owing count) }
-    ensures beat_is { IfOk result (λ next. Always builder.new (λ cycle. is_raised (cycle.net next.beat.number) ≡ taken_in cycle held.now.shown.command wait)) }
-    ensures value { IfOk result (λ next. Always builder.new (λ cycle. IsNextDebt cycle held.now room_bits wait valid (cycle.net next.owed.number) (cycle.net next.owing.number))) }
+    ensures beat_is { IfOk result (λ next. Always builder.new (λ cycle. is_raised (cycle.net next.beat.number)
+        ≡ taken_in cycle held.now.shown.command wait)) }
+    ensures value { IfOk result (λ next. Always builder.new (λ cycle. IsNextDebt cycle held.now room_bits wait valid
+        (cycle.net next.owed.number) (cycle.net next.owing.number))) }
     ensures adds { AddsNets 13 builder.old builder.new }
     ensures full { result ≡ Err NetFault.TooManyNets → 2 ^ 20 < length builder.old.lines + 13 }
 {
@@ -156,7 +162,8 @@ fn step_latch(
     requires wait { AreWaiting builder.old (latch_of (Some latch)) }
     requires shown { AreShownNets builder.old shown.now count }
     requires beat { IsBit builder.old beat }
-    ensures value { OnOk result (EachStep builder.new (λ cycle next. IsNextLatch shown.now (is_raised (cycle.net beat.number)) cycle next latch)) }
+    ensures value { OnOk result
+        (EachStep builder.new (λ cycle next. IsNextLatch shown.now (is_raised (cycle.net beat.number)) cycle next latch)) }
     ensures grows { GrowsBy 1 builder.old builder.new }
     ensures waits { (n : ℕ) → ¬ InGroup (latch_of (Some latch)) n → IsWaiting builder.old n → IsWaiting builder.new n }
     ensures no_more_wait { OnOk result (WaitsWithout (InGroup (latch_of (Some latch))) builder.old builder.new) }

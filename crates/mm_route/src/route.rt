@@ -114,9 +114,11 @@ pub fn finish_route(
     ensures answer { IfOk result (λ p. AreAnswerNets builder.new p.1 word_bits) }
     ensures made { IfOk result (λ p. RouteBackward held room_bits backs.now p.0 p.1 builder.new) }
     ensures machine { IfOk result (λ p. (entries : List Route) (host : ℕ) (command : CommandNets) (commands : List CommandNets)
-        → RouteForward entries host command commands held builder.new → RunsAsMachine builder.new entries host command commands room_bits backs.now p.0 p.1) }
+        → RouteForward entries host command commands held builder.new
+        → RunsAsMachine builder.new entries host command commands room_bits backs.now p.0 p.1) }
     ensures lone { IfOk result (λ p. (entries : List Route) (host : ℕ) (command : CommandNets) (commands : List CommandNets)
-        → RouteForward entries host command commands held builder.new → is_lone entries command.address.width ≡ true → RunsAsWire builder.new held command commands backs.now p.0 p.1) }
+        → RouteForward entries host command commands held builder.new → is_lone entries command.address.width ≡ true
+        → RunsAsWire builder.new held command commands backs.now p.0 p.1) }
     ensures grows { GrowsBy (backward_nets (length backs.now)) builder.old builder.new }
     ensures waits { (n : ℕ) → ¬ owns held n → IsWaiting builder.old n → IsWaiting builder.new n }
     ensures no_more_wait { OnOk result (WaitsWithout (owns held) builder.old builder.new) }

@@ -104,7 +104,8 @@ fn shut_or_stalled(builder: &mut Builder, shut: Net, stall: Net) -> Result<Net, 
     requires shut { IsBit builder.old shut }
     requires stall { IsBit builder.old stall }
     ensures net { IfOk result (λ wait. IsBit builder.new wait) }
-    ensures value { IfOk result (λ wait. Always builder.new (λ cycle. is_raised (cycle.net wait.number) ≡ (is_raised (cycle.net shut.number) || is_raised (cycle.net stall.number)))) }
+    ensures value { IfOk result (λ wait. Always builder.new (λ cycle. is_raised (cycle.net wait.number)
+        ≡ (is_raised (cycle.net shut.number) || is_raised (cycle.net stall.number)))) }
     ensures adds { AddsNets 1 builder.old builder.new }
     ensures full { result ≡ Err NetFault.TooManyNets → 2 ^ 20 < length builder.old.lines + 1 }
 {
@@ -150,7 +151,9 @@ fn owed_answer(
     requires backs { AreBackNets builder.old word_bits backs.now }
     requires none { AreAnswerNets builder.old none.now word_bits }
     ensures nets { IfOk result (λ made. AreAnswerNets builder.new made word_bits) }
-    ensures value { IfOk result (λ made. Always builder.new (λ cycle. values_of cycle (answer_group made) ≡ picked 0 (cycle.net held.now.registers.owing.number) (answers_in cycle backs.now) (values_of cycle (answer_group none.now)))) }
+    ensures value { IfOk result (λ made. Always builder.new (λ cycle. values_of cycle (answer_group made)
+        ≡ picked 0 (cycle.net held.now.registers.owing.number) (answers_in cycle backs.now)
+        (values_of cycle (answer_group none.now)))) }
     ensures adds { AddsNets (4 * length backs.now) builder.old builder.new }
     ensures full { result ≡ Err NetFault.TooManyNets → 2 ^ 20 < length builder.old.lines + 4 * length backs.now }
 {
@@ -158,7 +161,8 @@ fn owed_answer(
     pick_answer(builder, owing, count, 0, backs, none, word_bits)
 }
 
-/// The words above: those of the place that owes. The default agent gives a word of 0 with code 3 in each cycle in which it owes one.
+/// The words above: those of the place that owes. The default agent gives a word of 0 with code 3 in each cycle in which it owes
+/// one.
 #[tactic(auto, using(net_parts::specs::Laws::growing))]
 fn answer_above(
     builder: &mut Builder,
@@ -212,7 +216,8 @@ pub(crate) fn finish_router(
     ensures answer { IfOk result (λ p. AreAnswerNets builder.new p.1 word_bits) }
     ensures made { IfOk result (λ p. RouterBackward held room_bits backs.now p.0 p.1 builder.new) }
     ensures machine { IfOk result (λ p. (entries : List Route) (host : ℕ) (command : CommandNets) (commands : List CommandNets)
-        → RouterForward entries host command commands held builder.new → RunsAsMachine builder.new entries host command commands room_bits backs.now p.0 p.1) }
+        → RouterForward entries host command commands held builder.new
+        → RunsAsMachine builder.new entries host command commands room_bits backs.now p.0 p.1) }
     ensures grows { GrowsBy (backward_nets (length backs.now)) builder.old builder.new }
     ensures waits { (n : ℕ) → ¬ router_owns held n → IsWaiting builder.old n → IsWaiting builder.new n }
     ensures no_more_wait { OnOk result (WaitsWithout (router_owns held) builder.old builder.new) }

@@ -72,7 +72,8 @@ fn owes_on(builder: &mut Builder, owing: Net, taken: Net) -> Result<Net, NetFaul
     requires owing { IsBit builder.old owing }
     requires taken { IsBit builder.old taken }
     ensures net { IfOk result (λ next. IsBit builder.new next) }
-    ensures value { IfOk result (λ next. Always builder.new (λ cycle. is_raised (cycle.net next.number) ≡ (is_raised (cycle.net owing.number) || is_raised (cycle.net taken.number)))) }
+    ensures value { IfOk result (λ next. Always builder.new (λ cycle. is_raised (cycle.net next.number)
+        ≡ (is_raised (cycle.net owing.number) || is_raised (cycle.net taken.number)))) }
     ensures adds { AddsNets 1 builder.old builder.new }
     ensures full { result ≡ Err NetFault.TooManyNets → 2 ^ 20 < length builder.old.lines + 1 }
 {
@@ -86,7 +87,8 @@ fn next_owing(builder: &mut Builder, wire: &HeldWire, wait: Net) -> Result<Net, 
     requires command { AreCommandNets builder.old wire.now.command }
     requires wait { IsBit builder.old wait }
     ensures net { IfOk result (λ next. IsBit builder.new next) }
-    ensures value { IfOk result (λ next. Always builder.new (λ cycle. is_raised (cycle.net next.number) ≡ (is_raised (cycle.net wire.now.owing.number) || reads_in cycle wire.now.command wait))) }
+    ensures value { IfOk result (λ next. Always builder.new (λ cycle. is_raised (cycle.net next.number)
+        ≡ (is_raised (cycle.net wire.now.owing.number) || reads_in cycle wire.now.command wait))) }
     ensures adds { AddsNets 3 builder.old builder.new }
     ensures full { result ≡ Err NetFault.TooManyNets → 2 ^ 20 < length builder.old.lines + 3 }
 {
@@ -100,7 +102,8 @@ fn owed_word(builder: &mut Builder, owing: Net, valid: Net) -> Result<Net, NetFa
     requires owing { IsBit builder.old owing }
     requires valid { IsBit builder.old valid }
     ensures net { IfOk result (λ comes. IsBit builder.new comes) }
-    ensures value { IfOk result (λ comes. Always builder.new (λ cycle. is_raised (cycle.net comes.number) ≡ (is_raised (cycle.net owing.number) && is_raised (cycle.net valid.number)))) }
+    ensures value { IfOk result (λ comes. Always builder.new (λ cycle. is_raised (cycle.net comes.number)
+        ≡ (is_raised (cycle.net owing.number) && is_raised (cycle.net valid.number)))) }
     ensures adds { AddsNets 1 builder.old builder.new }
     ensures full { result ≡ Err NetFault.TooManyNets → 2 ^ 20 < length builder.old.lines + 1 }
 {

@@ -56,25 +56,31 @@ pub full_bit : (n bound f : ℕ) → 1 ≤ bound → f ≡ (if nat_lt (bound - 1
 full_bit n bound f some e = by_case (nat_lt n bound) (nat_lt (bound - 1) n) refl refl
   where
     by_case : (t s : Bool) → nat_lt n bound ≡ t → nat_lt (bound - 1) n ≡ s → is_raised f ≡ not t
-    by_case true true below above = absurd (let low = ltb-true n bound below in let high = ltb-true (bound - 1) n above in omega (arith, low, high))
+    by_case true true below above =
+        absurd (let low = ltb-true n bound below in let high = ltb-true (bound - 1) n above in omega (arith, low, high))
     by_case true false below above = ap is_raised (e ∙ ap (λ t. if t then 1 else 0) above)
     by_case false true below above = ap is_raised (e ∙ ap (λ t. if t then 1 else 0) above)
-    by_case false false below above = absurd (let low = ltb-false n bound below in let high = ltb-false (bound - 1) n above in omega (arith, low, high, some))
+    by_case false false below above =
+        absurd (let low = ltb-false n bound below in let high = ltb-false (bound - 1) n above in omega (arith, low, high, some))
 
 pub aligned_none : (lanes address low : ℕ) → address < 2 ^ lanes → low ≡ 0 → low ≡ address / 2 ^ lanes * 2 ^ lanes
 aligned_none lanes address low few e = e ∙ sym (ap (λ n. n * 2 ^ lanes) (div-eq_of_lt few) ∙ zero-mul (2 ^ lanes))
 
-pub aligned : (width same lanes low_width address high low made : ℕ) → same ≡ width → lanes < width → low_width ≡ lanes → address < 2 ^ width → high ≡ address / 2 ^ lanes % 2 ^ (same - 1 - lanes + 1) → low ≡ 0 → made ≡ high * 2 ^ low_width + low → made ≡ address / 2 ^ lanes * 2 ^ lanes
+pub aligned : (width same lanes low_width address high low made : ℕ) → same ≡ width → lanes < width → low_width ≡ lanes
+    → address < 2 ^ width → high ≡ address / 2 ^ lanes % 2 ^ (same - 1 - lanes + 1) → low ≡ 0 → made ≡ high * 2 ^ low_width + low
+    → made ≡ address / 2 ^ lanes * 2 ^ lanes
 aligned width same lanes low_width address high low made is some wide fits e f g =
     let size : width ≡ (width - lanes) + lanes = omega (arith, some) in
     let rest : same - 1 - lanes + 1 ≡ width - lanes = omega (arith, is, some) in
-    let below : address / 2 ^ lanes < 2 ^ (width - lanes) = (div-lt_iff_lt-mul (pow_pos lanes)).1 (subst (λ k. address < k) (ap (λ n. 2 ^ n) size ∙ pow-add 2 (width - lanes) lanes) fits) in
+    let below : address / 2 ^ lanes < 2 ^ (width - lanes) = (div-lt_iff_lt-mul (pow_pos lanes)).1 (subst
+    (λ k. address < k) (ap (λ n. 2 ^ n) size ∙ pow-add 2 (width - lanes) lanes) fits) in
     let high_is : high ≡ address / 2 ^ lanes = e ∙ ap (λ k. address / 2 ^ lanes % 2 ^ k) rest ∙ mod-eq_of_lt below in
     let plain : high * 2 ^ lanes + 0 ≡ high * 2 ^ lanes = omega arith in
     g ∙ ap₂ (λ n k. high * 2 ^ n + k) wide f ∙ plain ∙ ap (λ n. n * 2 ^ lanes) high_is
 
 -- a read, unless it is shut out
-pub sent_read : (read shut sent : ℕ) → read < 2 → sent < 2 → is_raised sent ≡ (is_raised read && not (is_raised shut)) → sent ≡ (if is_raised shut then 0 else read)
+pub sent_read : (read shut sent : ℕ) → read < 2 → sent < 2 → is_raised sent ≡ (is_raised read && not (is_raised shut))
+    → sent ≡ (if is_raised shut then 0 else read)
 sent_read read shut sent h k e = by_shut (is_raised shut) e
   where
     none : (b : Bool) → (b && false) ≡ false
@@ -96,27 +102,35 @@ lanes_order n w first lanes e f less = by_case (nat_lt first lanes) refl
   where
     by_case : (t : Bool) → nat_lt first lanes ≡ t → first < lanes
     by_case true below = ltb-true first lanes below
-    by_case false above = absurd (let high = ltb-false first lanes above in let power : 2 ^ lanes ≤ 2 ^ first = pow_mono high in omega (arith, e, f, less, power))
+    by_case false above =
+        absurd
+        (let high = ltb-false first lanes above in
+        let power : 2 ^ lanes ≤ 2 ^ first = pow_mono high in omega (arith, e, f, less, power))
 
-pub ratio_is : (n w first lanes width : ℕ) → n ≡ 2 ^ first → w ≡ 2 ^ lanes → first < lanes → width ≡ lanes - 1 - first + 1 → w ≡ n * 2 ^ width
+pub ratio_is : (n w first lanes width : ℕ) → n ≡ 2 ^ first → w ≡ 2 ^ lanes → first < lanes → width ≡ lanes - 1 - first + 1
+    → w ≡ n * 2 ^ width
 ratio_is n w first lanes width e f less is =
     let sum : lanes ≡ first + width = omega (arith, is, less) in
     f ∙ ap (λ k. 2 ^ k) sum ∙ pow-add 2 first width ∙ ap (λ k. k * 2 ^ width) (sym e)
 
 -- the place of a whole narrow word in its wide word
-place_of : (x narrow many wide : ℕ) → 0 < narrow → 0 < many → wide ≡ many * narrow → (x - x % narrow) % wide ≡ (x / narrow % many) * narrow
+place_of : (x narrow many wide : ℕ) → 0 < narrow → 0 < many → wide ≡ many * narrow
+    → (x - x % narrow) % wide ≡ (x / narrow % many) * narrow
 place_of x narrow many wide some more whole =
     let k = x / narrow in
     let multiple : x - x % narrow ≡ k * narrow = (let low = mod-eq-sub-div-mul x narrow in let fits = div-mul-le_self x narrow in omega (arith, low, fits)) in
     let r = k % many in
     let few : r < many = mod-lt k more in
     let parts : k ≡ k / many * many + r = (let low = mod-eq-sub-div-mul k many in let fits = div-mul-le_self k many in omega (arith, low, fits)) in
-    let spread : (k / many * many + r) * narrow ≡ k / many * (many * narrow) + r * narrow = add-mul (k / many * many) r narrow ∙ ap (λ n. n + r * narrow) (mul_assoc (k / many) many narrow) in
+    let spread : (k / many * many + r) * narrow ≡ k / many * (many * narrow) + r * narrow = add-mul (k / many * many) r narrow ∙ ap
+    (λ n. n + r * narrow) (mul_assoc (k / many) many narrow) in
     let step : (r + 1) * narrow ≤ many * narrow = mul-le-mul_right narrow (omega (arith, few)) in
     let last : (r + 1) * narrow ≡ r * narrow + narrow = add-mul r 1 narrow ∙ ap (λ n. r * narrow + n) (one-mul narrow) in
-    ap₂ (λ a b. a % b) multiple whole ∙ ap (λ n. (n * narrow) % (many * narrow)) parts ∙ ap (λ n. n % (many * narrow)) spread ∙ mod-mul-add (k / many) (many * narrow) (r * narrow) (omega (arith, step, last, some))
+    ap₂ (λ a b. a % b) multiple whole ∙ ap (λ n. (n * narrow) % (many * narrow)) parts ∙ ap (λ n. n % (many * narrow)) spread
+    ∙ mod-mul-add (k / many) (many * narrow) (r * narrow) (omega (arith, step, last, some))
 
-module _ (n w first lanes width a : ℕ) (e : n ≡ 2 ^ first) (f : w ≡ 2 ^ lanes) (less : first < lanes) (is : width ≡ lanes - 1 - first + 1) where
+module _ (n w first lanes width a : ℕ) (e : n ≡ 2 ^ first) (f : w ≡ 2 ^ lanes) (less : first < lanes)
+    (is : width ≡ lanes - 1 - first + 1) where
   ratio : w ≡ n * 2 ^ width
   ratio = ratio_is n w first lanes width e f less is
 
@@ -140,8 +154,11 @@ module _ (n w first lanes width a : ℕ) (e : n ≡ 2 ^ first) (f : w ≡ 2 ^ la
       let x = a / n * n in
       let multiple : a - a % n ≡ x = (let low = mod-eq-sub-div-mul a n in let fits = div-mul-le_self a n in omega (arith, low, fits)) in
       let whole : x - x % w ≡ x / w * w = (let low = mod-eq-sub-div-mul x w in let fits = div-mul-le_self x w in omega (arith, low, fits)) in
-      let cut : x / w ≡ a / w = ap (λ k. x / k) ratio ∙ sym (div-div-eq-div-mul x n (2 ^ width)) ∙ ap (λ k. k / 2 ^ width) (mul-div_cancel (a / n) some) ∙ div-div-eq-div-mul a n (2 ^ width) ∙ ap (λ k. a / k) (sym ratio) in
-      sym (ap (λ k. (k - k % n) - (k - k % n) % w) unit ∙ ap (λ k. k - k % w) multiple ∙ whole ∙ ap (λ k. k * w) cut ∙ ap (λ k. a / k * k) f)
+      let cut : x / w ≡ a / w = ap (λ k. x / k) ratio ∙ sym (div-div-eq-div-mul x n (2 ^ width)) ∙ ap
+      (λ k. k / 2 ^ width) (mul-div_cancel (a / n) some) ∙ div-div-eq-div-mul a n (2 ^ width) ∙ ap (λ k. a / k) (sym ratio) in
+      sym
+      (ap (λ k. (k - k % n) - (k - k % n) % w) unit ∙ ap (λ k. k - k % w) multiple ∙ whole ∙ ap (λ k. k * w) cut
+      ∙ ap (λ k. a / k * k) f)
 
   pub many_is : w / n ≡ 2 ^ width
   many_is = ap (λ k. k / n) turned ∙ mul-div_cancel (2 ^ width) some
@@ -152,15 +169,18 @@ abbrev levels_from : ℕ → ℕ → ℕ → ℕ → ℕ → ℕ → Levels
 levels_from r w a d e c = record { read = r; write = w; address = a; word = d; enables = e; count = c }
 
 pub levels_is : (to from : Levels) (n w : ℕ) (b : Bool) → to.read ≡ (if b then 0 else from.read) → to.write ≡ from.write →
-    to.address ≡ byte_address (bytes_shape n) from.address - offset_in (bytes_shape n) (bytes_shape w) from.address → to.word ≡ repeated n (w / n) from.word →
-    to.enables ≡ from.enables * 2 ^ offset_in (bytes_shape n) (bytes_shape w) from.address → to.count ≡ 1 → to ≡ silenced b (selected (bytes_shape n) (bytes_shape w) from)
+    to.address ≡ byte_address (bytes_shape n) from.address - offset_in (bytes_shape n) (bytes_shape w) from.address
+    → to.word ≡ repeated n (w / n) from.word →
+    to.enables ≡ from.enables * 2 ^ offset_in (bytes_shape n) (bytes_shape w) from.address → to.count ≡ 1
+    → to ≡ silenced b (selected (bytes_shape n) (bytes_shape w) from)
 levels_is to from n w b r wr a d e c =
     let goal = silenced b (selected (bytes_shape n) (bytes_shape w) from) in
     ap₂ (λ x y. levels_from x y to.address to.word to.enables to.count) r wr
     ∙ ap₂ (λ x y. levels_from goal.read goal.write x y to.enables to.count) a d
     ∙ ap₂ (λ x y. levels_from goal.read goal.write goal.address goal.word x y) e c
 
-pub in_bytes : (word bytes place : ℕ) → word / 2 ^ (bytes * 8 * place) % 2 ^ (bytes * 8) ≡ word / 256 ^ (place * bytes) % 256 ^ bytes
+pub in_bytes : (word bytes place : ℕ)
+    → word / 2 ^ (bytes * 8 * place) % 2 ^ (bytes * 8) ≡ word / 256 ^ (place * bytes) % 256 ^ bytes
 in_bytes word bytes place =
     let product : bytes * 8 * place ≡ place * bytes * 8 = mul_comm (bytes * 8) place ∙ sym (mul_assoc place bytes 8) in
     ap₂ (λ x y. word / x % y) (ap (λ k. 2 ^ k) product ∙ byte_powers (place * bytes)) (byte_powers bytes)
@@ -178,11 +198,13 @@ pub lanes_reach : (w lanes address : ℕ) → w ≡ 2 ^ lanes → w ≤ 2 ^ addr
 lanes_reach w lanes address e reach = by_case (nat_lt address lanes) refl
   where
     by_case : (t : Bool) → nat_lt address lanes ≡ t → lanes ≤ address
-    by_case true above = absurd (let less = ltb-true address lanes above in let power = pow-lt less in omega (arith, e, reach, power))
+    by_case true above =
+        absurd (let less = ltb-true address lanes above in let power = pow-lt less in omega (arith, e, reach, power))
     by_case false below = ltb-false address lanes below
 
 abbrev widths_from : ℕ → ℕ → ℕ → ℕ → ℕ → Widths
 widths_from a w e k t = record { address = a; word = w; enables = e; count = k; tag = t }
 
 pub widths_are : (a w e k t b v f l u : ℕ) → a ≡ b → w ≡ v → e ≡ f → k ≡ l → t ≡ u → widths_from a w e k t ≡ widths_from b v f l u
-widths_are a w e k t b v f l u p q r s y = ap₂ (λ x z. widths_from x z e k t) p q ∙ ap₂ (λ x z. widths_from b v x z t) r s ∙ ap (widths_from b v f l) y
+widths_are a w e k t b v f l u p q r s y =
+    ap₂ (λ x z. widths_from x z e k t) p q ∙ ap₂ (λ x z. widths_from b v x z t) r s ∙ ap (widths_from b v f l) y

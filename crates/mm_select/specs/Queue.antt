@@ -11,11 +11,14 @@ use Rattle.item_queues.specs.Queues.{held_in}
 -- `word` is the narrow word of `wide`, of so many bits, that stands at the oldest place, where one is held
 pub record TakesOldest (netlist : Netlist) (queue : ItemQueue 1) (wide word : NetValue) (width : ℕ) : Type 0 where
   pub place : NetValue
-  pub oldest : Always netlist (λ cycle. 1 ≤ cycle.net queue.count.number → (coming : List ℕ) → shown_oldest (held_in cycle queue) coming ≡ 1 ∷ cycle.net place.number ∷ [])
-  pub word_is : Always netlist (λ cycle. cycle.net word.number ≡ cycle.net wide.number / 2 ^ (width * cycle.net place.number) % 2 ^ width)
+  pub oldest : Always netlist (λ cycle. 1 ≤ cycle.net queue.count.number → (coming : List ℕ)
+      → shown_oldest (held_in cycle queue) coming ≡ 1 ∷ cycle.net place.number ∷ [])
+  pub word_is : Always netlist (λ cycle. cycle.net word.number
+      ≡ cycle.net wide.number / 2 ^ (width * cycle.net place.number) % 2 ^ width)
 
 -- what stands lasts. No contract reads this proof
-pub taking_lasts : (old new : Netlist) (queue : ItemQueue 1) (wide word : NetValue) (width : ℕ) → TakesOldest old queue wide word width → Extends old new → TakesOldest new queue wide word width
+pub taking_lasts : (old new : Netlist) (queue : ItemQueue 1) (wide word : NetValue) (width : ℕ)
+    → TakesOldest old queue wide word width → Extends old new → TakesOldest new queue wide word width
 taking_lasts old new queue wide word width h e = record {
   place = h.place;
   oldest = λ cycle v. h.oldest cycle (e.valuations cycle v);

@@ -18,7 +18,8 @@ fn raise_once(builder: &mut Builder, net: Net, bit: Net) -> Result<Net, NetFault
     requires bit { IsBit builder.old bit }
     requires few { net.width + net.width ≤ 128 }
     ensures net { IfOk result (λ made. IsNetOfWidth builder.new made (net.width + net.width)) }
-    ensures value { IfOk result (λ made. Always builder.new (λ cycle. cycle.net made.number ≡ cycle.net net.number * 2 ^ (net.width * cycle.net bit.number))) }
+    ensures value { IfOk result (λ made. Always builder.new (λ cycle. cycle.net made.number
+        ≡ cycle.net net.number * 2 ^ (net.width * cycle.net bit.number))) }
     ensures adds { AddsNets 4 builder.old builder.new }
     ensures full { result ≡ Err NetFault.TooManyNets → 2 ^ 20 < length builder.old.lines + 4 }
 {
@@ -37,7 +38,8 @@ pub fn raise_to(builder: &mut Builder, net: Net, place: Net, bits: u8) -> Result
     requires some { 1 ≤ bits }
     requires few { net.width * 2 ^ bits ≤ 128 }
     ensures net { IfOk result (λ made. IsNetOfWidth builder.new made (net.width * 2 ^ bits)) }
-    ensures value { IfOk result (λ made. Always builder.new (λ cycle. cycle.net made.number ≡ cycle.net net.number * 2 ^ (net.width * cycle.net place.number))) }
+    ensures value { IfOk result (λ made. Always builder.new (λ cycle. cycle.net made.number
+        ≡ cycle.net net.number * 2 ^ (net.width * cycle.net place.number))) }
     ensures adds { AddsNets (6 * bits) builder.old builder.new }
     ensures full { result ≡ Err NetFault.TooManyNets → 2 ^ 20 < length builder.old.lines + 6 * bits }
 {
@@ -58,7 +60,8 @@ fn take_half(builder: &mut Builder, net: Net, half: u8, bit: Net) -> Result<Net,
     requires few { half ≤ 64 }
     requires bit { IsBit builder.old bit }
     ensures net { IfOk result (λ made. IsNetOfWidth builder.new made half) }
-    ensures value { IfOk result (λ made. Always builder.new (λ cycle. cycle.net made.number ≡ cycle.net net.number / 2 ^ (half * cycle.net bit.number) % 2 ^ half)) }
+    ensures value { IfOk result (λ made. Always builder.new (λ cycle. cycle.net made.number
+        ≡ cycle.net net.number / 2 ^ (half * cycle.net bit.number) % 2 ^ half)) }
     ensures adds { AddsNets 3 builder.old builder.new }
     ensures full { result ≡ Err NetFault.TooManyNets → 2 ^ 20 < length builder.old.lines + 3 }
 {
@@ -82,7 +85,8 @@ pub fn take_place(
     requires place { IsNetOfWidth builder.old place bits }
     requires some { 1 ≤ bits }
     ensures net { IfOk result (λ made. IsNetOfWidth builder.new made width) }
-    ensures value { IfOk result (λ made. Always builder.new (λ cycle. cycle.net made.number ≡ cycle.net wide.number / 2 ^ (width * cycle.net place.number) % 2 ^ width)) }
+    ensures value { IfOk result (λ made. Always builder.new (λ cycle. cycle.net made.number
+        ≡ cycle.net wide.number / 2 ^ (width * cycle.net place.number) % 2 ^ width)) }
     ensures adds { AddsNets (5 * bits) builder.old builder.new }
     ensures full { result ≡ Err NetFault.TooManyNets → 2 ^ 20 < length builder.old.lines + 5 * bits }
 {
@@ -102,8 +106,10 @@ pub fn repeat(builder: &mut Builder, word: Net, times: u8) -> Result<Net, NetFau
     requires word { IsNet builder.old word }
     requires few { word.width * 2 ^ times ≤ 128 }
     ensures net { IfOk result (λ made. IsNetOfWidth builder.new made (word.width * 2 ^ times)) }
-    ensures value { IfOk result (λ made. (bytes : ℕ) → word.width ≡ bytes * 8 → Always builder.new (λ cycle. cycle.net made.number ≡ repeated bytes (2 ^ times) (cycle.net word.number))) }
-    ensures spread { IfOk result (λ made. Always builder.new (λ cycle. cycle.net made.number ≡ spread word.width (2 ^ times) (cycle.net word.number))) }
+    ensures value { IfOk result (λ made. (bytes : ℕ) → word.width ≡ bytes * 8
+        → Always builder.new (λ cycle. cycle.net made.number ≡ repeated bytes (2 ^ times) (cycle.net word.number))) }
+    ensures spread { IfOk result (λ made. Always builder.new (λ cycle. cycle.net made.number
+        ≡ spread word.width (2 ^ times) (cycle.net word.number))) }
     ensures adds { AddsNets times builder.old builder.new }
     ensures full { result ≡ Err NetFault.TooManyNets → 2 ^ 20 < length builder.old.lines + times }
 {

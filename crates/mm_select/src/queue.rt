@@ -28,7 +28,8 @@ pub(crate) fn goes_now(builder: &mut Builder, count: Net, valid: Net) -> Result<
     requires count { IsNet builder.old count }
     requires valid { IsBit builder.old valid }
     ensures net { IfOk result (λ goes. IsBit builder.new goes) }
-    ensures value { IfOk result (λ goes. Always builder.new (λ cycle. is_raised (cycle.net goes.number) ≡ (is_raised (cycle.net valid.number) && nat_lt 0 (cycle.net count.number)))) }
+    ensures value { IfOk result (λ goes. Always builder.new (λ cycle. is_raised (cycle.net goes.number)
+        ≡ (is_raised (cycle.net valid.number) && nat_lt 0 (cycle.net count.number)))) }
     ensures adds { AddsNets 2 builder.old builder.new }
     ensures full { result ≡ Err NetFault.TooManyNets → 2 ^ 20 < length builder.old.lines + 2 }
 {

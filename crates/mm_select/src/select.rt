@@ -50,7 +50,8 @@ pub fn align(builder: &mut Builder, address: Net, lanes: u8) -> Result<Net, NetF
     requires some { 1 ≤ lanes }
     requires reach { lanes ≤ address.width }
     ensures net { IfOk result (λ aligned. IsNetOfWidth builder.new aligned address.width) }
-    ensures value { IfOk result (λ aligned. Always builder.new (λ cycle. cycle.net aligned.number ≡ cycle.net address.number / 2 ^ lanes * 2 ^ lanes)) }
+    ensures value { IfOk result (λ aligned. Always builder.new (λ cycle. cycle.net aligned.number
+        ≡ cycle.net address.number / 2 ^ lanes * 2 ^ lanes)) }
     ensures adds { AddsNets 3 builder.old builder.new }
     ensures full { result ≡ Err NetFault.TooManyNets → 2 ^ 20 < length builder.old.lines + 3 }
 {
@@ -70,7 +71,8 @@ fn shut_bit(builder: &mut Builder, count: Net, write: Net, reads: u8) -> Result<
     requires some { 1 ≤ reads }
     requires wide { reads < 2 ^ count.width }
     ensures net { IfOk result (λ shut. IsBit builder.new shut) }
-    ensures value { IfOk result (λ shut. Always builder.new (λ cycle. is_raised (cycle.net shut.number) ≡ (not (is_raised (cycle.net write.number)) && not (nat_lt (cycle.net count.number) reads)))) }
+    ensures value { IfOk result (λ shut. Always builder.new (λ cycle. is_raised (cycle.net shut.number)
+        ≡ (not (is_raised (cycle.net write.number)) && not (nat_lt (cycle.net count.number) reads)))) }
     ensures adds { AddsNets 4 builder.old builder.new }
     ensures full { result ≡ Err NetFault.TooManyNets → 2 ^ 20 < length builder.old.lines + 4 }
 {
@@ -125,7 +127,8 @@ pub fn asks_now(builder: &mut Builder, read: Net, write: Net, wait: Net) -> Resu
     requires write { IsBit builder.old write }
     requires wait { IsBit builder.old wait }
     ensures net { IfOk result (λ asks. IsBit builder.new asks) }
-    ensures value { IfOk result (λ asks. Always builder.new (λ cycle. is_raised (cycle.net asks.number) ≡ is_asked cycle read write wait)) }
+    ensures value { IfOk result (λ asks. Always builder.new (λ cycle. is_raised (cycle.net asks.number)
+        ≡ is_asked cycle read write wait)) }
     ensures adds { AddsNets 4 builder.old builder.new }
     ensures full { result ≡ Err NetFault.TooManyNets → 2 ^ 20 < length builder.old.lines + 4 }
 {

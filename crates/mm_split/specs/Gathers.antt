@@ -14,7 +14,8 @@ pub record IsGather (netlist : Netlist) (gather : Gather) (bits : ℕ) : Type 0 
 
 -- ---- what stands lasts. No contract reads this proof
 
-pub gather_lasts : (old new : Netlist) (gather : Gather) (bits : ℕ) → Extends old new → IsGather old gather bits → IsGather new gather bits
+pub gather_lasts : (old new : Netlist) (gather : Gather) (bits : ℕ) → Extends old new → IsGather old gather bits
+    → IsGather new gather bits
 gather_lasts old new gather bits e h = record {
   here = e.nets gather.here.number gather.here.width h.here;
   word = e.nets gather.word.number gather.word.width h.word;

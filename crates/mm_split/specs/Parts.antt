@@ -50,7 +50,8 @@ pub record IsAbove (sizes : Sizes) (raw : Raw) (place reads set : ℕ) (asked op
 pub record IsBeatBelow (sizes : Sizes) (raw : Raw) (number shows last : ℕ) (below : Raw) : Type 0 where
   pub read : below.levels.read ≡ one_if (is_raised shows && not (is_raised raw.levels.write))
   pub write : below.levels.write ≡ one_if (is_raised shows && is_raised raw.levels.write)
-  pub address : below.levels.address ≡ raw.levels.address / 2 ^ sizes.wide_bits * 2 ^ sizes.wide_bits + number * sizes.narrow_bytes
+  pub address : below.levels.address
+      ≡ raw.levels.address / 2 ^ sizes.wide_bits * 2 ^ sizes.wide_bits + number * sizes.narrow_bytes
   pub word : below.levels.word ≡ (if is_raised raw.levels.write then lane (sizes.narrow_bytes * 8) raw.levels.word number else 0)
   pub enables : below.levels.enables ≡ lane sizes.narrow_bytes raw.levels.enables number
   pub count : below.levels.count ≡ 1

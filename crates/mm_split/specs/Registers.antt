@@ -39,7 +39,8 @@ pub record AreRegisters (netlist : Netlist) (sizes : Sizes) (made : SplitRegiste
 
 -- ---- what stands lasts. No contract reads these proofs; the law of the splitter cites them
 
-pub register_nets_last : (old new : Netlist) (sizes : Sizes) (made : SplitRegisters) → Extends old new → AreRegisterNets old sizes made → AreRegisterNets new sizes made
+pub register_nets_last : (old new : Netlist) (sizes : Sizes) (made : SplitRegisters) → Extends old new
+    → AreRegisterNets old sizes made → AreRegisterNets new sizes made
 register_nets_last old new sizes made e h = record {
   place = net_lasts old new made.place sizes.place_bits e h.place;
   set = net_lasts old new made.set sizes.pieces e h.set;
@@ -49,7 +50,8 @@ register_nets_last old new sizes made e h = record {
   code = net_lasts old new made.code 2 e h.code;
 }
 
-pub registers_last : (old new : Netlist) (sizes : Sizes) (made : SplitRegisters) → Extends old new → ((n : ℕ) → owns made n → IsWaiting old n → IsWaiting new n) → AreRegisters old sizes made → AreRegisters new sizes made
+pub registers_last : (old new : Netlist) (sizes : Sizes) (made : SplitRegisters) → Extends old new
+    → ((n : ℕ) → owns made n → IsWaiting old n → IsWaiting new n) → AreRegisters old sizes made → AreRegisters new sizes made
 registers_last old new sizes made e w h = record {
   nets = register_nets_last old new sizes made e h.nets;
   starts = λ run cycles r. h.starts run cycles (e.runs run cycles r);
@@ -57,10 +59,13 @@ registers_last old new sizes made e w h = record {
   wait = record { start = h.wait.start; numbers = h.wait.numbers; wait = λ n o. w n o (h.wait.wait n o) };
 }
 
-pub nets_of_registers : (netlist : Netlist) (sizes : Sizes) (made : SplitRegisters) → AreRegisterNets netlist sizes made → AreNets netlist (group_of made)
-nets_of_registers netlist sizes made h = (h.place.is_net, (h.set.is_net, (h.reads.is_net, (h.come.is_net, (h.word.is_net, (h.code.is_net, tt))))))
+pub nets_of_registers : (netlist : Netlist) (sizes : Sizes) (made : SplitRegisters) → AreRegisterNets netlist sizes made
+    → AreNets netlist (group_of made)
+nets_of_registers netlist sizes made h =
+    (h.place.is_net, (h.set.is_net, (h.reads.is_net, (h.come.is_net, (h.word.is_net, (h.code.is_net, tt))))))
 
-pub widths_same : (netlist longer : Netlist) (sizes : Sizes) (made next : SplitRegisters) → AreRegisterNets netlist sizes made → AreRegisterNets longer sizes next → group_widths (group_of made) ≡ group_widths (group_of next)
+pub widths_same : (netlist longer : Netlist) (sizes : Sizes) (made next : SplitRegisters) → AreRegisterNets netlist sizes made
+    → AreRegisterNets longer sizes next → group_widths (group_of made) ≡ group_widths (group_of next)
 widths_same netlist longer sizes made next h k =
     let e0 = h.place.has_width ∙ sym k.place.has_width in
     let e1 = h.set.has_width ∙ sym k.set.has_width in

@@ -22,8 +22,10 @@ pub record AreAbove (netlist : Netlist) (above : AboveNets) : Type 0 where
 
 abbrev pub TellsAbove : Sizes → CommandNets → SplitRegisters → NetValue → NetValue → AboveNets → Cycle → Type 0
 TellsAbove sizes from registers asked opens above cycle =
-    IsAbove sizes (raw_in cycle from) (cycle.net registers.place.number) (cycle.net registers.reads.number) (cycle.net registers.set.number)
-    (cycle.net asked.number) (cycle.net opens.number) (cycle.net above.shows.number) (cycle.net above.last.number) (cycle.net above.none.number)
+    IsAbove sizes (raw_in cycle from) (cycle.net registers.place.number) (cycle.net registers.reads.number)
+    (cycle.net registers.set.number)
+    (cycle.net asked.number) (cycle.net opens.number) (cycle.net above.shows.number) (cycle.net above.last.number)
+    (cycle.net above.none.number)
 
 pub record ArePartNets (netlist : Netlist) (sizes : Sizes) (part : Part) : Type 0 where
   pub below : AreCommandNets netlist part.below
@@ -34,18 +36,36 @@ pub record ArePartNets (netlist : Netlist) (sizes : Sizes) (part : Part) : Type 
 -- the beat below is the next part of the beat above
 pub record IsPart (sizes : Sizes) (from : CommandNets) (registers : SplitRegisters) (part : Part) (cycle : Cycle) : Type 0 where
   pub told : TellsAbove sizes from registers part.asked part.opens part.above cycle
-  pub beat : IsBeatBelow sizes (raw_in cycle from) (number_of sizes (here_of sizes (touched_of sizes (raw_in cycle from)) (cycle.net registers.place.number))) (cycle.net part.above.shows.number) (cycle.net part.above.last.number) (raw_in cycle part.below)
+  pub beat : IsBeatBelow sizes (raw_in cycle from)
+      (number_of sizes (here_of sizes (touched_of sizes (raw_in cycle from)) (cycle.net registers.place.number)))
+      (cycle.net part.above.shows.number) (cycle.net part.above.last.number) (raw_in cycle part.below)
 
 -- the widths of the command below
 abbrev pub narrowed : Sizes → Widths → Widths
-narrowed sizes widths = record { address = widths.address; word = sizes.narrow_bytes * 8; enables = sizes.narrow_bytes; count = widths.count; tag = widths.tag }
+narrowed sizes widths =
+    record {
+      address =
+          widths.address;
+      word = sizes.narrow_bytes * 8;
+      enables = sizes.narrow_bytes;
+      count = widths.count;
+      tag = widths.tag;
+    }
 
 -- ---- what stands lasts. No contract reads these proofs
 
 pub above_lasts : (old new : Netlist) (above : AboveNets) → Extends old new → AreAbove old above → AreAbove new above
-above_lasts old new above e h = record { shows = net_lasts old new above.shows 1 e h.shows; last = net_lasts old new above.last 1 e h.last; none = net_lasts old new above.none 1 e h.none }
+above_lasts old new above e h =
+    record {
+      shows =
+          net_lasts old new above.shows 1 e h.shows;
+      last =
+          net_lasts old new above.last 1 e h.last;
+      none = net_lasts old new above.none 1 e h.none;
+    }
 
-pub part_lasts : (old new : Netlist) (sizes : Sizes) (part : Part) → Extends old new → ArePartNets old sizes part → ArePartNets new sizes part
+pub part_lasts : (old new : Netlist) (sizes : Sizes) (part : Part) → Extends old new → ArePartNets old sizes part
+    → ArePartNets new sizes part
 part_lasts old new sizes part e h = record {
   below = command_lasts old new part.below e h.below;
   asked = net_lasts old new part.asked sizes.pieces e h.asked;

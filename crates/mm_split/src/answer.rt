@@ -32,7 +32,8 @@ fn completes(builder: &mut Builder, place: Net, count: Net) -> Result<Net, NetFa
     requires place { IsNetOfWidth builder.old place 5 }
     requires count { IsNetOfWidth builder.old count 5 }
     ensures net { IfOk result (λ net. IsBit builder.new net) }
-    ensures value { IfOk result (λ net. Always builder.new (λ cycle. is_raised (cycle.net net.number) ≡ nat_lt (cycle.net count.number) (suc (suc (cycle.net place.number))))) }
+    ensures value { IfOk result (λ net. Always builder.new (λ cycle. is_raised (cycle.net net.number)
+        ≡ nat_lt (cycle.net count.number) (suc (suc (cycle.net place.number))))) }
     ensures adds { AddsNets 7 builder.old builder.new }
     ensures full { result ≡ Err NetFault.TooManyNets → 2 ^ 20 < length builder.old.lines + 7 }
 {
@@ -46,7 +47,8 @@ fn greater(builder: &mut Builder, one: Net, other: Net) -> Result<Net, NetFault>
     requires one { IsNet builder.old one }
     requires other { IsNetOfWidth builder.old other one.width }
     ensures net { IfOk result (λ net. IsNetOfWidth builder.new net one.width) }
-    ensures value { IfOk result (λ net. Always builder.new (λ cycle. cycle.net net.number ≡ max (cycle.net one.number) (cycle.net other.number))) }
+    ensures value { IfOk result (λ net. Always builder.new (λ cycle. cycle.net net.number
+        ≡ max (cycle.net one.number) (cycle.net other.number))) }
     ensures adds { AddsNets 2 builder.old builder.new }
     ensures full { result ≡ Err NetFault.TooManyNets → 2 ^ 20 < length builder.old.lines + 2 }
 {
@@ -123,9 +125,12 @@ pub(crate) fn take(
     requires part { ArePartNets builder.old sizes.now part.now }
     requires wait { IsBit builder.old wait }
     ensures nets { IfOk result (λ made. AreTakenNets builder.new made) }
-    ensures below { IfOk result (λ made. Always builder.new (λ cycle. is_raised (cycle.net made.below.number) ≡ (is_shown (raw_in cycle part.now.below) && not (is_raised (cycle.net wait.number))))) }
-    ensures above { IfOk result (λ made. Always builder.new (λ cycle. is_raised (cycle.net made.above.number) ≡ (is_shown (raw_in cycle from.now) && is_done cycle part.now made.below))) }
-    ensures waits { IfOk result (λ made. Always builder.new (λ cycle. is_raised (cycle.net made.waits.number) ≡ not (is_done cycle part.now made.below))) }
+    ensures below { IfOk result (λ made. Always builder.new (λ cycle. is_raised (cycle.net made.below.number)
+        ≡ (is_shown (raw_in cycle part.now.below) && not (is_raised (cycle.net wait.number))))) }
+    ensures above { IfOk result (λ made. Always builder.new (λ cycle. is_raised (cycle.net made.above.number)
+        ≡ (is_shown (raw_in cycle from.now) && is_done cycle part.now made.below))) }
+    ensures waits { IfOk result (λ made. Always builder.new (λ cycle. is_raised (cycle.net made.waits.number)
+        ≡ not (is_done cycle part.now made.below))) }
     ensures adds { AddsNets 9 builder.old builder.new }
     ensures full { result ≡ Err NetFault.TooManyNets → 2 ^ 20 < length builder.old.lines + 9 }
 {
@@ -157,7 +162,8 @@ fn step(
     requires next { IsNetOfWidth builder.old next register.width }
     ensures net { IfOk result (λ net. IsNetOfWidth builder.new net register.width) }
     ensures value { IfOk result (λ net. Always builder.new (λ cycle. cycle.net net.number
-        ≡ (if is_raised (cycle.net clears.number) then 0 else if is_raised (cycle.net moves.number) then cycle.net next.number else cycle.net register.number))) }
+        ≡ (if is_raised (cycle.net clears.number) then 0 else if is_raised (cycle.net moves.number) then cycle.net next.number
+        else cycle.net register.number))) }
     ensures adds { AddsNets 3 builder.old builder.new }
     ensures full { result ≡ Err NetFault.TooManyNets → 2 ^ 20 < length builder.old.lines + 3 }
 {
@@ -177,7 +183,8 @@ fn step_on(builder: &mut Builder, register: Net, clears: Net, moves: Net) -> Res
     requires moves { IsBit builder.old moves }
     ensures net { IfOk result (λ net. IsNetOfWidth builder.new net register.width) }
     ensures value { IfOk result (λ net. Always builder.new (λ cycle. cycle.net net.number
-        ≡ (if is_raised (cycle.net clears.number) then 0 else if is_raised (cycle.net moves.number) then (cycle.net register.number + 1) % 2 ^ register.width else cycle.net register.number))) }
+        ≡ (if is_raised (cycle.net clears.number) then 0 else if is_raised (cycle.net moves.number)
+        then (cycle.net register.number + 1) % 2 ^ register.width else cycle.net register.number))) }
     ensures adds { AddsNets 5 builder.old builder.new }
     ensures full { result ≡ Err NetFault.TooManyNets → 2 ^ 20 < length builder.old.lines + 5 }
 {
@@ -197,7 +204,8 @@ fn count_reads(builder: &mut Builder, count: Net, comes: Net, goes: Net) -> Resu
     requires goes { IsBit builder.old goes }
     ensures net { IfOk result (λ net. IsNetOfWidth builder.new net 5) }
     ensures value { IfOk result (λ net. Always builder.new (λ cycle. cycle.net count.number < 31
-        → cycle.net net.number ≡ (cycle.net count.number + one_if (is_raised (cycle.net comes.number))) - one_if (is_raised (cycle.net goes.number)))) }
+        → cycle.net net.number
+        ≡ (cycle.net count.number + one_if (is_raised (cycle.net comes.number))) - one_if (is_raised (cycle.net goes.number)))) }
     ensures adds { AddsNets 9 builder.old builder.new }
     ensures full { result ≡ Err NetFault.TooManyNets → 2 ^ 20 < length builder.old.lines + 9 }
 {

@@ -32,7 +32,8 @@ fn asked_mask(builder: &mut Builder, mask: Net, pieces: u8) -> Result<Net, NetFa
     requires some { 1 ≤ pieces }
     requires few { pieces ≤ 16 }
     ensures net { IfOk result (λ net. IsNetOfWidth builder.new net pieces) }
-    ensures value { IfOk result (λ net. Always builder.new (λ cycle. cycle.net net.number ≡ or_first_mask (cycle.net mask.number))) }
+    ensures value { IfOk result (λ net. Always builder.new (λ cycle. cycle.net net.number
+        ≡ or_first_mask (cycle.net mask.number))) }
     ensures adds { AddsNets 3 builder.old builder.new }
     ensures full { result ≡ Err NetFault.TooManyNets → 2 ^ 20 < length builder.old.lines + 3 }
 {
@@ -60,7 +61,8 @@ fn opens(
     requires room { room ≤ 16 }
     ensures net { IfOk result (λ net. IsBit builder.new net) }
     ensures value { IfOk result (λ net. Always builder.new (λ cycle. is_raised (cycle.net net.number)
-        ≡ may_go room (cycle.net write.number) (cycle.net registers.now.place.number) (cycle.net registers.now.reads.number) (cycle.net registers.now.set.number) (cycle.net asked.number))) }
+        ≡ may_go room (cycle.net write.number) (cycle.net registers.now.place.number) (cycle.net registers.now.reads.number)
+        (cycle.net registers.now.set.number) (cycle.net asked.number))) }
     ensures adds { AddsNets 10 builder.old builder.new }
     ensures full { result ≡ Err NetFault.TooManyNets → 2 ^ 20 < length builder.old.lines + 10 }
 {
@@ -86,7 +88,8 @@ fn count_parts(builder: &mut Builder, from: &CommandNets, touched: Net) -> Resul
     requires from { AreCommandNets builder.old from.now }
     requires touched { IsNetOfWidth builder.old touched 5 }
     ensures net { IfOk result (λ net. IsNetOfWidth builder.new net 5) }
-    ensures value { IfOk result (λ net. Always builder.new (λ cycle. cycle.net net.number ≡ part_count (raw_in cycle from.now) (cycle.net touched.number))) }
+    ensures value { IfOk result (λ net. Always builder.new (λ cycle. cycle.net net.number
+        ≡ part_count (raw_in cycle from.now) (cycle.net touched.number))) }
     ensures adds { AddsNets 6 builder.old builder.new }
     ensures full { result ≡ Err NetFault.TooManyNets → 2 ^ 20 < length builder.old.lines + 6 }
 {
@@ -127,9 +130,12 @@ fn look_above(
     ensures last_net { IfOk result (λ made. IsBit builder.new made.last) }
     ensures none_net { IfOk result (λ made. IsBit builder.new made.none) }
     ensures shows { IfOk result (λ made. Always builder.new (λ cycle. is_raised (cycle.net made.shows.number)
-        ≡ shows_part (raw_in cycle from.now) (is_raised (cycle.net opens.number)) (cycle.net place.number) (cycle.net parts.number))) }
-    ensures last { IfOk result (λ made. Always builder.new (λ cycle. is_raised (cycle.net made.last.number) ≡ nat_eq (suc (cycle.net place.number)) (cycle.net parts.number))) }
-    ensures none { IfOk result (λ made. Always builder.new (λ cycle. is_raised (cycle.net made.none.number) ≡ nat_eq (cycle.net parts.number) 0)) }
+        ≡ shows_part (raw_in cycle from.now) (is_raised (cycle.net opens.number)) (cycle.net place.number)
+        (cycle.net parts.number))) }
+    ensures last { IfOk result (λ made. Always builder.new (λ cycle. is_raised (cycle.net made.last.number)
+        ≡ nat_eq (suc (cycle.net place.number)) (cycle.net parts.number))) }
+    ensures none { IfOk result (λ made. Always builder.new (λ cycle. is_raised (cycle.net made.none.number)
+        ≡ nat_eq (cycle.net parts.number) 0)) }
     ensures adds { AddsNets 9 builder.old builder.new }
     ensures full { result ≡ Err NetFault.TooManyNets → 2 ^ 20 < length builder.old.lines + 9 }
 {
@@ -151,7 +157,8 @@ fn piece_offset(builder: &mut Builder, number: Net, sizes: &Sizes) -> Result<Net
     requires sizes { AreSizes sizes.now }
     requires number { IsNetOfWidth builder.old number sizes.now.place_bits }
     ensures net { IfOk result (λ net. IsNetOfWidth builder.new net sizes.now.wide_bits) }
-    ensures value { IfOk result (λ net. Always builder.new (λ cycle. cycle.net net.number ≡ cycle.net number.number * sizes.now.narrow_bytes)) }
+    ensures value { IfOk result (λ net. Always builder.new (λ cycle. cycle.net net.number
+        ≡ cycle.net number.number * sizes.now.narrow_bytes)) }
     ensures adds { AddsNets 2 builder.old builder.new }
     ensures full { result ≡ Err NetFault.TooManyNets → 2 ^ 20 < length builder.old.lines + 2 }
 {
@@ -166,7 +173,8 @@ fn piece_address(builder: &mut Builder, address: Net, offset: Net) -> Result<Net
     requires offset { IsNet builder.old offset }
     requires within { offset.width ≤ address.width }
     ensures net { IfOk result (λ net. IsNetOfWidth builder.new net address.width) }
-    ensures value { IfOk result (λ net. Always builder.new (λ cycle. cycle.net net.number ≡ cycle.net address.number / 2 ^ offset.width * 2 ^ offset.width + cycle.net offset.number)) }
+    ensures value { IfOk result (λ net. Always builder.new (λ cycle. cycle.net net.number
+        ≡ cycle.net address.number / 2 ^ offset.width * 2 ^ offset.width + cycle.net offset.number)) }
     ensures adds { AddsNets 2 builder.old builder.new }
     ensures full { result ≡ Err NetFault.TooManyNets → 2 ^ 20 < length builder.old.lines + 2 }
 {
@@ -193,7 +201,8 @@ fn piece_word(
     requires width { from.now.word.width ≡ 2 ^ sizes.now.wide_bits * 8 }
     ensures net { IfOk result (λ net. IsNetOfWidth builder.new net (sizes.now.narrow_bytes * 8)) }
     ensures value { IfOk result (λ net. Always builder.new (λ cycle. cycle.net net.number
-        ≡ (if is_raised (cycle.net from.now.write.number) then lane (sizes.now.narrow_bytes * 8) (cycle.net from.now.word.number) (cycle.net number.number) else 0))) }
+        ≡ (if is_raised (cycle.net from.now.write.number)
+        then lane (sizes.now.narrow_bytes * 8) (cycle.net from.now.word.number) (cycle.net number.number) else 0))) }
     ensures adds { AddsNets 22 builder.old builder.new }
     ensures full { result ≡ Err NetFault.TooManyNets → 2 ^ 20 < length builder.old.lines + 22 }
 {
@@ -221,7 +230,9 @@ fn part_below(
     requires address { sizes.now.wide_bits ≤ from.now.address.width }
     ensures command { IfOk result (λ to. AreCommandNets builder.new to) }
     ensures widths { IfOk result (λ to. widths_of to ≡ narrowed sizes.now (widths_of from.now)) }
-    ensures value { IfOk result (λ to. Always builder.new (λ cycle. IsBeatBelow sizes.now (raw_in cycle from.now) (number_of sizes.now (cycle.net here.number)) (cycle.net above.now.shows.number) (cycle.net above.now.last.number) (raw_in cycle to))) }
+    ensures value { IfOk result (λ to. Always builder.new (λ cycle. IsBeatBelow sizes.now (raw_in cycle from.now)
+        (number_of sizes.now (cycle.net here.number)) (cycle.net above.now.shows.number) (cycle.net above.now.last.number)
+        (raw_in cycle to))) }
     ensures adds { AddsNets 156 builder.old builder.new }
     ensures full { result ≡ Err NetFault.TooManyNets → 2 ^ 20 < length builder.old.lines + 156 }
 {
@@ -294,7 +305,8 @@ fn look(
     ensures asked_net { IfOk result (λ made. IsNetOfWidth builder.new made.asked sizes.now.pieces) }
     ensures opens_net { IfOk result (λ made. IsBit builder.new made.opens) }
     ensures above_nets { IfOk result (λ made. AreAbove builder.new made.above) }
-    ensures here { IfOk result (λ made. Always builder.new (λ cycle. cycle.net made.here.number ≡ here_of sizes.now (touched_of sizes.now (raw_in cycle from.now)) (cycle.net registers.now.place.number))) }
+    ensures here { IfOk result (λ made. Always builder.new (λ cycle. cycle.net made.here.number
+        ≡ here_of sizes.now (touched_of sizes.now (raw_in cycle from.now)) (cycle.net registers.now.place.number))) }
     ensures above { IfOk result (λ made. Always builder.new (λ cycle. TellsAbove sizes.now from.now registers.now made.asked made.opens made.above cycle)) }
     ensures adds { AddsNets 175 builder.old builder.new }
     ensures full { result ≡ Err NetFault.TooManyNets → 2 ^ 20 < length builder.old.lines + 175 }

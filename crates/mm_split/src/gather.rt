@@ -41,7 +41,9 @@ fn fill_lane(builder: &mut Builder, gather: &Gather, bits: u8, number: u8) -> Re
     requires marks { number < gather.now.here.width }
     requires inside { number * bits + bits ≤ gather.now.word.width }
     ensures net { IfOk result (λ net. IsNetOfWidth builder.new net bits) }
-    ensures value { IfOk result (λ net. Always builder.new (λ cycle. cycle.net net.number ≡ (if is_marked (cycle.net gather.now.here.number) number then cycle.net gather.now.piece.number else lane bits (cycle.net gather.now.word.number) number))) }
+    ensures value { IfOk result (λ net. Always builder.new (λ cycle. cycle.net net.number
+        ≡ (if is_marked (cycle.net gather.now.here.number) number then cycle.net gather.now.piece.number
+        else lane bits (cycle.net gather.now.word.number) number))) }
     ensures adds { AddsNets 3 builder.old builder.new }
     ensures full { result ≡ Err NetFault.TooManyNets → 2 ^ 20 < length builder.old.lines + 3 }
 {
@@ -60,7 +62,9 @@ fn fill_first(builder: &mut Builder, gather: &Gather, bits: u8, count: u8) -> Re
     requires marks { count ≤ gather.now.here.width }
     requires inside { count * bits ≤ gather.now.word.width }
     ensures net { IfOk result (λ net. IsNetOfWidth builder.new net (count * bits)) }
-    ensures value { IfOk result (λ net. Always builder.new (λ cycle. cycle.net net.number ≡ fill (is_marked (cycle.net gather.now.here.number)) bits (cycle.net gather.now.word.number) (cycle.net gather.now.piece.number) count)) }
+    ensures value { IfOk result (λ net. Always builder.new (λ cycle. cycle.net net.number
+        ≡ fill (is_marked (cycle.net gather.now.here.number)) bits (cycle.net gather.now.word.number)
+        (cycle.net gather.now.piece.number) count)) }
     ensures adds { AddsNets (4 * count) builder.old builder.new }
     ensures full { result ≡ Err NetFault.TooManyNets → 2 ^ 20 < length builder.old.lines + 4 * count }
 {
@@ -73,7 +77,8 @@ fn fill_first(builder: &mut Builder, gather: &Gather, bits: u8, count: u8) -> Re
     builder.concat(highest, below)
 }
 
-/// What stands below the last piece of the whole word. Where all pieces are asked, the last one comes last, so the others have come and
+/// What stands below the last piece of the whole word. Where all pieces are asked, the last one comes last, so the others have
+/// come and
 /// nothing is put beside them.
 #[tactic(auto, using(net_parts::specs::Laws::growing))]
 fn fill_below(
@@ -88,7 +93,8 @@ fn fill_below(
     requires low { IsNet builder.old low }
     requires kept { IsNetOfWidth builder.old kept low.width }
     ensures net { IfOk result (λ net. IsNetOfWidth builder.new net low.width) }
-    ensures value { IfOk result (λ net. Always builder.new (λ cycle. cycle.net net.number ≡ (if stands_whole sizes.now (cycle.net set.number) then cycle.net kept.number else cycle.net low.number))) }
+    ensures value { IfOk result (λ net. Always builder.new (λ cycle. cycle.net net.number
+        ≡ (if stands_whole sizes.now (cycle.net set.number) then cycle.net kept.number else cycle.net low.number))) }
     ensures adds { AddsNets 2 builder.old builder.new }
     ensures full { result ≡ Err NetFault.TooManyNets → 2 ^ 20 < length builder.old.lines + 2 }
 {
@@ -115,10 +121,14 @@ pub(crate) fn fill_word(
     requires kept { IsNetOfWidth builder.old kept ((sizes.now.pieces - 1) * (sizes.now.narrow_bytes * 8)) }
     requires piece { IsNetOfWidth builder.old piece_net (sizes.now.narrow_bytes * 8) }
     ensures word_net { IfOk result (λ made. IsNetOfWidth builder.new made.word (2 ^ sizes.now.wide_bits * 8)) }
-    ensures low_net { IfOk result (λ made. IsNetOfWidth builder.new made.low ((sizes.now.pieces - 1) * (sizes.now.narrow_bytes * 8))) }
+    ensures low_net { IfOk result (λ made. IsNetOfWidth builder.new made.low
+        ((sizes.now.pieces - 1) * (sizes.now.narrow_bytes * 8))) }
     ensures word { IfOk result (λ made. Always builder.new (λ cycle. cycle.net made.word.number
-        ≡ cycle.net piece_net.number * 2 ^ ((sizes.now.pieces - 1) * (sizes.now.narrow_bytes * 8)) + (if stands_whole sizes.now (cycle.net set.number) then cycle.net kept.number else cycle.net made.low.number))) }
-    ensures low { IfOk result (λ made. Always builder.new (λ cycle. cycle.net made.low.number ≡ fill (is_marked (cycle.net here.number)) (sizes.now.narrow_bytes * 8) (cycle.net kept.number) (cycle.net piece_net.number) (sizes.now.pieces - 1))) }
+        ≡ cycle.net piece_net.number * 2 ^ ((sizes.now.pieces - 1) * (sizes.now.narrow_bytes * 8))
+        + (if stands_whole sizes.now (cycle.net set.number) then cycle.net kept.number else cycle.net made.low.number))) }
+    ensures low { IfOk result (λ made. Always builder.new (λ cycle. cycle.net made.low.number
+        ≡ fill (is_marked (cycle.net here.number)) (sizes.now.narrow_bytes * 8) (cycle.net kept.number)
+        (cycle.net piece_net.number) (sizes.now.pieces - 1))) }
     ensures adds { AddsNets 63 builder.old builder.new }
     ensures full { result ≡ Err NetFault.TooManyNets → 2 ^ 20 < length builder.old.lines + 63 }
 {

@@ -20,7 +20,8 @@ pub(crate) fn piece(builder: &mut Builder, word: Net, bits: u8, number: u8) -> R
     requires some { 1 ≤ bits }
     requires inside { number * bits + bits ≤ word.width }
     ensures net { IfOk result (λ net. IsNetOfWidth builder.new net bits) }
-    ensures value { IfOk result (λ net. Always builder.new (λ cycle. cycle.net net.number ≡ lane bits (cycle.net word.number) number)) }
+    ensures value { IfOk result (λ net. Always builder.new (λ cycle. cycle.net net.number
+        ≡ lane bits (cycle.net word.number) number)) }
     ensures adds { AddsNets 1 builder.old builder.new }
     ensures full { result ≡ Err NetFault.TooManyNets → 2 ^ 20 < length builder.old.lines + 1 }
 {
@@ -36,7 +37,8 @@ fn touched(builder: &mut Builder, enables: Net, bytes: u8, number: u8) -> Result
     requires some { 1 ≤ bytes }
     requires inside { number * bytes + bytes ≤ enables.width }
     ensures net { IfOk result (λ net. IsBit builder.new net) }
-    ensures value { IfOk result (λ net. Always builder.new (λ cycle. cycle.net net.number ≡ one_if (has_lane bytes (cycle.net enables.number) number))) }
+    ensures value { IfOk result (λ net. Always builder.new (λ cycle. cycle.net net.number
+        ≡ one_if (has_lane bytes (cycle.net enables.number) number))) }
     ensures adds { AddsNets 2 builder.old builder.new }
     ensures full { result ≡ Err NetFault.TooManyNets → 2 ^ 20 < length builder.old.lines + 2 }
 {
@@ -58,7 +60,8 @@ pub(crate) fn touched_mask(
     requires few { count ≤ 16 }
     requires inside { count * bytes ≤ enables.width }
     ensures net { IfOk result (λ net. IsNetOfWidth builder.new net count) }
-    ensures value { IfOk result (λ net. Always builder.new (λ cycle. cycle.net net.number ≡ mask_of (has_lane bytes (cycle.net enables.number)) count)) }
+    ensures value { IfOk result (λ net. Always builder.new (λ cycle. cycle.net net.number
+        ≡ mask_of (has_lane bytes (cycle.net enables.number)) count)) }
     ensures adds { AddsNets (3 * count) builder.old builder.new }
     ensures full { result ≡ Err NetFault.TooManyNets → 2 ^ 20 < length builder.old.lines + 3 * count }
 {
@@ -101,8 +104,12 @@ fn look_at(
     requires inside { number < search.now.mask.width }
     ensures here_net { IfOk result (λ made. IsBit builder.new made.here) }
     ensures count_net { IfOk result (λ made. IsNetOfWidth builder.new made.count 5) }
-    ensures here { IfOk result (λ made. Always builder.new (λ cycle. cycle.net made.here.number ≡ one_if (is_marked (cycle.net search.now.mask.number) number && nat_eq (cycle.net below.number) (cycle.net search.now.place.number)))) }
-    ensures count { IfOk result (λ made. Always builder.new (λ cycle. cycle.net made.count.number ≡ cycle.net below.number + one_if (is_marked (cycle.net search.now.mask.number) number))) }
+    ensures here { IfOk result (λ made. Always builder.new (λ cycle. cycle.net made.here.number
+        ≡ one_if
+        (is_marked (cycle.net search.now.mask.number) number
+        && nat_eq (cycle.net below.number) (cycle.net search.now.place.number)))) }
+    ensures count { IfOk result (λ made. Always builder.new (λ cycle. cycle.net made.count.number
+        ≡ cycle.net below.number + one_if (is_marked (cycle.net search.now.mask.number) number))) }
     ensures adds { AddsNets 5 builder.old builder.new }
     ensures full { result ≡ Err NetFault.TooManyNets → 2 ^ 20 < length builder.old.lines + 5 }
 {
@@ -122,7 +129,8 @@ pub(crate) fn find(builder: &mut Builder, search: &Search, count: u8) -> Result<
     requires inside { count ≤ search.now.mask.width }
     ensures here_net { IfOk result (λ made. IsNetOfWidth builder.new made.here count) }
     ensures count_net { IfOk result (λ made. IsNetOfWidth builder.new made.count 5) }
-    ensures value { IfOk result (λ made. Always builder.new (λ cycle. AreFound (cycle.net search.now.mask.number) (cycle.net search.now.place.number) count (cycle.net made.here.number) (cycle.net made.count.number))) }
+    ensures value { IfOk result (λ made. Always builder.new (λ cycle. AreFound (cycle.net search.now.mask.number)
+        (cycle.net search.now.place.number) count (cycle.net made.here.number) (cycle.net made.count.number))) }
     ensures adds { AddsNets (6 * count) builder.old builder.new }
     ensures full { result ≡ Err NetFault.TooManyNets → 2 ^ 20 < length builder.old.lines + 6 * count }
 {
@@ -155,7 +163,8 @@ pub(crate) fn pick_number(
     requires marks { count ≤ mask.width }
     requires fits { count ≤ 2 ^ bits }
     ensures net { IfOk result (λ net. IsNetOfWidth builder.new net bits) }
-    ensures value { IfOk result (λ net. Always builder.new (λ cycle. cycle.net net.number ≡ pick (is_marked (cycle.net mask.number)) count)) }
+    ensures value { IfOk result (λ net. Always builder.new (λ cycle. cycle.net net.number
+        ≡ pick (is_marked (cycle.net mask.number)) count)) }
     ensures adds { AddsNets (3 * count) builder.old builder.new }
     ensures full { result ≡ Err NetFault.TooManyNets → 2 ^ 20 < length builder.old.lines + 3 * count }
 {

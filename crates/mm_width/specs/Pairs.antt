@@ -31,7 +31,8 @@ selects host agent = nat_lt host.word_bytes agent.word_bytes && not (packs host 
 abbrev pub place_bits : HostPort → AgentPort → ℕ
 place_bits host agent = if packs host agent then lane_exponent agent.word_bytes - lane_exponent host.word_bytes else 0
 
--- bursts may go on with so many bits of burstcount: the agent's, or where a beat may become none or many, or many one, that of single beats
+-- bursts may go on with so many bits of burstcount: the agent's, or where a beat may become none or many, or many one, that of
+-- single beats
 abbrev pub bits_between : HostPort → AgentPort → ℕ
 bits_between host agent = if keeps_beats host agent then burst_width agent.burst_bits else 1
 
@@ -66,7 +67,16 @@ pub record MayAskOf (host : HostPort) (agent : AgentPort) (widths : Widths) : Ty
 
 -- what cuts the host's bursts, where that is needed
 abbrev pub cutter_between : HostPort → AgentPort → Cutter
-cutter_between host agent = record { word_bytes = host.word_bytes; count_bits = max (burst_width host.burst_bits) (bits_cut host agent); below_bits = bits_cut host agent; place_bits = place_bits host agent }
+cutter_between host agent =
+    record {
+      word_bytes =
+          host.word_bytes;
+      count_bits =
+          max (burst_width host.burst_bits) (bits_cut host agent);
+      below_bits =
+          bits_cut host agent;
+      place_bits = place_bits host agent;
+    }
 
 -- below the cutter
 abbrev pub widths_between : HostPort → AgentPort → Widths → Widths
@@ -75,7 +85,13 @@ widths_between host agent widths = if needs_cut host agent then given_widths (cu
 -- the same with the agent's word, and with bursts that may go on
 abbrev pub widths_below : HostPort → AgentPort → Widths → Widths
 widths_below host agent widths =
-    record (widths_between host agent widths) { word = agent.word_bytes * 8; enables = agent.word_bytes; count = if needs_cut host agent then bits_between host agent else widths.count }
+    record (widths_between host agent widths) {
+      word =
+          agent.word_bytes * 8;
+      enables =
+          agent.word_bytes;
+      count = if needs_cut host agent then bits_between host agent else widths.count;
+    }
 
 -- each command bears this one tag, the number of its host
 pub record BearsOneTag (netlist : Netlist) (command : CommandNets) : Type 0 where

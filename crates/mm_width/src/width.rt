@@ -39,7 +39,8 @@ pub fn begin_width(
     ensures tag { IfOk result (λ to. to.tag ≡ from.tag) }
     ensures wire { is_wire_pair host.now agent.now ≡ true → IfOk result (λ to. to ≡ from) }
     ensures begun { OnOk result (AreBegunWidths begun.new.items builder.new) }
-    ensures pushed { IfOk result (λ to. IsPushed builder.old (width_of host.now agent.now stages) from to begun.old.items begun.new.items) }
+    ensures pushed { IfOk result (λ to. IsPushed builder.old
+        (width_of host.now agent.now stages) from to begun.old.items begun.new.items) }
     ensures ignores_answer { IfOk result (λ to. IgnoresInLonger builder.new from to) }
     ensures grows { GrowsInMemory width_command_nets width_memories builder.old builder.new }
     ensures waits { StillWait builder.old builder.new }
@@ -48,7 +49,8 @@ pub fn begin_width(
     ensures newly_written { OnOk result (WriteWaitsBeside (IsStoredByAnyWidth begun.new.items) builder.old builder.new) }
 
     // Memory may run out at any net.
-    ensures full { result ≡ Err NetFault.TooManyNets → (2 ^ 20 < length builder.old.lines + width_command_nets) ⊎ (2 ^ 16 < length builder.old.memories + width_memories) }
+    ensures full { result ≡ Err NetFault.TooManyNets
+        → (2 ^ 20 < length builder.old.lines + width_command_nets) ⊎ (2 ^ 16 < length builder.old.memories + width_memories) }
 {
     let _types: Option<KeptByGather> = None;
     let link = width_of(host, agent, stages);
@@ -91,11 +93,13 @@ pub fn finish_width(
     ensures others { OnOk result (AreBegunWidths others.now builder.new) }
 
     // In each endless run of each longer netlist the links are their machines.
-    ensures machine { IfOk result (λ p. WidthInLonger host.now agent.now builder.new one.from p.0 p.1 (command_below one.from one.to) wait answer) }
+    ensures machine { IfOk result (λ p. WidthInLonger host.now agent.now builder.new one.from p.0 p.1
+        (command_below one.from one.to) wait answer) }
     ensures grows { GrowsInMemory width_answer_nets 0 builder.old builder.new }
     ensures waits { (n : ℕ) → ¬ owns_width one.kept n → IsWaiting builder.old n → IsWaiting builder.new n }
     ensures no_more_wait { OnOk result (WaitsWithout (owns_width one.kept) builder.old builder.new) }
-    ensures still_wait_for_write { OnOk result ((m : ℕ) → ¬ stores_width one.kept m → WaitsForWrite builder.old m → WaitsForWrite builder.new m) }
+    ensures still_wait_for_write { OnOk result
+        ((m : ℕ) → ¬ stores_width one.kept m → WaitsForWrite builder.old m → WaitsForWrite builder.new m) }
     ensures written { OnOk result (WriteWaitsWithout (stores_width one.kept) builder.old builder.new) }
 
     // Memory may run out at any net.

@@ -36,7 +36,8 @@ of_chosen f true x y = refl
 of_chosen f false x y = refl
 
 -- room for a beat, by an inverted bit
-pub high_room : (w held empty ready room : ℕ) → w ≡ 1 → held < 2 → ready < 2 → empty ≡ 2 ^ w - 1 - held → room ≡ bit_or empty ready → (room == 1) ≡ (not (held == 1) || (ready == 1))
+pub high_room : (w held empty ready room : ℕ) → w ≡ 1 → held < 2 → ready < 2 → empty ≡ 2 ^ w - 1 - held
+    → room ≡ bit_or empty ready → (room == 1) ≡ (not (held == 1) || (ready == 1))
 high_room w held empty ready room one h k e is =
     let inverted : empty ≡ 2 ^ 1 - 1 - held = subst (λ n. empty ≡ 2 ^ n - 1 - held) one e in
     let small : empty < 2 = omega (arith, inverted) in

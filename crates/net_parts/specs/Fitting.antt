@@ -10,7 +10,8 @@ pub fits_more : (n bits wanted : ℕ) → n < 2 ^ bits → bits ≤ wanted → n
 fits_more n bits wanted h le = mod-eq_of_lt (let more = pow_mono le in omega (arith, h, more))
 
 -- zeros above a channel
-pub widened : (high channel net width bits wanted : ℕ) → net ≡ high * 2 ^ width + channel → high ≡ 0 → width ≡ bits → channel < 2 ^ width → bits ≤ wanted → net ≡ channel % 2 ^ wanted
+pub widened : (high channel net width bits wanted : ℕ) → net ≡ high * 2 ^ width + channel → high ≡ 0 → width ≡ bits
+    → channel < 2 ^ width → bits ≤ wanted → net ≡ channel % 2 ^ wanted
 widened high channel net width bits wanted is none same h le =
     let low : 0 * 2 ^ width + channel ≡ channel = omega arith in
     is ∙ ap (λ z. z * 2 ^ width + channel) none ∙ low ∙ sym (fits_more channel width wanted h (omega (arith, same, le)))

@@ -35,21 +35,27 @@ all_low group = map (λ _. 0) group
 
 -- in each run they begin low
 abbrev pub StartAllLow : Netlist → List NetValue → Type 0
-StartAllLow netlist group = (run : Run) (cycles : ℕ) → IsRun netlist run cycles → 0 < cycles → values_of (cycle_of run 0) group ≡ all_low group
+StartAllLow netlist group =
+    (run : Run) (cycles : ℕ) → IsRun netlist run cycles → 0 < cycles → values_of (cycle_of run 0) group ≡ all_low group
 
 -- in each run they have the values of the other nets in the cycle before
 abbrev pub TakeAllNext : Netlist → List NetValue → List NetValue → Type 0
-TakeAllNext netlist group next = (run : Run) (cycles : ℕ) → IsRun netlist run cycles → (c : ℕ) → c + 1 < cycles → values_of (cycle_of run (c + 1)) group ≡ values_of (cycle_of run c) next
+TakeAllNext netlist group next =
+    (run : Run) (cycles : ℕ) → IsRun netlist run cycles → (c : ℕ) → c + 1 < cycles
+    → values_of (cycle_of run (c + 1)) group ≡ values_of (cycle_of run c) next
 
 -- in each run they take the values of the other nets where the bit is high, and else keep theirs
 abbrev pub LoadsAll : Netlist → NetValue → List NetValue → List NetValue → Type 0
 LoadsAll netlist loads group next =
     (run : Run) (cycles : ℕ) → IsRun netlist run cycles → (c : ℕ) → c + 1 < cycles
-    → values_of (cycle_of run (c + 1)) group ≡ (if run.net c loads.number == 1 then values_of (cycle_of run c) next else values_of (cycle_of run c) group)
+    → values_of (cycle_of run (c + 1)) group
+    ≡ (if run.net c loads.number == 1 then values_of (cycle_of run c) next else values_of (cycle_of run c) group)
 
 -- in each cycle the group has the values of one group where the bit is high, and else those of the other
 abbrev pub ChooseAll : Netlist → NetValue → List NetValue → List NetValue → List NetValue → Type 0
-ChooseAll netlist bit one other group = Always netlist (λ cycle. values_of cycle group ≡ (if cycle.net bit.number == 0 then values_of cycle other else values_of cycle one))
+ChooseAll netlist bit one other group =
+    Always netlist (λ cycle. values_of cycle group
+    ≡ (if cycle.net bit.number == 0 then values_of cycle other else values_of cycle one))
 
 -- the number is that of a net of the group
 abbrev pub InGroup : List NetValue → ℕ → Type 0
@@ -69,16 +75,29 @@ nets_last a b [] e h = tt
 nets_last a b (net ∷ group) e h = (e.nets net.number net.width h.0, nets_last a b group e h.1)
 
 -- the numbers of a group
-pub in_row : (from : ℕ) (group : List NetValue) → AreNumberedFrom from group → (n : ℕ) → InGroup group n → IsInRow from (length group) n
+pub in_row : (from : ℕ) (group : List NetValue) → AreNumberedFrom from group → (n : ℕ) → InGroup group n
+    → IsInRow from (length group) n
 in_row from [] h n o = absurd o
-in_row from (net ∷ group) h n (inl e) = record { least = (let at = h.0 in omega (arith, at, e)); below = (let at = h.0 in omega (arith, at, e)) }
-in_row from (net ∷ group) h n (inr o) = let rest = in_row (from + 1) group h.1 n o in record { least = (let low = rest.least in omega arith); below = (let high = rest.below in omega arith) }
+in_row from (net ∷ group) h n (inl e) =
+    record { least = (let at = h.0 in omega (arith, at, e)); below = (let at = h.0 in omega (arith, at, e)) }
+in_row from (net ∷ group) h n (inr o) =
+    let rest = in_row (from + 1) group h.1 n o in
+    record { least = (let low = rest.least in omega arith); below = (let high = rest.below in omega arith) }
 
 -- a number in a row is one of the group
-pub of_row : (from : ℕ) (group : List NetValue) → AreNumberedFrom from group → (n : ℕ) → IsInRow from (length group) n → InGroup group n
+pub of_row : (from : ℕ) (group : List NetValue) → AreNumberedFrom from group → (n : ℕ) → IsInRow from (length group) n
+    → InGroup group n
 of_row from [] h n o = absurd (let low = o.least in let high = o.below in omega arith)
 of_row from (net ∷ group) h n o = by_first (of_row (from + 1) group h.1 n) (n == from) refl
   where
     by_first : (IsInRow (from + 1) (length group) n → InGroup group n) → (t : Bool) → (n == from) ≡ t → InGroup (net ∷ group) n
     by_first rest true e = inl (eqb-true n from e ∙ sym h.0)
-    by_first rest false e = inr (rest (record { least = (let low = o.least in let apart = eqb-false n from e in omega (arith, apart)); below = (let high = o.below in omega arith) }))
+    by_first rest false e =
+        inr
+        (rest
+        (record {
+          least =
+              (let low = o.least in let apart = eqb-false n from e in omega (arith, apart));
+          below =
+              (let high = o.below in omega arith);
+        }))

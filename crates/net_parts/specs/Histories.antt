@@ -24,10 +24,12 @@ pub record TakesBit (netlist : Netlist) (history bit : NetValue) : Type 0 where
 
 -- ---- what stands lasts. No contract reads these proofs; laws of runs cite them
 
-pub history_lasts : (old new : Netlist) (history : NetValue) (cycles : ℕ) → Extends old new → (IsWaiting old history.number → IsWaiting new history.number) → IsHistory old history cycles → IsHistory new history cycles
+pub history_lasts : (old new : Netlist) (history : NetValue) (cycles : ℕ) → Extends old new
+    → (IsWaiting old history.number → IsWaiting new history.number) → IsHistory old history cycles → IsHistory new history cycles
 history_lasts old new history cycles e wait h = record { net = net_lasts old new history cycles e h.net; waits = wait h.waits }
 
-pub takes_lasts : (old new : Netlist) (history bit : NetValue) → Extends old new → TakesBit old history bit → TakesBit new history bit
+pub takes_lasts : (old new : Netlist) (history bit : NetValue) → Extends old new → TakesBit old history bit
+    → TakesBit new history bit
 takes_lasts old new history bit e h = record {
   is_bit = λ cycle v. h.is_bit cycle (e.valuations cycle v);
   moves = λ run cycles r. h.moves run cycles (e.runs run cycles r);

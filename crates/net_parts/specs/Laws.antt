@@ -18,22 +18,37 @@ use Rattle.net_parts.specs.Growth.{GrowsBy, AddsNets, GrowsInMemory, GrowsAlike}
 kept_twice : (x y z : Line) → IsKept x y → IsKept y z → IsKept x z
 kept_twice x y z (inl e) k = subst (λ (l : Line). IsKept l z) e k
 kept_twice x y z (inr s) (inl f) = inr (record { waits = s.waits; next = s.next; is = f ∙ s.is })
-kept_twice x y z (inr s) (inr t) = absurd (let set : y.waits ≡ false = ap (λ (l : Line). l.waits) s.is in let waits = t.waits in cc)
+kept_twice x y z (inr s) (inr t) =
+    absurd (let set : y.waits ≡ false = ap (λ (l : Line). l.waits) s.is in let waits = t.waits in cc)
 
-write_twice : (x y z : Option MemWrite) → IfSome x (λ write. y ≡ Some write) → IfSome y (λ write. z ≡ Some write) → IfSome x (λ write. z ≡ Some write)
+write_twice : (x y z : Option MemWrite) → IfSome x (λ write. y ≡ Some write) → IfSome y (λ write. z ≡ Some write)
+    → IfSome x (λ write. z ≡ Some write)
 write_twice None y z p q = tt
 write_twice (Some write) y z p q = subst (λ (o : Option MemWrite). IfSome o (λ w. z ≡ Some w)) p q
 
 memory_twice : (x y z : Memory) → IsKeptMemory x y → IsKeptMemory y z → IsKeptMemory x z
-memory_twice x y z p q = record { width = q.width ∙ p.width; address_bits = q.address_bits ∙ p.address_bits; write = write_twice x.write y.write z.write p.write q.write }
+memory_twice x y z p q =
+    record {
+      width =
+          q.width ∙ p.width;
+      address_bits =
+          q.address_bits ∙ p.address_bits;
+      write = write_twice x.write y.write z.write p.write q.write;
+    }
 
 pub keeps_twice : (a b c : Netlist) → Keeps a b → Keeps b c → Keeps a c
 keeps_twice a b c p q = record {
   name = q.name ∙ p.name;
   ports = q.ports ∙ p.ports;
-  lines = λ n line at. (let l = p.lines n line at in let m = q.lines n l.later l.is in record { later = m.later; is = m.is; kept = kept_twice line l.later m.later l.kept m.kept });
+  lines =
+      λ n line at. (let l = p.lines n line at in
+      let m = q.lines n l.later l.is in
+      record { later = m.later; is = m.is; kept = kept_twice line l.later m.later l.kept m.kept });
   drivers = λ k n d. q.drivers k n (p.drivers k n d);
-  memories = λ m memory at. (let l = p.memories m memory at in let k = q.memories m l.later l.is in record { later = k.later; is = k.is; kept = memory_twice memory l.later k.later l.kept k.kept });
+  memories =
+      λ m memory at. (let l = p.memories m memory at in
+      let k = q.memories m l.later l.is in
+      record { later = k.later; is = k.is; kept = memory_twice memory l.later k.later l.kept k.kept });
 }
 
 pub extends_twice : (a b c : Netlist) → Extends a b → Extends b c → Extends a c
@@ -55,7 +70,18 @@ kept_same memory = record { width = refl; address_bits = refl; write = kept_writ
 
 pub extends_none : (a : Netlist) → Extends a a
 extends_none a = record {
-  keeps = record { name = refl; ports = refl; lines = λ n line at. record { later = line; is = at; kept = inl refl }; drivers = λ k n d. d; memories = λ m memory at. record { later = memory; is = at; kept = kept_same memory } };
+  keeps =
+      record {
+        name =
+            refl;
+        ports =
+            refl;
+        lines =
+            λ n line at. record { later = line; is = at; kept = inl refl };
+        drivers =
+            λ k n d. d;
+        memories = λ m memory at. record { later = memory; is = at; kept = kept_same memory };
+      };
   nets = λ n w h. h;
   memories = λ mem h. h;
   valuations = λ cycle v. v;
@@ -74,7 +100,8 @@ grows_twice k m a b c p q = record {
 }
 
 pub grows_fewer : (k m : ℕ) (a b : Netlist) → k ≤ m → GrowsBy k a b → GrowsBy m a b
-grows_fewer k m a b h p = record { extends = p.extends; most = (let few = p.most in omega arith); drivers = p.drivers; memories = p.memories }
+grows_fewer k m a b h p =
+    record { extends = p.extends; most = (let few = p.most in omega arith); drivers = p.drivers; memories = p.memories }
 
 -- both at once: so many nets at most in two steps
 pub grows_within : (k m n : ℕ) (a b c : Netlist) → GrowsBy k a b → GrowsBy m b c → k + m ≤ n → GrowsBy n a c
@@ -87,7 +114,8 @@ pub alike_none : (a : Netlist) → GrowsAlike a a
 alike_none a = record { extends = extends_none a; drivers = refl; memories = refl; waits = λ n w. w; no_more_wait = λ n w. w }
 
 pub alike_once : (a b : Netlist) → Extends a b → GrowsByOne a b → GrowsAlike a b
-alike_once a b e g = record { extends = e; drivers = g.drivers; memories = g.memories; waits = g.waits; no_more_wait = g.no_more_wait }
+alike_once a b e g =
+    record { extends = e; drivers = g.drivers; memories = g.memories; waits = g.waits; no_more_wait = g.no_more_wait }
 
 pub alike_twice : (a b c : Netlist) → GrowsAlike a b → GrowsAlike b c → GrowsAlike a c
 alike_twice a b c p q = record {
@@ -108,7 +136,8 @@ pub grows_once : (a b : Netlist) → Extends a b → GrowsByOne a b → AddsNets
 grows_once a b e g = record { grows = alike_once a b e g; most = g.most }
 
 pub adds_twice : (k m : ℕ) (a b c : Netlist) → AddsNets k a b → AddsNets m b c → AddsNets (k + m) a c
-adds_twice k m a b c p q = record { grows = alike_twice a b c p.grows q.grows; most = (let few = p.most in let more = q.most in omega arith) }
+adds_twice k m a b c p q =
+    record { grows = alike_twice a b c p.grows q.grows; most = (let few = p.most in let more = q.most in omega arith) }
 
 pub adds_fewer : (k m : ℕ) (a b : Netlist) → k ≤ m → AddsNets k a b → AddsNets m a b
 adds_fewer k m a b h p = record { grows = p.grows; most = (let few = p.most in omega arith) }
@@ -121,9 +150,17 @@ adds_grow k a b p = record { extends = p.grows.extends; most = p.most; drivers =
 pub ruleset growing = (extends_twice, alike_once, alike_twice, adds_of)
 
 pub grows_without_memory : (k : ℕ) (a b : Netlist) → GrowsBy k a b → GrowsInMemory k 0 a b
-grows_without_memory k a b p = record { extends = p.extends; most = p.most; most_memories = (let e = ap (length {A = Memory}) p.memories in omega arith); drivers = p.drivers }
+grows_without_memory k a b p =
+    record {
+      extends =
+          p.extends;
+      most = p.most;
+      most_memories = (let e = ap (length {A = Memory}) p.memories in omega arith);
+      drivers = p.drivers;
+    }
 
-pub memory_grows_twice : (k m r s : ℕ) (a b c : Netlist) → GrowsInMemory k r a b → GrowsInMemory m s b c → GrowsInMemory (k + m) (r + s) a c
+pub memory_grows_twice : (k m r s : ℕ) (a b c : Netlist) → GrowsInMemory k r a b → GrowsInMemory m s b c
+    → GrowsInMemory (k + m) (r + s) a c
 memory_grows_twice k m r s a b c p q = record {
   extends = extends_twice a b c p.extends q.extends;
   most = (let few = p.most in let more = q.most in omega arith);
@@ -169,7 +206,8 @@ behind [] x = refl
 behind (y ∷ xs) x = behind xs x
 
 -- a line of a register that was appended
-pub new_register : (old new : Netlist) (n : ℕ) (line : Line) → new ≡ appended old line → n ≡ length old.lines → is_register line.equation ≡ true → IsRegister new n
+pub new_register : (old new : Netlist) (n : ℕ) (line : Line) → new ≡ appended old line → n ≡ length old.lines
+    → is_register line.equation ≡ true → IsRegister new n
 new_register old new n line e f register =
     let whole : IsRegister (appended old line) (length old.lines) = record { line = line; is = behind old.lines line; register = register } in
     subst (λ (netlist : Netlist). IsRegister netlist n) (sym e) (subst (IsRegister (appended old line)) (sym f) whole)
@@ -178,7 +216,8 @@ new_register old new n line e f register =
 pub waiting_register : (a : Netlist) (n : ℕ) → IsWellMade a → IsWaiting a n → IsRegister a n
 waiting_register a n made w = record { line = w.line; is = w.is; register = (made.lines n w.line w.is).waits w.waits }
 
-pub owned_same : (netlist longer : Netlist) (n : ℕ) (one other : Cycle) → IsWellMade netlist → Extends netlist longer → IsWaiting netlist n → SameState longer one other → one.net n ≡ other.net n
+pub owned_same : (netlist longer : Netlist) (n : ℕ) (one other : Cycle) → IsWellMade netlist → Extends netlist longer
+    → IsWaiting netlist n → SameState longer one other → one.net n ≡ other.net n
 owned_same netlist longer n one other made e waits state =
     let r = register_lasts netlist longer n e (waiting_register netlist n made waits) in
     state.registers n r.line r.is r.register
@@ -194,7 +233,8 @@ waiting_within a n w = line_within a.lines n w.line w.is
 
 -- ---- what a net can show
 
-line_of_width : (lines : List Line) (n w : ℕ) → width_at lines n ≡ Some w → (line : Line) × (slice_get lines n ≡ Some line) × (line.width ≡ w)
+line_of_width : (lines : List Line) (n w : ℕ) → width_at lines n ≡ Some w
+    → (line : Line) × (slice_get lines n ≡ Some line) × (line.width ≡ w)
 line_of_width [] n w e = cc
 line_of_width (x ∷ xs) zero w e = (x, refl, (cc))
 line_of_width (x ∷ xs) (suc n) w e = line_of_width xs n w e
@@ -205,10 +245,12 @@ valued_fits a cycle v n w h =
     let line = line_of_width a.lines n w h in
     subst (λ k. cycle.net n < 2 ^ k) line.2 ((v.nets n line.0 line.1).fits)
 
-pub net_fits : (a : Netlist) (net : NetValue) → IsNet a net → (cycle : Cycle) → IsValuation a cycle → cycle.net net.number < 2 ^ net.width
+pub net_fits : (a : Netlist) (net : NetValue) → IsNet a net → (cycle : Cycle) → IsValuation a cycle
+    → cycle.net net.number < 2 ^ net.width
 net_fits a net h cycle v = valued_fits a cycle v net.number net.width h
 
-pub width_fits : (a : Netlist) (net : NetValue) (w : ℕ) → IsNetOfWidth a net w → (cycle : Cycle) → IsValuation a cycle → cycle.net net.number < 2 ^ w
+pub width_fits : (a : Netlist) (net : NetValue) (w : ℕ) → IsNetOfWidth a net w → (cycle : Cycle) → IsValuation a cycle
+    → cycle.net net.number < 2 ^ w
 width_fits a net w h cycle v = subst (λ k. cycle.net net.number < 2 ^ k) h.has_width (net_fits a net h.is_net cycle v)
 
 -- a net of one bit is 0 or 1

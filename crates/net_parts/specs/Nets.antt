@@ -26,4 +26,6 @@ StartsLow netlist net = (run : Run) (cycles : ℕ) → IsRun netlist run cycles 
 
 -- in each run the net takes what the other one was in the cycle before
 abbrev pub TakesNext : Netlist → NetValue → NetValue → Type 0
-TakesNext netlist register next = (run : Run) (cycles : ℕ) → IsRun netlist run cycles → (c : ℕ) → c + 1 < cycles → run.net (c + 1) register.number ≡ run.net c next.number
+TakesNext netlist register next =
+    (run : Run) (cycles : ℕ) → IsRun netlist run cycles → (c : ℕ) → c + 1 < cycles
+    → run.net (c + 1) register.number ≡ run.net c next.number

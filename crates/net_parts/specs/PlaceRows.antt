@@ -70,19 +70,26 @@ InRow (place ∷ row) n = InGroup (nets_of place) n ⊎ InRow row n
 
 -- in each run each place begins empty
 abbrev pub StartsAllEmpty : {N : ℕ} → Netlist → List (PlaceNets N) → Type 0
-StartsAllEmpty netlist row = (run : Run) (cycles : ℕ) → IsRun netlist run cycles → 0 < cycles → AllEmpty (row_in (cycle_of run 0) row)
+StartsAllEmpty netlist row =
+    (run : Run) (cycles : ℕ) → IsRun netlist run cycles → 0 < cycles → AllEmpty (row_in (cycle_of run 0) row)
 
 -- in each run a place loads as these bits say, or keeps its item
-abbrev pub PlaceMoves : {N : ℕ} → Netlist → PlaceNets N → List (PlaceNets N) → NetValue → NetValue → NetValue → PlaceNets N → Type 0
+abbrev pub PlaceMoves : {N : ℕ} → Netlist → PlaceNets N → List (PlaceNets N) → NetValue → NetValue → NetValue → PlaceNets N
+    → Type 0
 PlaceMoves netlist place rest here behind shift from =
     (run : Run) (cycles : ℕ) → IsRun netlist run cycles → (c : ℕ) → c + 1 < cycles
-    → place_in (cycle_of run (c + 1)) place ≡ loaded_place (run.net c shift.number == 1) (run.net c here.number == 1) (run.net c behind.number == 1) (values_of (cycle_of run c) from.item) (place_in (cycle_of run c) place) (row_in (cycle_of run c) rest)
+    → place_in (cycle_of run (c + 1)) place
+    ≡ loaded_place (run.net c shift.number == 1) (run.net c here.number == 1) (run.net c behind.number == 1)
+    (values_of (cycle_of run c) from.item) (place_in (cycle_of run c) place) (row_in (cycle_of run c) rest)
 
 -- in each run a row of places is filled and shifts as these bits say
 abbrev pub RowMoves : {N : ℕ} → Netlist → List (PlaceNets N) → NetValue → NetValue → NetValue → PlaceNets N → Type 0
 RowMoves netlist row here comes shift from =
     (run : Run) (cycles : ℕ) → IsRun netlist run cycles → (c : ℕ) → c + 1 < cycles
-    → row_in (cycle_of run (c + 1)) row ≡ shift_row (run.net c shift.number == 1) (no_place (values_of (cycle_of run c) from.item)) (fill_row (run.net c here.number == 1) (run.net c comes.number == 1) (values_of (cycle_of run c) from.item) (row_in (cycle_of run c) row))
+    → row_in (cycle_of run (c + 1)) row
+    ≡ shift_row (run.net c shift.number == 1) (no_place (values_of (cycle_of run c) from.item))
+    (fill_row (run.net c here.number == 1) (run.net c comes.number == 1) (values_of (cycle_of run c) from.item)
+    (row_in (cycle_of run c) row))
 
 -- the first place is full
 abbrev pub is_first_full : {N : ℕ} → Cycle → List (PlaceNets N) → Bool
@@ -95,7 +102,8 @@ gives_item cycle row from ready = (is_first_full cycle row || (cycle.net from.fu
 
 -- from a cycle to the next, the item that comes, if one does, takes the first empty place, and the row shifts where an item goes
 abbrev pub RowSteps : {N : ℕ} → Cycle → Cycle → List (PlaceNets N) → PlaceNets N → Bool → NetValue → Type 0
-RowSteps before after row from comes ready = PlacesMove (row_in before row) (row_in after row) (gives_item before row from ready) comes (values_of before from.item)
+RowSteps before after row from comes ready =
+    PlacesMove (row_in before row) (row_in after row) (gives_item before row from ready) comes (values_of before from.item)
 
 -- in each run the row steps from cycle to cycle
 abbrev pub StepsRow : {N : ℕ} → Netlist → List (PlaceNets N) → PlaceNets N → NetValue → NetValue → Type 0
@@ -106,7 +114,8 @@ StepsRow netlist row from comes ready =
 -- the values of the first place where it is full, and else those of the place that comes
 abbrev pub shown_first : {N : ℕ} → Cycle → List (PlaceNets N) → PlaceNets N → List ℕ
 shown_first cycle [] coming = values_of cycle (nets_of coming)
-shown_first cycle (place ∷ row) coming = if cycle.net place.full.number == 1 then values_of cycle (nets_of place) else values_of cycle (nets_of coming)
+shown_first cycle (place ∷ row) coming =
+    if cycle.net place.full.number == 1 then values_of cycle (nets_of place) else values_of cycle (nets_of coming)
 
 -- the bit that the last place is full
 abbrev pub last_full : {N : ℕ} → PlaceNets N → List (PlaceNets N) → NetValue
@@ -114,9 +123,18 @@ last_full place [] = place.full
 last_full place (next ∷ row) = last_full next row
 
 -- a row lasts while its registers wait. No contract reads the proof; the laws of rows cite it
-pub row_lasts : {N : ℕ} (old new : Netlist) (like : PlaceNets N) (from : ℕ) (row : List (PlaceNets N)) → Extends old new → ((n : ℕ) → InRow row n → IsWaiting old n → IsWaiting new n) → IsRow old like from row → IsRow new like from row
+pub row_lasts : {N : ℕ} (old new : Netlist) (like : PlaceNets N) (from : ℕ) (row : List (PlaceNets N)) → Extends old new
+    → ((n : ℕ) → InRow row n → IsWaiting old n → IsWaiting new n) → IsRow old like from row → IsRow new like from row
 row_lasts old new like from [] e wait h = tt
 row_lasts old new like from (place ∷ row) e wait h = (
-  record { nets_are = record { full = net_lasts old new place.full 1 e h.0.nets_are.full; item = nets_last old new place.item e h.0.nets_are.item }; widths = h.0.widths; numbers = h.0.numbers; wait = λ n o. wait n (inl o) (h.0.wait n o) },
+  record {
+    nets_are =
+        record
+        { full = net_lasts old new place.full 1 e h.0.nets_are.full; item = nets_last old new place.item e h.0.nets_are.item };
+    widths =
+        h.0.widths;
+    numbers = h.0.numbers;
+    wait = λ n o. wait n (inl o) (h.0.wait n o);
+  },
   row_lasts old new like (from + length (nets_of place)) row e (λ n o. wait n (inr o)) h.1,
 )

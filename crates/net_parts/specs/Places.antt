@@ -44,10 +44,12 @@ abbrev pub taken_place : {X : Type 0} → Bool → Bool → X → List (Place X)
 taken_place shift here item [] = record { full = here; item = item }
 taken_place shift here item (behind ∷ row) = if shift && behind.full then behind else record { full = here; item = item }
 
--- a place in the next cycle: it loads where it is empty or the row shifts. `here` says whether an item comes into it, and `behind`
+-- a place in the next cycle: it loads where it is empty or the row shifts. `here` says whether an item comes into it, and
+-- `behind`
 -- whether one comes into the next place
 abbrev pub loaded_place : {X : Type 0} → Bool → Bool → Bool → X → Place X → List (Place X) → Place X
-loaded_place shift here behind item place row = if not place.full || shift then taken_place shift (if shift then behind else here) item row else place
+loaded_place shift here behind item place row =
+    if not place.full || shift then taken_place shift (if shift then behind else here) item row else place
 
 -- each place is empty
 abbrev pub AllEmpty : {X : Type 0} → List (Place X) → Type 0

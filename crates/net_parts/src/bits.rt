@@ -24,7 +24,8 @@ pub fn queue_bits(builder: &mut Builder, last: Net, shown: Net) -> Result<QueueB
     requires shown { IsBit builder.old shown }
     ensures room { IfOk result (λ bits. IsBit builder.new bits.room) }
     ensures comes { IfOk result (λ bits. IsBit builder.new bits.comes) }
-    ensures value { IfOk result (λ bits. Always builder.new (λ cycle. AreQueueBits (cycle.net last.number == 1) (cycle.net shown.number == 1) (cycle.net bits.room.number == 1) (cycle.net bits.comes.number == 1))) }
+    ensures value { IfOk result (λ bits. Always builder.new (λ cycle. AreQueueBits (cycle.net last.number == 1)
+        (cycle.net shown.number == 1) (cycle.net bits.room.number == 1) (cycle.net bits.comes.number == 1))) }
     ensures adds { AddsNets 2 builder.old builder.new }
     ensures full { result ≡ Err NetFault.TooManyNets → 2 ^ 20 < length builder.old.lines + 2 }
 {
@@ -45,7 +46,8 @@ pub fn gives_item(
     requires shown { IsBit builder.old shown }
     requires ready { IsBit builder.old ready }
     ensures net { IfOk result (λ gives. IsBit builder.new gives) }
-    ensures value { IfOk result (λ gives. Always builder.new (λ cycle. (cycle.net gives.number == 1) ≡ (((cycle.net first.number == 1) || (cycle.net shown.number == 1)) && (cycle.net ready.number == 1)))) }
+    ensures value { IfOk result (λ gives. Always builder.new (λ cycle. (cycle.net gives.number == 1)
+        ≡ (((cycle.net first.number == 1) || (cycle.net shown.number == 1)) && (cycle.net ready.number == 1)))) }
     ensures adds { AddsNets 2 builder.old builder.new }
     ensures full { result ≡ Err NetFault.TooManyNets → 2 ^ 20 < length builder.old.lines + 2 }
 {
@@ -59,7 +61,8 @@ pub fn has_room(builder: &mut Builder, held: Net, goes: Net) -> Result<Net, NetF
     requires held { IsBit builder.old held }
     requires goes { IsBit builder.old goes }
     ensures net { IfOk result (λ room. IsBit builder.new room) }
-    ensures value { IfOk result (λ room. Always builder.new (λ cycle. (cycle.net room.number == 1) ≡ (not (cycle.net held.number == 1) || (cycle.net goes.number == 1)))) }
+    ensures value { IfOk result (λ room. Always builder.new (λ cycle. (cycle.net room.number == 1)
+        ≡ (not (cycle.net held.number == 1) || (cycle.net goes.number == 1)))) }
     ensures adds { AddsNets 2 builder.old builder.new }
     ensures full { result ≡ Err NetFault.TooManyNets → 2 ^ 20 < length builder.old.lines + 2 }
 {

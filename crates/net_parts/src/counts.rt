@@ -17,7 +17,8 @@ pub fn add_bit(builder: &mut Builder, zeros: Net, sum: Net, bit: Net) -> Result<
     requires small { Always builder.old (λ cycle. cycle.net sum.number < 31) }
     requires bit { IsBit builder.old bit }
     ensures net { IfOk result (λ more. IsNetOfWidth builder.new more 5) }
-    ensures value { IfOk result (λ more. Always builder.new (λ cycle. cycle.net more.number ≡ cycle.net sum.number + cycle.net bit.number)) }
+    ensures value { IfOk result (λ more. Always builder.new (λ cycle. cycle.net more.number
+        ≡ cycle.net sum.number + cycle.net bit.number)) }
     ensures adds { AddsNets 2 builder.old builder.new }
     ensures full { result ≡ Err NetFault.TooManyNets → 2 ^ 20 < length builder.old.lines + 2 }
 {
@@ -40,7 +41,8 @@ pub fn count_high(
     requires bits { IsNet builder.old bits }
     requires count { count ≤ bits.width }
     ensures net { IfOk result (λ total. IsNetOfWidth builder.new total 5) }
-    ensures value { IfOk result (λ total. Always builder.new (λ cycle. cycle.net total.number ≡ cycle.net sum.number + high_bits count (cycle.net bits.number))) }
+    ensures value { IfOk result (λ total. Always builder.new (λ cycle. cycle.net total.number
+        ≡ cycle.net sum.number + high_bits count (cycle.net bits.number))) }
     ensures adds { AddsNets (3 * count) builder.old builder.new }
     ensures full { result ≡ Err NetFault.TooManyNets → 2 ^ 20 < length builder.old.lines + 3 * count }
 {

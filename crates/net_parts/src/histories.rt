@@ -34,7 +34,8 @@ pub fn bit_before(builder: &mut Builder, history: Net, cycles: u8) -> Result<Net
     requires some { 1 ≤ cycles }
     requires kept { cycles ≤ history.width }
     ensures net { IfOk result (λ bit. IsBit builder.new bit) }
-    ensures value { IfOk result (λ bit. Always builder.new (λ cycle. cycle.net bit.number ≡ bit_at (cycle.net history.number) (cycles - 1))) }
+    ensures value { IfOk result (λ bit. Always builder.new (λ cycle. cycle.net bit.number
+        ≡ bit_at (cycle.net history.number) (cycles - 1))) }
     ensures adds { AddsNets 1 builder.old builder.new }
     ensures full { result ≡ Err NetFault.TooManyNets → 2 ^ 20 < length builder.old.lines + 1 }
 {
@@ -47,7 +48,8 @@ fn later_history(builder: &mut Builder, history: Net, bit: Net) -> Result<Net, N
     requires history { IsNet builder.old history }
     requires bit { IsBit builder.old bit }
     ensures net { IfOk result (λ later. IsNetOfWidth builder.new later history.width) }
-    ensures value { IfOk result (λ later. Always builder.new (λ cycle. cycle.net later.number ≡ cycle.net bit.number + 2 * (cycle.net history.number % 2 ^ (history.width - 1)))) }
+    ensures value { IfOk result (λ later. Always builder.new (λ cycle. cycle.net later.number
+        ≡ cycle.net bit.number + 2 * (cycle.net history.number % 2 ^ (history.width - 1)))) }
     ensures adds { AddsNets 2 builder.old builder.new }
     ensures full { result ≡ Err NetFault.TooManyNets → 2 ^ 20 < length builder.old.lines + 2 }
 {

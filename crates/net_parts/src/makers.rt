@@ -42,7 +42,8 @@ pub fn is_above(builder: &mut Builder, net: Net, bits: u8, largest: u32) -> Resu
     requires few { bits ≤ 128 }
     requires fits { largest < 2 ^ bits }
     ensures net { IfOk result (λ above. IsBit builder.new above) }
-    ensures value { IfOk result (λ above. Always builder.new (λ cycle. cycle.net above.number ≡ (if nat_lt largest (cycle.net net.number) then 1 else 0))) }
+    ensures value { IfOk result (λ above. Always builder.new (λ cycle. cycle.net above.number
+        ≡ (if nat_lt largest (cycle.net net.number) then 1 else 0))) }
     ensures adds { AddsNets 2 builder.old builder.new }
     ensures full { result ≡ Err NetFault.TooManyNets → 2 ^ 20 < length builder.old.lines + 2 }
 {
@@ -58,7 +59,8 @@ pub fn fit_bits(builder: &mut Builder, net: Net, bits: u8, wanted: u8) -> Result
     requires some_wanted { 1 ≤ wanted }
     requires few { wanted ≤ 128 }
     ensures net { IfOk result (λ fitted. IsNetOfWidth builder.new fitted wanted) }
-    ensures value { IfOk result (λ fitted. Always builder.new (λ cycle. cycle.net fitted.number ≡ cycle.net net.number % 2 ^ wanted)) }
+    ensures value { IfOk result (λ fitted. Always builder.new (λ cycle. cycle.net fitted.number
+        ≡ cycle.net net.number % 2 ^ wanted)) }
     ensures adds { AddsNets (fit_nets bits wanted) builder.old builder.new }
     ensures full { result ≡ Err NetFault.TooManyNets → 2 ^ 20 < length builder.old.lines + fit_nets bits wanted }
 {
@@ -97,7 +99,8 @@ pub fn choose(builder: &mut Builder, bit: Net, one: Net, other: Net) -> Result<N
     requires other { IsNet builder.old other }
     requires widths { one.width ≡ other.width }
     ensures net { IfOk result (λ n. IsNetOfWidth builder.new n one.width) }
-    ensures value { IfOk result (λ n. Always builder.new (λ cycle. cycle.net n.number ≡ (if cycle.net bit.number == 0 then cycle.net other.number else cycle.net one.number))) }
+    ensures value { IfOk result (λ n. Always builder.new (λ cycle. cycle.net n.number
+        ≡ (if cycle.net bit.number == 0 then cycle.net other.number else cycle.net one.number))) }
     ensures adds { AddsNets 1 builder.old builder.new }
     ensures full { result ≡ Err NetFault.TooManyNets → 2 ^ 20 < length builder.old.lines + 1 }
 {

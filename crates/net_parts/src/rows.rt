@@ -30,7 +30,8 @@ fn comes_behind<const N: usize>(
     requires end { IsBit builder.old end }
     requires low { Always builder.old (λ cycle. cycle.net end.number ≡ 0) }
     ensures net { IfOk result (λ behind. IsBit builder.new behind) }
-    ensures value { IfOk result (λ behind. Always builder.new (λ cycle. (cycle.net behind.number == 1) ≡ comes_into (row_in cycle rest.now) ((cycle.net comes.number == 1) && (cycle.net full.number == 1)))) }
+    ensures value { IfOk result (λ behind. Always builder.new (λ cycle. (cycle.net behind.number == 1)
+        ≡ comes_into (row_in cycle rest.now) ((cycle.net comes.number == 1) && (cycle.net full.number == 1)))) }
     ensures adds { AddsNets 1 builder.old builder.new }
     ensures full { result ≡ Err NetFault.TooManyNets → 2 ^ 20 < length builder.old.lines + 1 }
 {
@@ -56,7 +57,9 @@ fn choose_behind<const N: usize>(
     requires from { ArePlaceNets builder.old from.now }
     ensures place { IfOk result (λ made. ArePlaceNets builder.new made) }
     ensures widths { IfOk result (λ made. HaveSameWidths made from.now) }
-    ensures value { IfOk result (λ made. Always builder.new (λ cycle. place_in cycle made ≡ taken_place (cycle.net shift.number == 1) (cycle.net comes.number == 1) (values_of cycle from.now.item) (row_in cycle rest.now))) }
+    ensures value { IfOk result (λ made. Always builder.new (λ cycle. place_in cycle made
+        ≡ taken_place (cycle.net shift.number == 1) (cycle.net comes.number == 1) (values_of cycle from.now.item)
+        (row_in cycle rest.now))) }
     ensures adds { AddsNets (N + 2) builder.old builder.new }
     ensures full { result ≡ Err NetFault.TooManyNets → 2 ^ 20 < length builder.old.lines + (N + 2) }
 {
@@ -183,7 +186,8 @@ pub fn show_first<const N: usize>(
     requires coming { ArePlaceNets builder.old coming.now }
     ensures place { IfOk result (λ made. ArePlaceNets builder.new made) }
     ensures widths { IfOk result (λ made. HaveSameWidths made coming.now) }
-    ensures value { IfOk result (λ made. Always builder.new (λ cycle. values_of cycle (nets_of made) ≡ shown_first cycle row.now coming.now)) }
+    ensures value { IfOk result (λ made. Always builder.new (λ cycle. values_of cycle (nets_of made)
+        ≡ shown_first cycle row.now coming.now)) }
     ensures adds { AddsNets (N + 1) builder.old builder.new }
     ensures full { result ≡ Err NetFault.TooManyNets → 2 ^ 20 < length builder.old.lines + (N + 1) }
 {

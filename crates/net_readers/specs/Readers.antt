@@ -63,13 +63,15 @@ pub record HasBesides (lists after : List (List ℕ)) (number block : ℕ) : Typ
 -- for each net the blocks of all nets below k that read it
 pub record AreNetReaders (netlist : Netlist) (lists : List (List ℕ)) (k : ℕ) : Type 0 where
   pub count : length lists ≡ length netlist.lines
-  pub each : (n a : ℕ) (line : Line) → n < k → slice_get netlist.lines n ≡ Some line → Reads line.equation a → IsListed (list_at lists a) (block_of n)
+  pub each : (n a : ℕ) (line : Line) → n < k → slice_get netlist.lines n ≡ Some line → Reads line.equation a
+      → IsListed (list_at lists a) (block_of n)
   pub inside : (a block : ℕ) → IsListed (list_at lists a) block → block < block_count netlist
 
 -- for each memory the blocks of all nets below k that read a word of it
 pub record AreMemoryReaders (netlist : Netlist) (lists : List (List ℕ)) (k : ℕ) : Type 0 where
   pub count : length lists ≡ length netlist.memories
-  pub each : (n m a : ℕ) (line : Line) → n < k → slice_get netlist.lines n ≡ Some line → line.equation ≡ Read m a → IsListed (list_at lists m) (block_of n)
+  pub each : (n m a : ℕ) (line : Line) → n < k → slice_get netlist.lines n ≡ Some line → line.equation ≡ Read m a
+      → IsListed (list_at lists m) (block_of n)
   pub inside : (m block : ℕ) → IsListed (list_at lists m) block → block < block_count netlist
 
 -- for each net and each memory the blocks of all that read it

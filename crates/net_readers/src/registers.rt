@@ -21,8 +21,10 @@ fn register_at(module: &Module, net: u32) -> Option<Register>
     requires module { IsModule «module».now }
     requires net_is { net < length «module».now.lines }
     ensures net { IfSome result (λ register. register.net ≡ net) }
-    ensures next { (line : Line) → slice_get «module».now.lines net ≡ Some line → IfSome result (λ register. next_of line ≡ Some register.next) }
-    ensures none { (line : Line) → slice_get «module».now.lines net ≡ Some line → IfNone result (is_register line.equation ≡ false) }
+    ensures next { (line : Line) → slice_get «module».now.lines net ≡ Some line
+        → IfSome result (λ register. next_of line ≡ Some register.next) }
+    ensures none { (line : Line) → slice_get «module».now.lines net ≡ Some line
+        → IfNone result (is_register line.equation ≡ false) }
 {
     match module.equation(net) {
         Equation::Reg { next, .. } => Some(Register { net, next }),

@@ -21,7 +21,8 @@ raised_or (suc (suc x)) y z h k e = absurd (omega arith)
 raised_or zero (suc (suc y)) z h k e = absurd (omega arith)
 raised_or (suc zero) (suc (suc y)) z h k e = absurd (omega arith)
 
-pub raised_xor : (x y z : ℕ) → x < 2 → y < 2 → z ≡ bit_xor x y → is_raised z ≡ (if is_raised x then not (is_raised y) else is_raised y)
+pub raised_xor : (x y z : ℕ) → x < 2 → y < 2 → z ≡ bit_xor x y
+    → is_raised z ≡ (if is_raised x then not (is_raised y) else is_raised y)
 raised_xor zero zero z h k e = ap is_raised e
 raised_xor zero (suc zero) z h k e = ap is_raised e
 raised_xor (suc zero) zero z h k e = ap is_raised e
@@ -40,7 +41,9 @@ raised_not w x y one h e = raised_turned x y h (subst (λ n. y ≡ 2 ^ n - 1 - x
 
 pub none_is : (n : ℕ) → not (nat_lt 0 n) ≡ nat_eq n 0
 none_is zero = refl
-none_is (suc n) = let high : nat_lt 0 (suc n) ≡ true = lt-ltb 0 (suc n) (omega arith) in let some : nat_eq (suc n) 0 ≡ false = ne_eqb (suc n) 0 (omega arith) in rw (high, some) refl
+none_is (suc n) =
+    let high : nat_lt 0 (suc n) ≡ true = lt-ltb 0 (suc n) (omega arith) in
+    let some : nat_eq (suc n) 0 ≡ false = ne_eqb (suc n) 0 (omega arith) in rw (high, some) refl
 
 pub level_is : (x : ℕ) → x < 2 → x ≡ one_if (is_raised x)
 level_is zero h = refl

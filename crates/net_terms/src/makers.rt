@@ -23,7 +23,9 @@ pub(crate) fn choose_bit(
     requires one { IsBit builder.old one }
     requires other { IsBit builder.old other }
     ensures net { IfOk result (λ net. IsBit builder.new net) }
-    ensures value { IfOk result (λ net. Always builder.new (λ cycle. is_raised (cycle.net net.number) ≡ (if is_raised (cycle.net bit.number) then is_raised (cycle.net one.number) else is_raised (cycle.net other.number)))) }
+    ensures value { IfOk result (λ net. Always builder.new (λ cycle. is_raised (cycle.net net.number)
+        ≡ (if is_raised (cycle.net bit.number) then is_raised (cycle.net one.number)
+        else is_raised (cycle.net other.number)))) }
     ensures adds { AddsNets 1 builder.old builder.new }
     ensures full { result ≡ Err NetFault.TooManyNets → 2 ^ 20 < length builder.old.lines + 1 }
 {
@@ -37,7 +39,8 @@ pub(crate) fn is_equal(builder: &mut Builder, one: Net, other: Net) -> Result<Ne
     requires other { IsNet builder.old other }
     requires widths { one.width ≡ other.width }
     ensures net { IfOk result (λ net. IsBit builder.new net) }
-    ensures value { IfOk result (λ net. Always builder.new (λ cycle. is_raised (cycle.net net.number) ≡ nat_eq (cycle.net one.number) (cycle.net other.number))) }
+    ensures value { IfOk result (λ net. Always builder.new (λ cycle. is_raised (cycle.net net.number)
+        ≡ nat_eq (cycle.net one.number) (cycle.net other.number))) }
     ensures adds { AddsNets 1 builder.old builder.new }
     ensures full { result ≡ Err NetFault.TooManyNets → 2 ^ 20 < length builder.old.lines + 1 }
 {
@@ -51,7 +54,8 @@ pub(crate) fn is_less(builder: &mut Builder, one: Net, other: Net) -> Result<Net
     requires other { IsNet builder.old other }
     requires widths { one.width ≡ other.width }
     ensures net { IfOk result (λ net. IsBit builder.new net) }
-    ensures value { IfOk result (λ net. Always builder.new (λ cycle. is_raised (cycle.net net.number) ≡ nat_lt (cycle.net one.number) (cycle.net other.number))) }
+    ensures value { IfOk result (λ net. Always builder.new (λ cycle. is_raised (cycle.net net.number)
+        ≡ nat_lt (cycle.net one.number) (cycle.net other.number))) }
     ensures adds { AddsNets 1 builder.old builder.new }
     ensures full { result ≡ Err NetFault.TooManyNets → 2 ^ 20 < length builder.old.lines + 1 }
 {
@@ -63,7 +67,8 @@ pub(crate) fn is_less(builder: &mut Builder, one: Net, other: Net) -> Result<Net
 pub(crate) fn is_any(builder: &mut Builder, one: Net) -> Result<Net, NetFault>
     requires one { IsNet builder.old one }
     ensures net { IfOk result (λ net. IsBit builder.new net) }
-    ensures value { IfOk result (λ net. Always builder.new (λ cycle. is_raised (cycle.net net.number) ≡ nat_lt 0 (cycle.net one.number))) }
+    ensures value { IfOk result (λ net. Always builder.new (λ cycle. is_raised (cycle.net net.number)
+        ≡ nat_lt 0 (cycle.net one.number))) }
     ensures adds { AddsNets 1 builder.old builder.new }
     ensures full { result ≡ Err NetFault.TooManyNets → 2 ^ 20 < length builder.old.lines + 1 }
 {
@@ -75,7 +80,8 @@ pub(crate) fn is_any(builder: &mut Builder, one: Net) -> Result<Net, NetFault>
 pub(crate) fn is_zero(builder: &mut Builder, one: Net) -> Result<Net, NetFault>
     requires one { IsNet builder.old one }
     ensures net { IfOk result (λ net. IsBit builder.new net) }
-    ensures value { IfOk result (λ net. Always builder.new (λ cycle. is_raised (cycle.net net.number) ≡ nat_eq (cycle.net one.number) 0)) }
+    ensures value { IfOk result (λ net. Always builder.new (λ cycle. is_raised (cycle.net net.number)
+        ≡ nat_eq (cycle.net one.number) 0)) }
     ensures adds { AddsNets 2 builder.old builder.new }
     ensures full { result ≡ Err NetFault.TooManyNets → 2 ^ 20 < length builder.old.lines + 2 }
 {
@@ -104,7 +110,8 @@ pub(crate) fn sum_of(builder: &mut Builder, one: Net, other: Net) -> Result<Net,
     requires other { IsNet builder.old other }
     requires widths { one.width ≡ other.width }
     ensures net { IfOk result (λ net. IsNetOfWidth builder.new net one.width) }
-    ensures value { IfOk result (λ net. Always builder.new (λ cycle. cycle.net net.number ≡ (cycle.net one.number + cycle.net other.number) % 2 ^ one.width)) }
+    ensures value { IfOk result (λ net. Always builder.new (λ cycle. cycle.net net.number
+        ≡ (cycle.net one.number + cycle.net other.number) % 2 ^ one.width)) }
     ensures adds { AddsNets 1 builder.old builder.new }
     ensures full { result ≡ Err NetFault.TooManyNets → 2 ^ 20 < length builder.old.lines + 1 }
 {
@@ -118,7 +125,8 @@ pub(crate) fn difference_of(builder: &mut Builder, one: Net, other: Net) -> Resu
     requires other { IsNet builder.old other }
     requires widths { one.width ≡ other.width }
     ensures net { IfOk result (λ net. IsNetOfWidth builder.new net one.width) }
-    ensures value { IfOk result (λ net. Always builder.new (λ cycle. cycle.net net.number ≡ (cycle.net one.number + (2 ^ one.width - cycle.net other.number)) % 2 ^ one.width)) }
+    ensures value { IfOk result (λ net. Always builder.new (λ cycle. cycle.net net.number
+        ≡ (cycle.net one.number + (2 ^ one.width - cycle.net other.number)) % 2 ^ one.width)) }
     ensures adds { AddsNets 1 builder.old builder.new }
     ensures full { result ≡ Err NetFault.TooManyNets → 2 ^ 20 < length builder.old.lines + 1 }
 {
@@ -138,7 +146,8 @@ pub(crate) fn choose_word(
     requires other { IsNet builder.old other }
     requires widths { one.width ≡ other.width }
     ensures net { IfOk result (λ net. IsNetOfWidth builder.new net one.width) }
-    ensures value { IfOk result (λ net. Always builder.new (λ cycle. cycle.net net.number ≡ (if is_raised (cycle.net bit.number) then cycle.net one.number else cycle.net other.number))) }
+    ensures value { IfOk result (λ net. Always builder.new (λ cycle. cycle.net net.number
+        ≡ (if is_raised (cycle.net bit.number) then cycle.net one.number else cycle.net other.number))) }
     ensures adds { AddsNets 1 builder.old builder.new }
     ensures full { result ≡ Err NetFault.TooManyNets → 2 ^ 20 < length builder.old.lines + 1 }
 {
@@ -152,7 +161,8 @@ pub(crate) fn joined(builder: &mut Builder, one: Net, other: Net) -> Result<Net,
     requires other { IsNet builder.old other }
     requires widths { one.width + other.width ≤ 128 }
     ensures net { IfOk result (λ net. IsNetOfWidth builder.new net (one.width + other.width)) }
-    ensures value { IfOk result (λ net. Always builder.new (λ cycle. cycle.net net.number ≡ cycle.net one.number * 2 ^ other.width + cycle.net other.number)) }
+    ensures value { IfOk result (λ net. Always builder.new (λ cycle. cycle.net net.number
+        ≡ cycle.net one.number * 2 ^ other.width + cycle.net other.number)) }
     ensures adds { AddsNets 1 builder.old builder.new }
     ensures full { result ≡ Err NetFault.TooManyNets → 2 ^ 20 < length builder.old.lines + 1 }
 {
@@ -166,7 +176,8 @@ pub(crate) fn cut(builder: &mut Builder, one: Net, high: u8, low: u8) -> Result<
     requires order { low ≤ high }
     requires inside { high < one.width }
     ensures net { IfOk result (λ net. IsNetOfWidth builder.new net (high - low + 1)) }
-    ensures value { IfOk result (λ net. Always builder.new (λ cycle. cycle.net net.number ≡ cycle.net one.number / 2 ^ low % 2 ^ (high - low + 1))) }
+    ensures value { IfOk result (λ net. Always builder.new (λ cycle. cycle.net net.number
+        ≡ cycle.net one.number / 2 ^ low % 2 ^ (high - low + 1))) }
     ensures adds { AddsNets 1 builder.old builder.new }
     ensures full { result ≡ Err NetFault.TooManyNets → 2 ^ 20 < length builder.old.lines + 1 }
 {
@@ -195,7 +206,8 @@ pub(crate) fn word_at(builder: &mut Builder, memory: Mem, address: Net) -> Resul
     requires address { IsNet builder.old address }
     requires widths { address.width ≡ memory.address_bits }
     ensures net { IfOk result (λ net. IsNetOfWidth builder.new net memory.width) }
-    ensures value { IfOk result (λ net. Always builder.new (λ cycle. cycle.net net.number ≡ cycle.cell memory.number (cycle.net address.number))) }
+    ensures value { IfOk result (λ net. Always builder.new (λ cycle. cycle.net net.number
+        ≡ cycle.cell memory.number (cycle.net address.number))) }
     ensures adds { AddsNets 1 builder.old builder.new }
     ensures full { result ≡ Err NetFault.TooManyNets → 2 ^ 20 < length builder.old.lines + 1 }
 {
@@ -207,7 +219,8 @@ pub(crate) fn word_at(builder: &mut Builder, memory: Mem, address: Net) -> Resul
 pub(crate) fn flag_of(builder: &mut Builder, bit: Net) -> Result<Net, NetFault>
     requires bit { IsBit builder.old bit }
     ensures net { IfOk result (λ net. IsNetOfWidth builder.new net 1) }
-    ensures value { IfOk result (λ net. Always builder.new (λ cycle. cycle.net net.number ≡ one_if (is_raised (cycle.net bit.number)))) }
+    ensures value { IfOk result (λ net. Always builder.new (λ cycle. cycle.net net.number
+        ≡ one_if (is_raised (cycle.net bit.number)))) }
     ensures adds { AddsNets 0 builder.old builder.new }
     ensures full { result ≡ Err NetFault.TooManyNets → 2 ^ 20 < length builder.old.lines + 0 }
 {
@@ -232,7 +245,8 @@ pub(crate) fn both(builder: &mut Builder, a: Net, b: Net) -> Result<Net, NetFaul
     requires a { IsBit builder.old a }
     requires b { IsBit builder.old b }
     ensures net { IfOk result (λ net. IsBit builder.new net) }
-    ensures value { IfOk result (λ net. Always builder.new (λ cycle. is_raised (cycle.net net.number) ≡ (is_raised (cycle.net a.number) && is_raised (cycle.net b.number)))) }
+    ensures value { IfOk result (λ net. Always builder.new (λ cycle. is_raised (cycle.net net.number)
+        ≡ (is_raised (cycle.net a.number) && is_raised (cycle.net b.number)))) }
     ensures adds { AddsNets 1 builder.old builder.new }
     ensures full { result ≡ Err NetFault.TooManyNets → 2 ^ 20 < length builder.old.lines + 1 }
 {
@@ -245,7 +259,8 @@ pub(crate) fn either(builder: &mut Builder, a: Net, b: Net) -> Result<Net, NetFa
     requires a { IsBit builder.old a }
     requires b { IsBit builder.old b }
     ensures net { IfOk result (λ net. IsBit builder.new net) }
-    ensures value { IfOk result (λ net. Always builder.new (λ cycle. is_raised (cycle.net net.number) ≡ (is_raised (cycle.net a.number) || is_raised (cycle.net b.number)))) }
+    ensures value { IfOk result (λ net. Always builder.new (λ cycle. is_raised (cycle.net net.number)
+        ≡ (is_raised (cycle.net a.number) || is_raised (cycle.net b.number)))) }
     ensures adds { AddsNets 1 builder.old builder.new }
     ensures full { result ≡ Err NetFault.TooManyNets → 2 ^ 20 < length builder.old.lines + 1 }
 {
@@ -257,7 +272,8 @@ pub(crate) fn either(builder: &mut Builder, a: Net, b: Net) -> Result<Net, NetFa
 pub(crate) fn turned(builder: &mut Builder, a: Net) -> Result<Net, NetFault>
     requires a { IsBit builder.old a }
     ensures net { IfOk result (λ net. IsBit builder.new net) }
-    ensures value { IfOk result (λ net. Always builder.new (λ cycle. is_raised (cycle.net net.number) ≡ not (is_raised (cycle.net a.number)))) }
+    ensures value { IfOk result (λ net. Always builder.new (λ cycle. is_raised (cycle.net net.number)
+        ≡ not (is_raised (cycle.net a.number)))) }
     ensures adds { AddsNets 1 builder.old builder.new }
     ensures full { result ≡ Err NetFault.TooManyNets → 2 ^ 20 < length builder.old.lines + 1 }
 {
@@ -270,7 +286,9 @@ pub(crate) fn just_one(builder: &mut Builder, a: Net, b: Net) -> Result<Net, Net
     requires a { IsBit builder.old a }
     requires b { IsBit builder.old b }
     ensures net { IfOk result (λ net. IsBit builder.new net) }
-    ensures value { IfOk result (λ net. Always builder.new (λ cycle. is_raised (cycle.net net.number) ≡ (if is_raised (cycle.net a.number) then not (is_raised (cycle.net b.number)) else is_raised (cycle.net b.number)))) }
+    ensures value { IfOk result (λ net. Always builder.new (λ cycle. is_raised (cycle.net net.number)
+        ≡ (if is_raised (cycle.net a.number) then not (is_raised (cycle.net b.number))
+        else is_raised (cycle.net b.number)))) }
     ensures adds { AddsNets 1 builder.old builder.new }
     ensures full { result ≡ Err NetFault.TooManyNets → 2 ^ 20 < length builder.old.lines + 1 }
 {

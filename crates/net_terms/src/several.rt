@@ -15,7 +15,8 @@ pub fn emit_two<A: Bit, B: Bit>(builder: &mut Builder, a: &A, b: &B) -> Result<(
     requires a { A.over a.now builder.old }
     requires b { B.over b.now builder.old }
     ensures nets { IfOk result (λ made. IsBit builder.new made.0 × IsBit builder.new made.1) }
-    ensures values { IfOk result (λ made. Always builder.new (λ cycle. (is_raised (cycle.net made.0.number) ≡ A.level a.now cycle) × (is_raised (cycle.net made.1.number) ≡ B.level b.now cycle))) }
+    ensures values { IfOk result (λ made. Always builder.new (λ cycle. (is_raised (cycle.net made.0.number) ≡ A.level a.now cycle)
+        × (is_raised (cycle.net made.1.number) ≡ B.level b.now cycle))) }
     ensures adds { AddsNets (A.nets a.now + B.nets b.now) builder.old builder.new }
     ensures full { result ≡ Err NetFault.TooManyNets → 2 ^ 20 < length builder.old.lines + (A.nets a.now + B.nets b.now) }
 {
@@ -36,9 +37,12 @@ pub fn emit_three<A: Bit, B: Bit, C: Bit>(
     requires b { B.over b.now builder.old }
     requires c { C.over c.now builder.old }
     ensures nets { IfOk result (λ made. IsBit builder.new made.0 × IsBit builder.new made.1 × IsBit builder.new made.2) }
-    ensures values { IfOk result (λ made. Always builder.new (λ cycle. (is_raised (cycle.net made.0.number) ≡ A.level a.now cycle) × (is_raised (cycle.net made.1.number) ≡ B.level b.now cycle) × (is_raised (cycle.net made.2.number) ≡ C.level c.now cycle))) }
+    ensures values { IfOk result (λ made. Always builder.new (λ cycle. (is_raised (cycle.net made.0.number) ≡ A.level a.now cycle)
+        × (is_raised (cycle.net made.1.number) ≡ B.level b.now cycle)
+        × (is_raised (cycle.net made.2.number) ≡ C.level c.now cycle))) }
     ensures adds { AddsNets (A.nets a.now + B.nets b.now + C.nets c.now) builder.old builder.new }
-    ensures full { result ≡ Err NetFault.TooManyNets → 2 ^ 20 < length builder.old.lines + (A.nets a.now + B.nets b.now + C.nets c.now) }
+    ensures full { result ≡ Err NetFault.TooManyNets
+        → 2 ^ 20 < length builder.old.lines + (A.nets a.now + B.nets b.now + C.nets c.now) }
 {
     let (first, second) = emit_two(builder, a, b)?;
     let third = c.emit(builder)?;

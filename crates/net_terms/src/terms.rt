@@ -25,7 +25,8 @@ pub trait Bit {
     fn emit(&self, builder: &mut Builder) -> Result<Net, NetFault>
         requires { over self.now builder.old }
         ensures net { IfOk result (λ net. IsBit builder.new net) }
-        ensures value { IfOk result (λ net. Always builder.new (λ cycle. is_raised (cycle.net net.number) ≡ level self.now cycle)) }
+        ensures value { IfOk result (λ net. Always builder.new (λ cycle. is_raised (cycle.net net.number)
+            ≡ level self.now cycle)) }
         ensures adds { AddsNets (nets self.now) builder.old builder.new }
         ensures full { result ≡ Err NetFault.TooManyNets → 2 ^ 20 < length builder.old.lines + nets self.now };
 

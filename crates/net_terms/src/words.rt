@@ -137,7 +137,8 @@ impl<S: Bit, A: Word, B: Word> Word for MuxWord<S, A, B> {
 
     ghost word_nets = { λ s. S.nets s.0 + A.word_nets s.1 + B.word_nets s.2 + 1 };
 
-    ghost word_over = { λ s netlist. S.over s.0 netlist × A.word_over s.1 netlist × B.word_over s.2 netlist × (A.width s.1 ≡ B.width s.2) };
+    ghost word_over = { λ s netlist. S.over s.0 netlist × A.word_over s.1 netlist × B.word_over s.2 netlist
+        × (A.width s.1 ≡ B.width s.2) };
 
     #[tactic(auto, using(net_parts::specs::Laws::growing))]
     fn emit_word(&self, builder: &mut Builder) -> Result<Net, NetFault> {
@@ -238,7 +239,8 @@ impl<A: Word> Word for Read<A> {
 
     ghost word_nets = { λ s. A.word_nets s.address + 1 };
 
-    ghost word_over = { λ s netlist. IsMem netlist s.memory × A.word_over s.address netlist × (A.width s.address ≡ s.memory.address_bits) };
+    ghost word_over = { λ s netlist. IsMem netlist s.memory × A.word_over s.address netlist
+        × (A.width s.address ≡ s.memory.address_bits) };
 
     #[tactic(auto, using(net_parts::specs::Laws::growing))]
     fn emit_word(&self, builder: &mut Builder) -> Result<Net, NetFault> {

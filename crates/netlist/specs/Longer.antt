@@ -42,7 +42,8 @@ pub record Keeps (old new : Netlist) : Type 0 where
   pub drivers : (k n : ℕ) → driver_of old k ≡ Some n → driver_of new k ≡ Some n
   pub memories : (m : ℕ) (memory : Memory) → slice_get old.memories m ≡ Some memory → KeepsMemory new m memory
 
--- the new netlist keeps the old one, whose nets and memories are those of the new one too; the new one's valuations and runs are valuations and runs of the old one
+-- the new netlist keeps the old one, whose nets and memories are those of the new one too; the new one's valuations and runs are
+-- valuations and runs of the old one
 pub record Extends (old new : Netlist) : Type 0 where
   pub keeps : Keeps old new
   pub nets : (n w : ℕ) → HasWidth old n w → HasWidth new n w

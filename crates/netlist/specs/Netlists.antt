@@ -75,7 +75,8 @@ input_net ports k = input_count (take k ports)
 -- the lines of the input nets of ports that are numbered from k
 abbrev pub input_lines : ℕ → List PortLine → List Line
 input_lines k [] = []
-input_lines k (port ∷ ports) = if port.output then input_lines (k + 1) ports else line_of port.width (Input k) ∷ input_lines (k + 1) ports
+input_lines k (port ∷ ports) =
+    if port.output then input_lines (k + 1) ports else line_of port.width (Input k) ∷ input_lines (k + 1) ports
 
 abbrev pub is_input : Equation → Bool
 is_input (Input port) = true
@@ -193,7 +194,8 @@ pub record IsHeader (name : List ℕ) (ports : List PortLine) : Type 0 where
 -- the first nets are the input ports in header order, and no other net is an input
 pub record BeginsWithInputs (ports : List PortLine) (lines : List Line) : Type 0 where
   pub first : (n : ℕ) (line : Line) → slice_get (input_lines 0 ports) n ≡ Some line → slice_get lines n ≡ Some line
-  pub no_others : (n : ℕ) (line : Line) → slice_get lines n ≡ Some line → is_input line.equation ≡ true → slice_get (input_lines 0 ports) n ≡ Some line
+  pub no_others : (n : ℕ) (line : Line) → slice_get lines n ≡ Some line → is_input line.equation ≡ true
+      → slice_get (input_lines 0 ports) n ≡ Some line
 
 -- net n may drive port k: an output of its width
 pub record IsDriver (netlist : Netlist) (k n : ℕ) : Type 0 where
@@ -206,7 +208,8 @@ pub record IsWellMade (netlist : Netlist) : Type 0 where
   pub header : IsHeader netlist.name netlist.ports
   pub few : length netlist.lines ≤ 2 ^ 20
   pub inputs : BeginsWithInputs netlist.ports netlist.lines
-  pub lines : (n : ℕ) (line : Line) → slice_get netlist.lines n ≡ Some line → IsSoundLine netlist.ports netlist.memories netlist.lines n line
+  pub lines : (n : ℕ) (line : Line) → slice_get netlist.lines n ≡ Some line
+      → IsSoundLine netlist.ports netlist.memories netlist.lines n line
   pub places : length netlist.drivers ≡ length netlist.ports
   pub drivers : (k n : ℕ) → driver_of netlist k ≡ Some n → IsDriver netlist k n
   pub few_memories : length netlist.memories ≤ 2 ^ 16
@@ -249,7 +252,8 @@ undriven port = None
 
 -- a netlist with its input nets alone
 abbrev pub started : List ℕ → List PortLine → Netlist
-started name ports = record { name = name; ports = ports; lines = input_lines 0 ports; drivers = map undriven ports; memories = [] }
+started name ports =
+    record { name = name; ports = ports; lines = input_lines 0 ports; drivers = map undriven ports; memories = [] }
 
 -- the netlist with one more line
 abbrev pub appended : Netlist → Line → Netlist
@@ -296,4 +300,5 @@ with_memory netlist memory = record netlist { memories = netlist.memories ++ mem
 
 -- the netlist in which memory m, which is this one, has its write
 abbrev pub with_write : Netlist → ℕ → Memory → MemWrite → Netlist
-with_write netlist m memory write = record netlist { memories = slice_set netlist.memories m (record memory { write = Some write }) }
+with_write netlist m memory write =
+    record netlist { memories = slice_set netlist.memories m (record memory { write = Some write }) }

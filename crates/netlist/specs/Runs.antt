@@ -35,7 +35,8 @@ value_of lines cycle w (Add a b) = Some (add_of (word w (cycle.net a)) (word w (
 value_of lines cycle w (Sub a b) = Some (sub_of (word w (cycle.net a)) (word w (cycle.net b))).bits
 value_of lines cycle w (Eq a b) = Some (eq_of (word w (cycle.net a)) (word w (cycle.net b))).bits
 value_of lines cycle w (Less a b) = Some (less_of (word w (cycle.net a)) (word w (cycle.net b))).bits
-value_of lines cycle w (Concat a b) = option_map (λ k. (concat_of (word (w - k) (cycle.net a)) (word k (cycle.net b))).bits) (width_at lines b)
+value_of lines cycle w (Concat a b) =
+    option_map (λ k. (concat_of (word (w - k) (cycle.net a)) (word k (cycle.net b))).bits) (width_at lines b)
 value_of lines cycle w (Not a) = Some (not_of (word w (cycle.net a))).bits
 value_of lines cycle w (Any a) = Some (any_of (word w (cycle.net a))).bits
 value_of lines cycle w (Mux s a b) = Some (if cycle.net s == 0 then cycle.net b else cycle.net a)
@@ -50,7 +51,9 @@ pub record NetHolds (lines : List Line) (cycle : Cycle) (n : ℕ) (line : Line) 
 
 -- each word of each memory has its memory's width
 abbrev pub WordsFit : List Memory → (ℕ → ℕ → ℕ) → Type 0
-WordsFit memories cell = (m : ℕ) (memory : Memory) → slice_get memories m ≡ Some memory → (address : ℕ) → address < 2 ^ memory.address_bits → cell m address < 2 ^ memory.width
+WordsFit memories cell =
+    (m : ℕ) (memory : Memory) → slice_get memories m ≡ Some memory → (address : ℕ) → address < 2 ^ memory.address_bits
+    → cell m address < 2 ^ memory.width
 
 -- the equations hold in one cycle, in no order; what registers and memories hold is free, but that it fits
 pub record IsValuation (netlist : Netlist) (cycle : Cycle) : Type 0 where
@@ -64,18 +67,23 @@ reset_of _ = None
 
 -- each register begins at its reset value; what memories hold at first is free
 pub record StartsAt (netlist : Netlist) (first : Cycle) : Type 0 where
-  pub registers : (n : ℕ) (line : Line) → slice_get netlist.lines n ≡ Some line → IfSome (reset_of line.equation) (λ x. first.net n ≡ x)
+  pub registers : (n : ℕ) (line : Line) → slice_get netlist.lines n ≡ Some line
+      → IfSome (reset_of line.equation) (λ x. first.net n ≡ x)
 
 -- the word of memory m at an address after the clock's edge: the write's where it is enabled and goes there, else the one before
 abbrev pub word_after : Cycle → MemWrite → ℕ → ℕ → ℕ
 word_after before write m address =
-    if (before.net write.enable == 1) && (before.net write.address == address) then before.net write.word else before.cell m address
+    if (before.net write.enable == 1) && (before.net write.address == address) then before.net write.word
+    else before.cell m address
 
--- the clock's edge between two cycles: each register takes what its next net was, and each memory what its write puts; one that waits
+-- the clock's edge between two cycles: each register takes what its next net was, and each memory what its write puts; one that
+-- waits
 -- for either takes anything
 pub record Steps (netlist : Netlist) (before after : Cycle) : Type 0 where
-  pub registers : (n : ℕ) (line : Line) → slice_get netlist.lines n ≡ Some line → IfSome (next_of line) (λ m. after.net n ≡ before.net m)
-  pub words : (m : ℕ) (memory : Memory) → slice_get netlist.memories m ≡ Some memory → (address : ℕ) → address < 2 ^ memory.address_bits
+  pub registers : (n : ℕ) (line : Line) → slice_get netlist.lines n ≡ Some line
+      → IfSome (next_of line) (λ m. after.net n ≡ before.net m)
+  pub words : (m : ℕ) (memory : Memory) → slice_get netlist.memories m ≡ Some memory → (address : ℕ)
+      → address < 2 ^ memory.address_bits
       → IfSome memory.write (λ write. after.cell m address ≡ word_after before write m address)
 
 -- The run obeys the netlist for so many cycles. `reset` is no net and no port: it is 0 in each cycle, so
@@ -103,7 +111,8 @@ AlwaysFit ports inputs cycles = (c : ℕ) → c < cycles → InputsFit ports (in
 
 -- each register's value and each word fits its width
 pub record StateFits (netlist : Netlist) (cycle : Cycle) : Type 0 where
-  pub registers : (n : ℕ) (line : Line) → slice_get netlist.lines n ≡ Some line → is_register line.equation ≡ true → cycle.net n < 2 ^ line.width
+  pub registers : (n : ℕ) (line : Line) → slice_get netlist.lines n ≡ Some line → is_register line.equation ≡ true
+      → cycle.net n < 2 ^ line.width
   pub words : WordsFit netlist.memories cycle.cell
 
 -- two cycles with equal values at the input ports
@@ -112,8 +121,10 @@ SameInputs netlist x y = (k w : ℕ) → IsInputPort netlist.ports k w → x.inp
 
 -- two cycles in which each register, and each word of each memory, is the same
 pub record SameState (netlist : Netlist) (x y : Cycle) : Type 0 where
-  pub registers : (n : ℕ) (line : Line) → slice_get netlist.lines n ≡ Some line → is_register line.equation ≡ true → x.net n ≡ y.net n
-  pub words : (m : ℕ) (memory : Memory) → slice_get netlist.memories m ≡ Some memory → (address : ℕ) → address < 2 ^ memory.address_bits
+  pub registers : (n : ℕ) (line : Line) → slice_get netlist.lines n ≡ Some line → is_register line.equation ≡ true
+      → x.net n ≡ y.net n
+  pub words : (m : ℕ) (memory : Memory) → slice_get netlist.memories m ≡ Some memory → (address : ℕ)
+      → address < 2 ^ memory.address_bits
       → x.cell m address ≡ y.cell m address
 
 -- two cycles in which each net has the same value

@@ -50,9 +50,12 @@ impl Model for Builder {
 
     ghost Value = { Netlist };
 
-    ghost view = { λ b. record { name = b.name; ports = b.ports; lines = b.lines.items; drivers = b.drivers.items; memories = b.memories.items } };
+    ghost view = { λ b. record
+        { name = b.name; ports = b.ports; lines = b.lines.items; drivers = b.drivers.items; memories = b.memories.items } };
 
-    ghost invariant = { λ b. IsWellMade (record { name = b.name; ports = b.ports; lines = b.lines.items; drivers = b.drivers.items; memories = b.memories.items }) };
+    ghost invariant = { λ b. IsWellMade
+        (record
+        { name = b.name; ports = b.ports; lines = b.lines.items; drivers = b.drivers.items; memories = b.memories.items }) };
 }
 
 fn count_inputs(ports: &[PortLine]) -> usize
@@ -152,7 +155,8 @@ impl Builder {
         ensures net { IsNet self.now result }
         ensures number { result.number ≡ input_net self.now.ports port }
         ensures width { (w : ℕ) → IsInputPort self.now.ports port w → result.width ≡ w }
-        ensures value { Always self.now (λ cycle. (cycle.net result.number < 2 ^ result.width) × (cycle.net result.number ≡ cycle.input port)) }
+        ensures value { Always self.now (λ cycle. (cycle.net result.number < 2 ^ result.width)
+            × (cycle.net result.number ≡ cycle.input port)) }
     {
         let ports = self.ports.as_slice();
         let number = count_inputs(&ports[..port as usize]);
@@ -170,11 +174,14 @@ impl Builder {
 
     /// One more line.
     fn append(&mut self, width: u8, equation: Equation, waits: bool) -> Result<Net, NetFault>
-        requires sound { IsSoundLine self.old.ports self.old.memories self.old.lines (length self.old.lines) (line_with width equation waits) }
+        requires sound { IsSoundLine self.old.ports self.old.memories self.old.lines (length self.old.lines)
+            (line_with width equation waits) }
         requires computed { is_input equation ≡ false }
-        ensures line { IfOk result (λ n. (self.new ≡ appended self.old (line_with width equation waits)) × (n ≡ net_of (length self.old.lines) width)) }
+        ensures line { IfOk result (λ n. (self.new ≡ appended self.old (line_with width equation waits))
+            × (n ≡ net_of (length self.old.lines) width)) }
         ensures net { IfOk result (λ n. IsNet self.new n × (n.width ≡ width)) }
-        ensures value { IfOk result (λ n. Always self.new (λ cycle. NetHolds self.new.lines cycle n.number (line_with width equation waits))) }
+        ensures value { IfOk result (λ n. Always self.new (λ cycle. NetHolds self.new.lines cycle n.number
+            (line_with width equation waits))) }
         ensures extends { Extends self.old self.new }
         ensures most { length self.new.lines ≤ length self.old.lines + 1 }
         ensures drivers { self.new.drivers ≡ self.old.drivers }
@@ -232,7 +239,8 @@ impl Builder {
         requires a_is { IsNet self.old a }
         requires b_is { IsNet self.old b }
         requires widths { a.width ≡ b.width }
-        ensures { IsMade self.old self.new result a.width (Equation.And a.number b.number) (λ cycle. bit_and (cycle.net a.number) (cycle.net b.number)) }
+        ensures { IsMade self.old self.new result a.width
+            (Equation.And a.number b.number) (λ cycle. bit_and (cycle.net a.number) (cycle.net b.number)) }
     {
         self.append_like(
             a,
@@ -248,7 +256,8 @@ impl Builder {
         requires a_is { IsNet self.old a }
         requires b_is { IsNet self.old b }
         requires widths { a.width ≡ b.width }
-        ensures { IsMade self.old self.new result a.width (Equation.Or a.number b.number) (λ cycle. bit_or (cycle.net a.number) (cycle.net b.number)) }
+        ensures { IsMade self.old self.new result a.width
+            (Equation.Or a.number b.number) (λ cycle. bit_or (cycle.net a.number) (cycle.net b.number)) }
     {
         self.append_like(
             a,
@@ -264,7 +273,8 @@ impl Builder {
         requires a_is { IsNet self.old a }
         requires b_is { IsNet self.old b }
         requires widths { a.width ≡ b.width }
-        ensures { IsMade self.old self.new result a.width (Equation.Xor a.number b.number) (λ cycle. bit_xor (cycle.net a.number) (cycle.net b.number)) }
+        ensures { IsMade self.old self.new result a.width
+            (Equation.Xor a.number b.number) (λ cycle. bit_xor (cycle.net a.number) (cycle.net b.number)) }
     {
         self.append_like(
             a,
@@ -280,7 +290,8 @@ impl Builder {
         requires a_is { IsNet self.old a }
         requires b_is { IsNet self.old b }
         requires widths { a.width ≡ b.width }
-        ensures { IsMade self.old self.new result a.width (Equation.Add a.number b.number) (λ cycle. (cycle.net a.number + cycle.net b.number) % 2 ^ a.width) }
+        ensures { IsMade self.old self.new result a.width
+            (Equation.Add a.number b.number) (λ cycle. (cycle.net a.number + cycle.net b.number) % 2 ^ a.width) }
     {
         self.append_like(
             a,
@@ -296,7 +307,9 @@ impl Builder {
         requires a_is { IsNet self.old a }
         requires b_is { IsNet self.old b }
         requires widths { a.width ≡ b.width }
-        ensures { IsMade self.old self.new result a.width (Equation.Sub a.number b.number) (λ cycle. (cycle.net a.number + (2 ^ a.width - cycle.net b.number)) % 2 ^ a.width) }
+        ensures { IsMade self.old self.new result a.width
+            (Equation.Sub a.number b.number) (λ cycle. (cycle.net a.number
+            + (2 ^ a.width - cycle.net b.number)) % 2 ^ a.width) }
     {
         self.append_like(
             a,
@@ -312,7 +325,8 @@ impl Builder {
         requires a_is { IsNet self.old a }
         requires b_is { IsNet self.old b }
         requires widths { a.width ≡ b.width }
-        ensures { IsMade self.old self.new result 1 (Equation.Eq a.number b.number) (λ cycle. if cycle.net a.number == cycle.net b.number then 1 else 0) }
+        ensures { IsMade self.old self.new result 1
+            (Equation.Eq a.number b.number) (λ cycle. if cycle.net a.number == cycle.net b.number then 1 else 0) }
     {
         self.append_computed(
             1,
@@ -328,7 +342,8 @@ impl Builder {
         requires a_is { IsNet self.old a }
         requires b_is { IsNet self.old b }
         requires widths { a.width ≡ b.width }
-        ensures { IsMade self.old self.new result 1 (Equation.Less a.number b.number) (λ cycle. if nat_lt (cycle.net a.number) (cycle.net b.number) then 1 else 0) }
+        ensures { IsMade self.old self.new result 1
+            (Equation.Less a.number b.number) (λ cycle. if nat_lt (cycle.net a.number) (cycle.net b.number) then 1 else 0) }
     {
         self.append_computed(
             1,
@@ -344,7 +359,8 @@ impl Builder {
         requires a_is { IsNet self.old a }
         requires b_is { IsNet self.old b }
         requires widths { a.width + b.width ≤ 128 }
-        ensures { IsMade self.old self.new result (a.width + b.width) (Equation.Concat a.number b.number) (λ cycle. cycle.net a.number * 2 ^ b.width + cycle.net b.number) }
+        ensures { IsMade self.old self.new result (a.width + b.width)
+            (Equation.Concat a.number b.number) (λ cycle. cycle.net a.number * 2 ^ b.width + cycle.net b.number) }
     {
         let width = self.width(a) + self.width(b);
         self.append_computed(
@@ -359,7 +375,8 @@ impl Builder {
     /// Each bit turned.
     pub fn not(&mut self, a: Net) -> Result<Net, NetFault>
         requires a_is { IsNet self.old a }
-        ensures { IsMade self.old self.new result a.width (Equation.Not a.number) (λ cycle. 2 ^ a.width - 1 - cycle.net a.number) }
+        ensures { IsMade self.old self.new result a.width
+            (Equation.Not a.number) (λ cycle. 2 ^ a.width - 1 - cycle.net a.number) }
     {
         self.append_like(a, Equation::Not { a: a.number() })
     }
@@ -379,7 +396,9 @@ impl Builder {
         requires a_is { IsNet self.old a }
         requires b_is { IsNet self.old b }
         requires widths { a.width ≡ b.width }
-        ensures { IsMade self.old self.new result a.width (Equation.Mux s.number a.number b.number) (λ cycle. if cycle.net s.number == 0 then cycle.net b.number else cycle.net a.number) }
+        ensures { IsMade self.old self.new result a.width
+            (Equation.Mux s.number a.number b.number) (λ cycle. if cycle.net s.number == 0 then cycle.net b.number
+            else cycle.net a.number) }
     {
         self.append_like(
             a,
@@ -396,7 +415,8 @@ impl Builder {
         requires a_is { IsNet self.old a }
         requires order { low ≤ high }
         requires inside { high < a.width }
-        ensures { IsMade self.old self.new result (high - low + 1) (Equation.Slice a.number high low) (λ cycle. cycle.net a.number / 2 ^ low % 2 ^ (high - low + 1)) }
+        ensures { IsMade self.old self.new result (high - low + 1)
+            (Equation.Slice a.number high low) (λ cycle. cycle.net a.number / 2 ^ low % 2 ^ (high - low + 1)) }
     {
         let _inside = self.width(a);
         self.append_computed(
@@ -411,10 +431,12 @@ impl Builder {
 
     /// A register that begins at `reset`; its next net is to be set.
     pub fn reg(&mut self, reset: Val) -> Result<Net, NetFault>
-        ensures line { IfOk result (λ n. (self.new ≡ appended self.old (register_of (length self.old.lines) reset)) × (n ≡ net_of (length self.old.lines) reset.width)) }
+        ensures line { IfOk result (λ n. (self.new ≡ appended self.old (register_of (length self.old.lines) reset))
+            × (n ≡ net_of (length self.old.lines) reset.width)) }
         ensures net { IfOk result (λ n. IsNet self.new n × (n.width ≡ reset.width)) }
         ensures fits { IfOk result (λ n. Always self.new (λ cycle. cycle.net n.number < 2 ^ reset.width)) }
-        ensures value { IfOk result (λ n. (run : Run) (cycles : ℕ) → IsRun self.new run cycles → 0 < cycles → run.net 0 n.number ≡ reset.bits) }
+        ensures value { IfOk result (λ n. (run : Run) (cycles : ℕ) → IsRun self.new run cycles → 0 < cycles
+            → run.net 0 n.number ≡ reset.bits) }
         ensures waits { IfOk result (λ n. IsWaiting self.new n.number) }
         ensures extends { Extends self.old self.new }
         ensures most { length self.new.lines ≤ length self.old.lines + 1 }
@@ -445,8 +467,10 @@ impl Builder {
         requires waits { IsWaiting self.old register.number }
         requires next_is { IsNet self.old next }
         requires widths { register.width ≡ next.width }
-        ensures line { (line : Line) → slice_get self.old.lines register.number ≡ Some line → self.new ≡ with_line self.old register.number (with_next line next.number) }
-        ensures value { (run : Run) (cycles : ℕ) → IsRun self.new run cycles → (c : ℕ) → c + 1 < cycles → run.net (c + 1) register.number ≡ run.net c next.number }
+        ensures line { (line : Line) → slice_get self.old.lines register.number ≡ Some line
+            → self.new ≡ with_line self.old register.number (with_next line next.number) }
+        ensures value { (run : Run) (cycles : ℕ) → IsRun self.new run cycles → (c : ℕ) → c + 1 < cycles
+            → run.net (c + 1) register.number ≡ run.net c next.number }
         ensures extends { Extends self.old self.new }
         ensures same_count { length self.new.lines ≡ length self.old.lines }
         ensures drivers { self.new.drivers ≡ self.old.drivers }
@@ -464,9 +488,11 @@ impl Builder {
         requires small { width ≤ 128 }
         requires some_address { 1 ≤ address_bits }
         requires few_addresses { address_bits ≤ 10 }
-        ensures memory { IfOk result (λ m. (self.new ≡ with_memory self.old (memory_with width address_bits)) × (m ≡ mem_of (length self.old.memories) width address_bits)) }
+        ensures memory { IfOk result (λ m. (self.new ≡ with_memory self.old (memory_with width address_bits))
+            × (m ≡ mem_of (length self.old.memories) width address_bits)) }
         ensures mem { IfOk result (λ m. IsMem self.new m) }
-        ensures fits { IfOk result (λ m. Always self.new (λ cycle. (address : ℕ) → address < 2 ^ address_bits → cycle.cell m.number address < 2 ^ width)) }
+        ensures fits { IfOk result (λ m. Always self.new (λ cycle. (address : ℕ) → address < 2 ^ address_bits
+            → cycle.cell m.number address < 2 ^ width)) }
         ensures waits { IfOk result (λ m. WaitsForWrite self.new m.number) }
         ensures extends { Extends self.old self.new }
         ensures lines { self.new.lines ≡ self.old.lines }
@@ -502,7 +528,8 @@ impl Builder {
         requires mem_is { IsMem self.old mem }
         requires address_is { IsNet self.old address }
         requires widths { address.width ≡ mem.address_bits }
-        ensures { IsMade self.old self.new result mem.width (Equation.Read mem.number address.number) (λ cycle. cycle.cell mem.number (cycle.net address.number)) }
+        ensures { IsMade self.old self.new result mem.width
+            (Equation.Read mem.number address.number) (λ cycle. cycle.cell mem.number (cycle.net address.number)) }
     {
         let width = self.word_width(mem);
         self.append_computed(
@@ -524,9 +551,13 @@ impl Builder {
         requires address_width { address.width ≡ mem.address_bits }
         requires word_is { IsNet self.old word }
         requires word_width { word.width ≡ mem.width }
-        ensures memory { (memory : Memory) → slice_get self.old.memories mem.number ≡ Some memory → self.new ≡ with_write self.old mem.number memory (write_of enable.number address.number word.number) }
-        ensures value { (run : Run) (cycles : ℕ) → IsRun self.new run cycles → (c : ℕ) → c + 1 < cycles → (place : ℕ) → place < 2 ^ mem.address_bits
-            → run.cell (c + 1) mem.number place ≡ (if (run.net c enable.number == 1) && (run.net c address.number == place) then run.net c word.number else run.cell c mem.number place) }
+        ensures memory { (memory : Memory) → slice_get self.old.memories mem.number ≡ Some memory
+            → self.new ≡ with_write self.old mem.number memory (write_of enable.number address.number word.number) }
+        ensures value { (run : Run) (cycles : ℕ) → IsRun self.new run cycles → (c : ℕ) → c + 1 < cycles → (place : ℕ)
+            → place < 2 ^ mem.address_bits
+            → run.cell (c + 1) mem.number place
+            ≡ (if (run.net c enable.number == 1) && (run.net c address.number == place) then run.net c word.number
+            else run.cell c mem.number place) }
         ensures extends { Extends self.old self.new }
         ensures lines { self.new.lines ≡ self.old.lines }
         ensures drivers { self.new.drivers ≡ self.old.drivers }

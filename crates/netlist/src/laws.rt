@@ -15,22 +15,26 @@ pub fn has_run()
 
 /// Any inputs and state, each within its width, have a valuation.
 pub fn has_valuation()
-    ensures { (netlist : Netlist) → IsWellMade netlist → (given : Cycle) → InputsFit netlist.ports given.input → StateFits netlist given → HasValuation netlist given }
+    ensures { (netlist : Netlist) → IsWellMade netlist → (given : Cycle) → InputsFit netlist.ports given.input
+        → StateFits netlist given → HasValuation netlist given }
 {}
 
 /// And no second one: two valuations with equal inputs and state agree on every net.
 pub fn agree()
-    ensures { (netlist : Netlist) → IsWellMade netlist → (x y : Cycle) → IsValuation netlist x → IsValuation netlist y → SameInputs netlist x y → SameState netlist x y → SameNets netlist x y }
+    ensures { (netlist : Netlist) → IsWellMade netlist → (x y : Cycle) → IsValuation netlist x → IsValuation netlist y
+        → SameInputs netlist x y → SameState netlist x y → SameNets netlist x y }
 {}
 
 /// The first cycles of a run are a run.
 pub fn prefix()
-    ensures { (netlist : Netlist) (run : Run) (cycles fewer : ℕ) → IsRun netlist run cycles → fewer ≤ cycles → IsRun netlist run fewer }
+    ensures { (netlist : Netlist) (run : Run) (cycles fewer : ℕ) → IsRun netlist run cycles → fewer ≤ cycles
+        → IsRun netlist run fewer }
 {}
 
 /// Each run of so many cycles is the beginning of an endless one, in inputs, nets and words.
 pub fn goes_on()
-    ensures { (netlist : Netlist) → IsWellMade netlist → (run : Run) (cycles : ℕ) → IsRun netlist run cycles → GoesOn netlist run cycles }
+    ensures { (netlist : Netlist) → IsWellMade netlist → (run : Run) (cycles : ℕ) → IsRun netlist run cycles
+        → GoesOn netlist run cycles }
 {}
 
 /// A run of a netlist that keeps another is a run of the other, and a valuation one of the other.
@@ -41,8 +45,12 @@ pub fn keeps()
 
 /// What stands at a port, by its number and by its name.
 pub fn signals()
-    ensures output { (netlist : Netlist) (k n : ℕ) → driver_of netlist k ≡ Some n → (run : Run) (c : ℕ) → port_value netlist run c k ≡ run.net c n }
-    ensures input { (netlist : Netlist) → IsWellMade netlist → (k w : ℕ) → IsInputPort netlist.ports k w → Always netlist (λ cycle. cycle.net (port_net netlist k) ≡ cycle.input k) }
-    ensures input_net { (netlist : Netlist) → IsWellMade netlist → (k w : ℕ) → IsInputPort netlist.ports k w → Always netlist (λ cycle. cycle.net (input_net netlist.ports k) ≡ cycle.input k) }
-    ensures named { (netlist : Netlist) → IsWellMade netlist → (k : ℕ) (port : PortLine) → slice_get netlist.ports k ≡ Some port → (run : Run) → signal netlist run port.name ≡ Some (λ c. port_value netlist run c k) }
+    ensures output { (netlist : Netlist) (k n : ℕ) → driver_of netlist k ≡ Some n → (run : Run) (c : ℕ)
+        → port_value netlist run c k ≡ run.net c n }
+    ensures input { (netlist : Netlist) → IsWellMade netlist → (k w : ℕ) → IsInputPort netlist.ports k w
+        → Always netlist (λ cycle. cycle.net (port_net netlist k) ≡ cycle.input k) }
+    ensures input_net { (netlist : Netlist) → IsWellMade netlist → (k w : ℕ) → IsInputPort netlist.ports k w
+        → Always netlist (λ cycle. cycle.net (input_net netlist.ports k) ≡ cycle.input k) }
+    ensures named { (netlist : Netlist) → IsWellMade netlist → (k : ℕ) (port : PortLine) → slice_get netlist.ports k ≡ Some port
+        → (run : Run) → signal netlist run port.name ≡ Some (λ c. port_value netlist run c k) }
 {}

@@ -32,9 +32,12 @@ impl Model for Module {
 
     ghost Value = { Netlist };
 
-    ghost view = { λ m. record { name = m.name; ports = m.ports; lines = m.lines.items; drivers = m.drivers.items; memories = m.memories.items } };
+    ghost view = { λ m. record
+        { name = m.name; ports = m.ports; lines = m.lines.items; drivers = m.drivers.items; memories = m.memories.items } };
 
-    ghost invariant = { λ m. IsModule (record { name = m.name; ports = m.ports; lines = m.lines.items; drivers = m.drivers.items; memories = m.memories.items }) };
+    ghost invariant = { λ m. IsModule
+        (record
+        { name = m.name; ports = m.ports; lines = m.lines.items; drivers = m.drivers.items; memories = m.memories.items }) };
 }
 
 impl Module {
@@ -46,8 +49,10 @@ impl Module {
         drivers: Vec<Option<u32>>,
         memories: Vec<Memory>,
     ) -> Module
-        requires { IsModule (record { name = name; ports = ports; lines = lines.items; drivers = drivers.items; memories = memories.items }) }
-        ensures same { result ≡ record { name = name; ports = ports; lines = lines.items; drivers = drivers.items; memories = memories.items } }
+        requires { IsModule
+            (record { name = name; ports = ports; lines = lines.items; drivers = drivers.items; memories = memories.items }) }
+        ensures same { result
+            ≡ record { name = name; ports = ports; lines = lines.items; drivers = drivers.items; memories = memories.items } }
         ensures module { IsModule result }
     {
         Module {

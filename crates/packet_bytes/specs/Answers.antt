@@ -42,15 +42,18 @@ answer word_bytes bytes given = answer_by word_bytes bytes given (code_of (slice
 
 -- so many write beats, and words of these bytes, are enough for a packet
 abbrev pub is_answered : ℕ → List ℕ → ℕ → List ℕ → Bool
-is_answered word_bytes bytes beats given = nat_le (beats_due word_bytes bytes) beats && nat_le (word_bytes * words_due word_bytes bytes) (length given)
+is_answered word_bytes bytes beats given =
+    nat_le (beats_due word_bytes bytes) beats && nat_le (word_bytes * words_due word_bytes bytes) (length given)
 
--- the replies to the leading packets for which so many write beats, and the bytes of the words in a row, are enough, one after the other
+-- the replies to the leading packets for which so many write beats, and the bytes of the words in a row, are enough, one after
+-- the other
 abbrev pub replies_of : ℕ → List Packet → ℕ → List ℕ → List Reply
 replies_of word_bytes [] beats given = []
 replies_of word_bytes (packet ∷ rest) beats given =
     if is_answered word_bytes packet.bytes beats given
     then record { channel = packet.channel; bytes = answer word_bytes packet.bytes given }
-    ∷ replies_of word_bytes rest (beats - beats_due word_bytes packet.bytes) (drop (word_bytes * words_due word_bytes packet.bytes) given)
+    ∷ replies_of word_bytes rest (beats - beats_due word_bytes packet.bytes)
+    (drop (word_bytes * words_due word_bytes packet.bytes) given)
     else []
 
 -- replies as they are sent

@@ -14,7 +14,8 @@ pub record Placed : Type 0 where
 abbrev pub placed : ℕ → ℕ → List Item → List Placed
 placed from before [] = []
 placed from before (item ∷ rest) =
-    record { byte = packet_byte before item; place = from + length (marks_spelling item.marks) } ∷ placed (from + length (item_spelling item)) (packet_byte before item).channel rest
+    record { byte = packet_byte before item; place = from + length (marks_spelling item.marks) }
+    ∷ placed (from + length (item_spelling item)) (packet_byte before item).channel rest
 
 -- whole packets, and the bytes of an open one
 pub record Gathered : Type 0 where
@@ -31,7 +32,13 @@ with_byte before p =
     let bytes = before.bytes ++ p.byte.byte ∷ [] in
     let first = if p.byte.first then p.place else before.first_place in
     if p.byte.last
-    then record { packets = before.packets ++ record { channel = p.byte.channel; bytes = bytes; first_place = first; last_place = p.place } ∷ []; bytes = []; first_place = first }
+    then record {
+      packets =
+          before.packets ++ record { channel = p.byte.channel; bytes = bytes; first_place = first; last_place = p.place } ∷ [];
+      bytes =
+          [];
+      first_place = first;
+    }
     else record { packets = before.packets; bytes = bytes; first_place = first }
 
 abbrev pub with_bytes : Gathered → List Placed → Gathered

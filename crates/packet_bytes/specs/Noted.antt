@@ -7,7 +7,8 @@ use Rattle.packet_bytes.specs.Answers.{replies_of, replies_text, bytes_of}
 
 -- what is sent to transactions once so many write beats were accepted and these words given
 abbrev pub sent : Transfers → ℕ → List ℕ → List ℕ
-sent transfers beats words = replies_text (replies_of transfers.word_bytes transfers.packets.items beats (bytes_of transfers.word_bytes words))
+sent transfers beats words =
+    replies_text (replies_of transfers.word_bytes transfers.packets.items beats (bytes_of transfers.word_bytes words))
 
 -- so many write beats were noted, and these words
 pub record HasNoted (beats : ℕ) (words : List ℕ) (replies : Replies) : Type 0 where

@@ -29,7 +29,8 @@ abbrev pub is_aligned : ℕ → List ℕ → Bool
 is_aligned word_bytes bytes = address_in bytes % word_bytes == 0 && size_in bytes % word_bytes == 0
 
 abbrev pub is_in_place : ℕ → ℕ → Code → List ℕ → Bool
-is_in_place word_bytes range code bytes = not (is_fixed code && not (is_aligned word_bytes bytes)) && not (nat_lt range (end_of word_bytes code bytes))
+is_in_place word_bytes range code bytes =
+    not (is_fixed code && not (is_aligned word_bytes bytes)) && not (nat_lt range (end_of word_bytes code bytes))
 
 abbrev pub most_commands : ℕ
 most_commands = 4096
@@ -46,9 +47,11 @@ transaction_fault word_bytes range before packet code =
 abbrev pub fault_by : ℕ → ℕ → ℕ → Packet → Option Code → Option PacketFault
 fault_by word_bytes range before packet None = Some (Refused packet.first_place 4)
 fault_by word_bytes range before packet (Some WriteFixed) = transaction_fault word_bytes range before packet WriteFixed
-fault_by word_bytes range before packet (Some WriteIncrementing) = transaction_fault word_bytes range before packet WriteIncrementing
+fault_by word_bytes range before packet (Some WriteIncrementing) =
+    transaction_fault word_bytes range before packet WriteIncrementing
 fault_by word_bytes range before packet (Some ReadFixed) = transaction_fault word_bytes range before packet ReadFixed
-fault_by word_bytes range before packet (Some ReadIncrementing) = transaction_fault word_bytes range before packet ReadIncrementing
+fault_by word_bytes range before packet (Some ReadIncrementing) =
+    transaction_fault word_bytes range before packet ReadIncrementing
 fault_by word_bytes range before packet (Some NoTransaction) = None
 
 abbrev pub packet_fault : ℕ → ℕ → ℕ → Packet → Option PacketFault
@@ -62,7 +65,8 @@ or_later None later = later
 abbrev pub first_fault : ℕ → ℕ → ℕ → List Packet → Option PacketFault
 first_fault word_bytes range before [] = None
 first_fault word_bytes range before (packet ∷ rest) =
-    or_later (packet_fault word_bytes range before packet) (first_fault word_bytes range (before + command_count word_bytes packet.bytes) rest)
+    or_later (packet_fault word_bytes range before packet)
+    (first_fault word_bytes range (before + command_count word_bytes packet.bytes) rest)
 
 -- packets of transactions that a host of such words and such a range can do
 pub record AreTransfers (word_bytes range : ℕ) (bytes : List ℕ) (transfers : Transfers) : Type 0 where
@@ -78,5 +82,6 @@ pub record IsPacketFault (word_bytes range : ℕ) (bytes : List ℕ) (fault : Pa
 
 -- the first fault of a stream, and else of its packets; want of memory says nothing of them
 abbrev pub IsFaultOf : ℕ → ℕ → List ℕ → PacketFault → Type 0
-IsFaultOf word_bytes range bytes (Refused place rule) = IsStreamFault bytes (Refused place rule) ⊎ IsPacketFault word_bytes range bytes (Refused place rule)
+IsFaultOf word_bytes range bytes (Refused place rule) =
+    IsStreamFault bytes (Refused place rule) ⊎ IsPacketFault word_bytes range bytes (Refused place rule)
 IsFaultOf word_bytes range bytes NoMemory = true ≡ true

@@ -13,4 +13,6 @@ header code size address = code ∷ 0 ∷ size / 256 ∷ size % 256 ∷ 0 ∷ 0 
 
 -- the items of the bytes 7a 7f 7b 7d 5a
 abbrev pub escaped_items : List Item
-escaped_items = record { marks = Mark.IsFirst ∷ []; byte = Spelled.Itself 0x7f } ∷ record { marks = Mark.IsLast ∷ []; byte = Spelled.Escaped 0x5a } ∷ []
+escaped_items =
+    record { marks = Mark.IsFirst ∷ []; byte = Spelled.Itself 0x7f }
+    ∷ record { marks = Mark.IsLast ∷ []; byte = Spelled.Escaped 0x5a } ∷ []

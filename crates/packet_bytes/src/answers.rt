@@ -80,7 +80,8 @@ pub(crate) fn put_answer<K: Sink>(
     requires words { IsWordSize word_bytes }
     requires sized { is_sized packet.now.bytes ≡ true }
     requires enough { word_bytes * words_due word_bytes packet.now.bytes ≤ length given.now }
-    ensures { Writes (packed packet.now.channel (answer word_bytes packet.now.bytes given.now)) (K.held sink.old) (K.held sink.new) (K.faults sink.old) (K.faults sink.new) result }
+    ensures { Writes (packed packet.now.channel (answer word_bytes packet.now.bytes given.now)) (K.held sink.old)
+        (K.held sink.new) (K.faults sink.old) (K.faults sink.new) result }
 {
     let bytes = packet.bytes.as_slice();
     let high = byte_at(bytes, 2);
@@ -105,7 +106,8 @@ pub(crate) fn put_answers<K: Sink>(
 ) -> bool
     requires size { IsWordSize word_bytes }
     requires sized { are_sized packets.now ≡ true }
-    ensures { Writes (replies_text (replies_of word_bytes packets.now accepted words.now)) (K.held sink.old) (K.held sink.new) (K.faults sink.old) (K.faults sink.new) result }
+    ensures { Writes (replies_text (replies_of word_bytes packets.now accepted words.now)) (K.held sink.old) (K.held sink.new)
+        (K.faults sink.old) (K.faults sink.new) result }
 {
     texts_are_written_in_order();
     let mut beats = accepted;

@@ -101,7 +101,9 @@ impl<'a> Command<'a> {
 /// Appends the bytes of the lanes below so many, the highest first.
 fn put_lanes(text: &mut String, command: &Command, lanes: u32) -> Result<(), NoMemory>
     requires { lanes ≤ 16 }
-    ensures { OnOk result (string_bytes text.new ≡ string_bytes text.old ++ lanes_text command.now.word_bytes command.now.bytes.now command.now.word lanes) }
+    ensures { OnOk result
+        (string_bytes text.new
+        ≡ string_bytes text.old ++ lanes_text command.now.word_bytes command.now.bytes.now command.now.word lanes) }
 {
     if lanes == 0 {
         return Ok(());
@@ -112,7 +114,9 @@ fn put_lanes(text: &mut String, command: &Command, lanes: u32) -> Result<(), NoM
 
 /// Appends what stands last in a statement: the word of a write, and the count of a read.
 fn put_operand(text: &mut String, command: &Command) -> Result<(), NoMemory>
-    ensures { OnOk result (string_bytes text.new ≡ string_bytes text.old ++ operand command.now.word_bytes command.now.code command.now.bytes.now command.now.word) }
+    ensures { OnOk result
+        (string_bytes text.new
+        ≡ string_bytes text.old ++ operand command.now.word_bytes command.now.code command.now.bytes.now command.now.word) }
 {
     if command.code.is_write() {
         return put_lanes(text, command, command.word_bytes);
@@ -133,7 +137,10 @@ fn keyword(code: Code) -> &'static str
 
 /// Appends what a statement begins with.
 fn put_place(text: &mut String, host: &str, command: &Command) -> Result<(), NoMemory>
-    ensures { OnOk result (string_bytes text.new ≡ string_bytes text.old ++ place_text host.now command.now.word_bytes command.now.code command.now.bytes.now command.now.word) }
+    ensures { OnOk result
+        (string_bytes text.new
+        ≡ string_bytes text.old
+        ++ place_text host.now command.now.word_bytes command.now.code command.now.bytes.now command.now.word) }
 {
     let keyword = keyword(command.code);
     write!(text, "{keyword} {host} ")?;
@@ -143,7 +150,10 @@ fn put_place(text: &mut String, host: &str, command: &Command) -> Result<(), NoM
 
 /// Appends the statement of a command.
 fn put_statement(text: &mut String, host: &str, command: &Command) -> Result<(), NoMemory>
-    ensures { OnOk result (string_bytes text.new ≡ string_bytes text.old ++ statement host.now command.now.word_bytes command.now.code command.now.bytes.now command.now.word) }
+    ensures { OnOk result
+        (string_bytes text.new
+        ≡ string_bytes text.old
+        ++ statement host.now command.now.word_bytes command.now.code command.now.bytes.now command.now.word) }
 {
     put_place(text, host, command)?;
     text.push_str(" ")?;
@@ -167,7 +177,9 @@ fn put_statements(
     bytes: &[u8],
 ) -> Result<(), NoMemory>
     requires { IsWordSize word_bytes }
-    ensures { OnOk result (string_bytes text.new ≡ string_bytes text.old ++ statements_below host.now word_bytes code bytes.now (words_of word_bytes bytes.now)) }
+    ensures { OnOk result
+        (string_bytes text.new
+        ≡ string_bytes text.old ++ statements_below host.now word_bytes code bytes.now (words_of word_bytes bytes.now)) }
 {
     'words: for word in 0..words_of(word_bytes, bytes) {
         let command = Command {
@@ -189,7 +201,8 @@ pub(crate) fn put_packets(
     packets: &[Packet],
 ) -> Result<(), NoMemory>
     requires { IsWordSize word_bytes }
-    ensures { OnOk result (string_bytes text.new ≡ string_bytes text.old ++ flat_map (packet_text host.now word_bytes) packets.now) }
+    ensures { OnOk result
+        (string_bytes text.new ≡ string_bytes text.old ++ flat_map (packet_text host.now word_bytes) packets.now) }
 {
     'packets: for packet in packets {
         put_packet(text, host, word_bytes, packet)?;

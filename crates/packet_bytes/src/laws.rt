@@ -1,4 +1,5 @@
-//! That a stream has one answer, and small streams with their packets, faults, statements and replies. The functions do nothing; their contracts are
+//! That a stream has one answer, and small streams with their packets, faults, statements and replies. The functions do nothing;
+//! their contracts are
 //! laws and worked rows.
 
 ghost use Rattle.std.specs.Prelude.{◌≡◌, ◌↔◌, ◌⊎◌, ℕ, ◌+◌, ◌<◌, ◌≤◌, length, map, take, List, [], ◌∷◌, ◌++◌, Some, None, codes};
@@ -19,9 +20,11 @@ ghost use Rattle.marked_bytes.specs.Items.{IsUnpacked};
 
 use marked_bytes::{one_fault, one_reading, streams_go_on, whole_packets_are_read};
 
-/// The places of a packet are those at which the data of its first and of its last byte is spelled: of an escaped one that of the escape.
+/// The places of a packet are those at which the data of its first and of its last byte is spelled: of an escaped one that of the
+/// escape.
 pub fn packets_have_places()
-    ensures { (gathered escaped_items).packets ≡ record { channel = 0; bytes = 0x7f ∷ 0x7a ∷ []; first_place = 1; last_place = 3 } ∷ [] }
+    ensures { (gathered escaped_items).packets
+        ≡ record { channel = 0; bytes = 0x7f ∷ 0x7a ∷ []; first_place = 1; last_place = 3 } ∷ [] }
 {}
 
 /// Each rule with its place and its nearest neighbour, for words of 4 bytes and a range of 64.
@@ -55,37 +58,51 @@ pub fn commands_are_counted()
 
 /// The statements of transactions: one for each word that their bytes touch, with just the lanes of these bytes.
 pub fn commands_are_stated()
-    ensures whole_write { packet_text (codes "h.m") 4 (packet (header 0x04 4 0 ++ 0x11 ∷ 0x22 ∷ 0x33 ∷ 0x44 ∷ [])) ≡ codes "write h.m 0000000000 000f 44332211\n" }
+    ensures whole_write { packet_text (codes "h.m") 4 (packet (header 0x04 4 0 ++ 0x11 ∷ 0x22 ∷ 0x33 ∷ 0x44 ∷ []))
+        ≡ codes "write h.m 0000000000 000f 44332211\n" }
     ensures whole_read { packet_text (codes "h.m") 4 (packet (header 0x14 4 0)) ≡ codes "read h.m 0000000000 000f 1\n" }
-    ensures unaligned { packet_text (codes "h.m") 4 (packet (header 0x04 2 0x103 ++ 0xaa ∷ 0xbb ∷ [])) ≡ codes "write h.m 0000000100 0008 aa000000\nwrite h.m 0000000104 0001 000000bb\n" }
+    ensures unaligned { packet_text (codes "h.m") 4 (packet (header 0x04 2 0x103 ++ 0xaa ∷ 0xbb ∷ []))
+        ≡ codes "write h.m 0000000100 0008 aa000000\nwrite h.m 0000000104 0001 000000bb\n" }
     ensures inside { packet_text (codes "h.m") 4 (packet (header 0x14 2 1)) ≡ codes "read h.m 0000000000 0006 1\n" }
-    ensures fixed { packet_text (codes "h.m") 2 (packet (header 0x00 4 6 ++ 1 ∷ 2 ∷ 3 ∷ 4 ∷ [])) ≡ codes "write h.m 0000000006 0003 0201\nwrite h.m 0000000006 0003 0403\n" }
+    ensures fixed { packet_text (codes "h.m") 2 (packet (header 0x00 4 6 ++ 1 ∷ 2 ∷ 3 ∷ 4 ∷ []))
+        ≡ codes "write h.m 0000000006 0003 0201\nwrite h.m 0000000006 0003 0403\n" }
     ensures nothing { packet_text (codes "h.m") 4 (packet (0x7f ∷ 0x7a ∷ [])) ≡ [] }
     ensures lane_too_many { ¬ (packet_text (codes "h.m") 4 (packet (header 0x14 2 1)) ≡ codes "read h.m 0000000000 0007 1\n") }
 {}
 
-/// Replies, each on the channel of its request: a write's has its code and 80, and its size, a read's the bytes that it asks for of its words. There
+/// Replies, each on the channel of its request: a write's has its code and 80, and its size, a read's the bytes that it asks for
+/// of its words. There
 /// is none for a transaction that isn't whole, nor for any behind it.
 pub fn replies_are_sent()
-    ensures both { replies_text (replies_of 4 (packet (header 0x04 4 0 ++ 0x11 ∷ 0x22 ∷ 0x33 ∷ 0x44 ∷ []) ∷ packet (header 0x14 4 0) ∷ []) 1 (bytes_of 4 (0x44332211 ∷ [])))
+    ensures both { replies_text
+        (replies_of 4 (packet (header 0x04 4 0 ++ 0x11 ∷ 0x22 ∷ 0x33 ∷ 0x44 ∷ []) ∷ packet (header 0x14 4 0) ∷ []) 1
+        (bytes_of 4 (0x44332211 ∷ [])))
         ≡ 0x7c ∷ 0 ∷ 0x7a ∷ 0x84 ∷ 0 ∷ 0 ∷ 0x7b ∷ 4 ∷ 0x7c ∷ 0 ∷ 0x7a ∷ 0x11 ∷ 0x22 ∷ 0x33 ∷ 0x7b ∷ 0x44 ∷ [] }
-    ensures nothing { replies_text (replies_of 4 (packet (0x7f ∷ 0x7a ∷ []) ∷ []) 0 []) ≡ 0x7c ∷ 0 ∷ 0x7a ∷ 0xff ∷ 0 ∷ 0 ∷ 0x7b ∷ 0 ∷ [] }
+    ensures nothing { replies_text (replies_of 4 (packet (0x7f ∷ 0x7a ∷ []) ∷ []) 0 [])
+        ≡ 0x7c ∷ 0 ∷ 0x7a ∷ 0xff ∷ 0 ∷ 0 ∷ 0x7b ∷ 0 ∷ [] }
     ensures unaligned { answer 4 (header 0x14 2 0x103) (bytes_of 4 (0xaabbccdd ∷ 0x11223344 ∷ [])) ≡ 0xaa ∷ 0x44 ∷ [] }
     ensures inside { answer 4 (header 0x14 2 1) (bytes_of 4 (0xaabbccdd ∷ [])) ≡ 0xcc ∷ 0xbb ∷ [] }
     ensures lane_too_many { ¬ (answer 4 (header 0x14 2 1) (bytes_of 4 (0xaabbccdd ∷ [])) ≡ 0xcc ∷ 0xbb ∷ 0xaa ∷ []) }
     ensures fixed { answer 2 (header 0x10 4 6) (bytes_of 2 (0x0201 ∷ 0x0403 ∷ [])) ≡ 1 ∷ 2 ∷ 3 ∷ 4 ∷ [] }
     ensures fixed_write { answer 2 (header 0x00 4 6 ++ 1 ∷ 2 ∷ 3 ∷ 4 ∷ []) [] ≡ 0x80 ∷ 0 ∷ 0 ∷ 4 ∷ [] }
-    ensures one_word_of_two { replies_of 4 (packet (header 0x14 2 0x103) ∷ packet (0x7f ∷ []) ∷ []) 1 (bytes_of 4 (0xaabbccdd ∷ [])) ≡ [] }
-    ensures no_beat { replies_of 4 (packet (header 0x04 1 0 ++ 0x11 ∷ []) ∷ packet (header 0x14 4 0) ∷ []) 0 (bytes_of 4 (0xaabbccdd ∷ [])) ≡ [] }
-    ensures first_alone { replies_of 4 (packet (0x7f ∷ []) ∷ packet (header 0x14 4 0) ∷ []) 0 [] ≡ record { channel = 0; bytes = 0xff ∷ 0 ∷ 0 ∷ 0 ∷ [] } ∷ [] }
+    ensures one_word_of_two { replies_of 4 (packet (header 0x14 2 0x103) ∷ packet (0x7f ∷ []) ∷ []) 1
+        (bytes_of 4 (0xaabbccdd ∷ []))
+        ≡ [] }
+    ensures no_beat { replies_of 4 (packet (header 0x04 1 0 ++ 0x11 ∷ []) ∷ packet (header 0x14 4 0) ∷ []) 0
+        (bytes_of 4 (0xaabbccdd ∷ []))
+        ≡ [] }
+    ensures first_alone { replies_of 4 (packet (0x7f ∷ []) ∷ packet (header 0x14 4 0) ∷ []) 0 []
+        ≡ record { channel = 0; bytes = 0xff ∷ 0 ∷ 0 ∷ 0 ∷ [] } ∷ [] }
 {}
 
 /// A stream has one answer: its transfers, or one first fault.
 pub fn reads_have_one_answer()
     ensures packets { (bytes : List ℕ) (one other : List Gathered) → AreRead bytes one → AreRead bytes other → one ≡ other }
-    ensures fault { (word_bytes range : ℕ) (bytes : List ℕ) (place later rule other : ℕ) → IsFaultOf word_bytes range bytes (Refused place rule) → IsFaultOf word_bytes range bytes (Refused later other)
+    ensures fault { (word_bytes range : ℕ) (bytes : List ℕ) (place later rule other : ℕ)
+        → IsFaultOf word_bytes range bytes (Refused place rule) → IsFaultOf word_bytes range bytes (Refused later other)
         → Refused place rule ≡ Refused later other }
-    ensures never_both { (word_bytes range : ℕ) (bytes : List ℕ) (transfers : Asked) (place rule : ℕ) → AreTransfers word_bytes range bytes transfers → ¬ IsFaultOf word_bytes range bytes (Refused place rule) }
+    ensures never_both { (word_bytes range : ℕ) (bytes : List ℕ) (transfers : Asked) (place rule : ℕ)
+        → AreTransfers word_bytes range bytes transfers → ¬ IsFaultOf word_bytes range bytes (Refused place rule) }
 {
     one_reading();
     one_fault();
@@ -94,9 +111,11 @@ pub fn reads_have_one_answer()
 
 /// Each stream has packets that break no rule, or a first fault, and never both.
 pub fn reads_are_answered()
-    ensures either { (word_bytes range : ℕ) (bytes : List ℕ) → ((packets : List Gathered) × AreRead bytes packets × (first_fault word_bytes range 0 packets ≡ None))
+    ensures either { (word_bytes range : ℕ) (bytes : List ℕ)
+        → ((packets : List Gathered) × AreRead bytes packets × (first_fault word_bytes range 0 packets ≡ None))
         ⊎ ((place : ℕ) × (rule : ℕ) × IsFaultOf word_bytes range bytes (Refused place rule)) }
-    ensures never_both { (word_bytes range : ℕ) (bytes : List ℕ) (packets : List Gathered) (place rule : ℕ) → AreRead bytes packets → first_fault word_bytes range 0 packets ≡ None
+    ensures never_both { (word_bytes range : ℕ) (bytes : List ℕ) (packets : List Gathered) (place rule : ℕ)
+        → AreRead bytes packets → first_fault word_bytes range 0 packets ≡ None
         → ¬ IsFaultOf word_bytes range bytes (Refused place rule) }
 {
     one_reading();
@@ -113,11 +132,15 @@ pub fn reads_are_unpacked()
 /// Just those packets are answered for which, with all before them, the write beats and the words are enough.
 pub fn leading_packets_are_answered()
     ensures which { (word_bytes : ℕ) (packets : List Gathered) (beats : ℕ) (given : List ℕ) (k : ℕ) → k < length packets
-        → (k < length (replies_of word_bytes packets beats given) ↔ AreEnough word_bytes (take (k + 1) packets) beats (length given)) }
-    ensures few { (word_bytes : ℕ) (packets : List Gathered) (beats : ℕ) (given : List ℕ) → length (replies_of word_bytes packets beats given) ≤ length packets }
+        → (k
+        < length (replies_of word_bytes packets beats given) ↔ AreEnough word_bytes (take (k + 1) packets) beats
+        (length given)) }
+    ensures few { (word_bytes : ℕ) (packets : List Gathered) (beats : ℕ) (given : List ℕ)
+        → length (replies_of word_bytes packets beats given) ≤ length packets }
 {}
 
 /// The bytes that answer a read are those of the lanes that its commands enable, of the words that these are given.
 pub fn enabled_bytes_are_answered()
-    ensures { (word_bytes : ℕ) (bytes words : List ℕ) → enabled_bytes word_bytes bytes 0 words ≡ bytes_read word_bytes bytes (bytes_of word_bytes words) }
+    ensures { (word_bytes : ℕ) (bytes words : List ℕ)
+        → enabled_bytes word_bytes bytes 0 words ≡ bytes_read word_bytes bytes (bytes_of word_bytes words) }
 {}

@@ -53,7 +53,8 @@ impl Reader {
 
     /// Reads the byte at this place.
     fn feed(&mut self, alloc: Global, place: usize, byte: u8) -> Result<(), PacketFault>
-        ensures read { OnOk result ((fed : Sequence ℕ) → length fed ≡ place → IsReading fed self.old → IsReading (fed ++ byte ∷ []) self.new) }
+        ensures read { OnOk result
+            ((fed : Sequence ℕ) → length fed ≡ place → IsReading fed self.old → IsReading (fed ++ byte ∷ []) self.new) }
         ensures fault { IfErr result (λ fault. (fed : Sequence ℕ) → IsReading fed self.old → IsRefusedAt fed place byte fault) }
     {
         let escaped = self.unpacker.is_escaping();
@@ -70,7 +71,8 @@ impl Reader {
 
     /// Whether a stream that ends here has whole packets alone.
     fn is_whole(&self) -> bool
-        ensures whole { (fed : Sequence ℕ) → IsReading fed self.now → OnTrue result (AreRead fed self.now.gathering.packets.items) }
+        ensures whole { (fed : Sequence ℕ) → IsReading fed self.now
+            → OnTrue result (AreRead fed self.now.gathering.packets.items) }
         ensures open_still { (fed : Sequence ℕ) → IsReading fed self.now → OnFalse result (IsOpen fed) }
     {
         self.unpacker.at_rest()

@@ -50,7 +50,8 @@ impl Replies {
     /// Notes whether a write beat was accepted.
     fn note_beat(&mut self, write_taken: bool)
         ensures transfers { self.new.transfers ≡ self.old.transfers }
-        ensures noted { (beats : ℕ) (words : Sequence ℕ) → HasNoted beats words self.old → HasNoted (with_beat beats write_taken) words self.new }
+        ensures noted { (beats : ℕ) (words : Sequence ℕ) → HasNoted beats words self.old
+            → HasNoted (with_beat beats write_taken) words self.new }
     {
         if write_taken {
             self.beats = self.beats.saturating_add(1);
@@ -60,7 +61,8 @@ impl Replies {
     /// Notes a word that was given. One past the last that is due counts for nothing.
     fn note_word(&mut self, word: Val)
         ensures transfers { self.new.transfers ≡ self.old.transfers }
-        ensures noted { (beats : ℕ) (words : Sequence ℕ) → HasNoted beats words self.old → HasNoted beats (with_word words (Some word)) self.new }
+        ensures noted { (beats : ℕ) (words : Sequence ℕ) → HasNoted beats words self.old
+            → HasNoted beats (with_word words (Some word)) self.new }
     {
         if self.due <= self.words {
             return;
@@ -73,11 +75,13 @@ impl Replies {
         }
     }
 
-    /// Notes what the host did in a cycle: whether a write beat of it was accepted, and the word that it was given. What is past the
+    /// Notes what the host did in a cycle: whether a write beat of it was accepted, and the word that it was given. What is past
+    /// the
     /// last command counts for nothing. It takes no memory.
     pub fn note(&mut self, write_taken: bool, word: Option<Val>)
         ensures transfers { self.new.transfers ≡ self.old.transfers }
-        ensures noted { (beats : ℕ) (words : Sequence ℕ) → HasNoted beats words self.old → HasNoted (with_beat beats write_taken) (with_word words word) self.new }
+        ensures noted { (beats : ℕ) (words : Sequence ℕ) → HasNoted beats words self.old
+            → HasNoted (with_beat beats write_taken) (with_word words word) self.new }
     {
         self.note_beat(write_taken);
         if let Some(word) = word {
@@ -85,11 +89,13 @@ impl Replies {
         }
     }
 
-    /// Writes the replies to the leading transactions whose write beats and words have all been noted: whether all were written. It takes
+    /// Writes the replies to the leading transactions whose write beats and words have all been noted: whether all were written.
+    /// It takes
     /// no memory.
     pub fn write<K: Sink>(&self, sink: &mut K) -> bool
         ensures { (beats : ℕ) (words : Sequence ℕ) → HasNoted beats words self.now
-            → Writes (sent self.now.transfers beats words) (K.held sink.old) (K.held sink.new) (K.faults sink.old) (K.faults sink.new) result }
+            → Writes (sent self.now.transfers beats words) (K.held sink.old) (K.held sink.new) (K.faults sink.old)
+            (K.faults sink.new) result }
     {
         self.transfers.size_is_known();
         put_answers(

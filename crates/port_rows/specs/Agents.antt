@@ -43,7 +43,8 @@ agent_outputs system end = record {
   grant = port_at system end role.Grant;
 }
 
--- the levels of its command signals in a cycle, as the nets at these outputs have them; without byteenable all lanes are enabled, and without burstcount a command is of one beat
+-- the levels of its command signals in a cycle, as the nets at these outputs have them; without byteenable all lanes are enabled,
+-- and without burstcount a command is of one beat
 abbrev pub commanded : Netlist → Run → ℕ → ℕ → AgentPorts → Levels
 commanded netlist run c bytes ports = record {
   read = level_of netlist run c 0 ports.read;

@@ -32,7 +32,8 @@ pub record IsInputOf (system : SystemTable) (end : EndId) (there : Finished) (po
   pub may : Among port (may_have there)
   pub input : is_output (starts there) port.role ≡ false
 
--- a level has room at a port of so many bits; where there are none, the port is absent, and the level is the one that is stated for that
+-- a level has room at a port of so many bits; where there are none, the port is absent, and the level is the one that is stated
+-- for that
 pub record FitsPort (width absent level : ℕ) : Type 0 where
   pub room : 0 < width → level < 2 ^ width
   pub default : width ≡ 0 → level ≡ absent
@@ -46,19 +47,25 @@ EachFits row (one ∷ later) = AllFit row (level_if one.place one.bits) × EachF
 
 -- what stands in a row at the place of an input is what the run shows there, and an absent input shows what is stated for it
 abbrev pub InputsAreShown : Type 0
-InputsAreShown = (system : SystemTable) (netlist : Netlist) (run : Run) (c : ℕ) (row : List Word) → HasKnownPorts system → IsGivenRow system netlist run c row
-    → (end : EndId) (there : Finished) (port : RolePort) (absent level : ℕ) → IsInputOf system end there port → FitsPort port.width absent level
+InputsAreShown =
+    (system : SystemTable) (netlist : Netlist) (run : Run) (c : ℕ) (row : List Word) → HasKnownPorts system
+    → IsGivenRow system netlist run c row
+    → (end : EndId) (there : Finished) (port : RolePort) (absent level : ℕ) → IsInputOf system end there port
+    → FitsPort port.width absent level
     → AllStand row (level_if (place_at system end port.role) level) → shown_at system netlist run end port.role absent c ≡ level
 
 -- what has room at a port has it in a row
 abbrev pub InputsHaveRoom : Type 0
 InputsHaveRoom = (system : SystemTable) (row : List Word) → HasKnownPorts system → widths_of row ≡ input_widths (ports_of system)
-    → (end : EndId) (there : Finished) (port : RolePort) (absent level : ℕ) → IsInputOf system end there port → FitsPort port.width absent level
+    → (end : EndId) (there : Finished) (port : RolePort) (absent level : ℕ) → IsInputOf system end there port
+    → FitsPort port.width absent level
     → AllFit row (level_if (place_at system end port.role) level)
 
 -- where all that is driven stands in a row, each of it does
 abbrev pub EachStands : Type 0
-EachStands = (row : List Word) (driven : List Driven) (k : ℕ) (one : Driven) → slice_get driven k ≡ Some one → AllStand row (levels_for driven) → AllStand row (level_if one.place one.bits)
+EachStands =
+    (row : List Word) (driven : List Driven) (k : ℕ) (one : Driven) → slice_get driven k ≡ Some one
+    → AllStand row (levels_for driven) → AllStand row (level_if one.place one.bits)
 
 -- where each of it has room, all does
 abbrev pub AllHaveRoom : Type 0

@@ -46,7 +46,8 @@ IsInputRole system end role = (port : ℕ) → port_at system end role ≡ Some 
 
 -- the level that a run shows at the port of a role in a cycle, found by the port's name
 abbrev pub shown_at : SystemTable → Netlist → Run → EndId → PortRole → ℕ → ℕ → ℕ
-shown_at system netlist run end role absent c = signal_or absent (signal netlist run (port_name (name_at system end) (role_word role))) c
+shown_at system netlist run end role absent c =
+    signal_or absent (signal netlist run (port_name (name_at system end) (role_word role))) c
 
 -- a place of a row, of this width
 pub record IsPlace (row : List Word) (place width : ℕ) : Type 0 where

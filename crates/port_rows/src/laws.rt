@@ -16,23 +16,31 @@ ghost use Rattle.port_rows.specs.Rows.{place_among, level_in, level_of, IsGivenR
 
 use netlist::signals;
 
-/// What is set in a row stands there, where no place is set twice; the widths stay, and so does what isn't set. Levels may be set in two steps.
+/// What is set in a row stands there, where no place is set twice; the widths stay, and so does what isn't set. Levels may be set
+/// in two steps.
 pub fn levels_stand()
-    ensures stands { (row : List Bits) (levels : List Level) → AllFit row levels → AreApart levels → AllStand (set_levels row levels) levels }
+    ensures stands { (row : List Bits) (levels : List Level) → AllFit row levels → AreApart levels
+        → AllStand (set_levels row levels) levels }
     ensures front { (row : List Bits) (one other : List Level) → AllStand row (one ++ other) → AllStand row one }
     ensures back { (row : List Bits) (one other : List Level) → AllStand row (one ++ other) → AllStand row other }
-    ensures widths { (row : List Bits) (levels : List Level) → AllFit row levels → widths_of (set_levels row levels) ≡ widths_of row }
-    ensures others { (row : List Bits) (levels : List Level) (place : ℕ) → IsLeftOut place levels → bits_at (set_levels row levels) place ≡ bits_at row place }
-    ensures in_two { (row : List Bits) (one other : List Level) → set_levels row (one ++ other) ≡ set_levels (set_levels row one) other }
+    ensures widths { (row : List Bits) (levels : List Level) → AllFit row levels
+        → widths_of (set_levels row levels) ≡ widths_of row }
+    ensures others { (row : List Bits) (levels : List Level) (place : ℕ) → IsLeftOut place levels
+        → bits_at (set_levels row levels) place ≡ bits_at row place }
+    ensures in_two { (row : List Bits) (one other : List Level)
+        → set_levels row (one ++ other) ≡ set_levels (set_levels row one) other }
     ensures first_fits { (row : List Bits) (one other : List Level) → AllFit row (one ++ other) → AllFit row one }
-    ensures second_fits { (row : List Bits) (one other : List Level) → AllFit row (one ++ other) → AllFit (set_levels row one) other }
+    ensures second_fits { (row : List Bits) (one other : List Level) → AllFit row (one ++ other)
+        → AllFit (set_levels row one) other }
 {}
 
 /// What a run shows at an input is what stands there in the row of the cycle.
 pub fn inputs_are_those_of_rows()
-    ensures { (system : SystemTable) (netlist : Netlist) (run : Run) (c : ℕ) (row : List Bits) → IsGivenRow system netlist run c row
+    ensures { (system : SystemTable) (netlist : Netlist) (run : Run) (c : ℕ) (row : List Bits)
+        → IsGivenRow system netlist run c row
         → (end : EndId) (role : PortRole) (absent : ℕ) → IsInputRole system end role
-        → shown_at system netlist run end role absent c ≡ level_in row absent (place_among (ports_of system) (port_at system end role)) }
+        → shown_at system netlist run end role absent c
+        ≡ level_in row absent (place_among (ports_of system) (port_at system end role)) }
 {
     signals();
 }
@@ -40,11 +48,14 @@ pub fn inputs_are_those_of_rows()
 /// What a run shows at a port is the level of its net.
 pub fn outputs_are_those_of_nets()
     ensures { (system : SystemTable) (netlist : Netlist) (run : Run) (c : ℕ) → netlist.ports ≡ ports_of system
-        → (end : EndId) (role : PortRole) (absent : ℕ) → shown_at system netlist run end role absent c ≡ level_of netlist run c absent (port_at system end role) }
+        → (end : EndId) (role : PortRole) (absent : ℕ)
+        → shown_at system netlist run end role absent c ≡ level_of netlist run c absent (port_at system end role) }
 {}
 
 /// Each input has a place of its own in a row, as wide as its port.
 pub fn inputs_have_places()
-    ensures apart { (ports : List PortLine) (j k v w : ℕ) → IsInputPort ports j v → IsInputPort ports k w → input_net ports j ≡ input_net ports k → j ≡ k }
-    ensures there { (ports : List PortLine) (row : List Bits) (k w : ℕ) → widths_of row ≡ input_widths ports → IsInputPort ports k w → IsPlace row (input_net ports k) w }
+    ensures apart { (ports : List PortLine) (j k v w : ℕ) → IsInputPort ports j v → IsInputPort ports k w
+        → input_net ports j ≡ input_net ports k → j ≡ k }
+    ensures there { (ports : List PortLine) (row : List Bits) (k w : ℕ) → widths_of row ≡ input_widths ports
+        → IsInputPort ports k w → IsPlace row (input_net ports k) w }
 {}

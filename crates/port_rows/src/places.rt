@@ -32,7 +32,8 @@ pub fn port_number(plan: &Plan, ports: &PortMap, end: EndId, role: Role) -> Opti
     ports.port(end, role)
 }
 
-/// Where the value of an input of a role stands in a row, by the header of the plan's module; None where the end has no such port.
+/// Where the value of an input of a role stands in a row, by the header of the plan's module; None where the end has no such
+/// port.
 pub fn input_place(
     plan: &Plan,
     ports: &PortMap,

@@ -29,7 +29,8 @@ pub record IsPlanned (system : SystemTable) : Type 0 where
   pub few_agents : length (agents_of system) ≤ 32
   pub few_streams : length (streams_of system) ≤ 16
   pub rules : (k : ℕ) (a : Connection) → slice_get system.connections k ≡ Some a → KeepsAll (tests_of system a)
-  pub narrow : (k : ℕ) (a : Connection) → slice_get system.connections k ≡ Some a → AreNarrow (known_at system a.start) (known_at system a.end)
+  pub narrow : (k : ℕ) (a : Connection) → slice_get system.connections k ≡ Some a
+      → AreNarrow (known_at system a.start) (known_at system a.end)
 
 narrow_by : (clock : Bool) (a b : Finished) → KeepsAll (tests_as clock a b) → AreNarrow a b
 narrow_by clock (Source source) (Sink sink) h =
@@ -55,16 +56,21 @@ known_is system end known e = rw (e.instance_is, e.interface_is) e.is
 pub same_known : (system : SystemTable) (end : EndId) (a b : Finished) → IsEnd system end a → IsEnd system end b → a ≡ b
 same_known system end a b ea eb = sym (known_is system end a ea) ∙ known_is system end b eb
 
-pub known_proper : (system : SystemTable) (end : EndId) (known : Finished) → IsPlanEnd system end → IsEnd system end known → IsProper known
+pub known_proper : (system : SystemTable) (end : EndId) (known : Finished) → IsPlanEnd system end → IsEnd system end known
+    → IsProper known
 known_proper system end known h is = subst IsProper (same_known system end h.known known h.is is) h.proper
 
 pub small_word : (bytes : ℕ) → IsWordSize bytes → bytes ≤ 16
 small_word bytes h = let most : 2 ^ h.exponent ≤ 2 ^ 4 = pow_mono h.small in let is = h.power in omega arith
 
-pub host_word : (system : SystemTable) (end : EndId) (host : HostPort) → ((host : HostPort) → IsProper (Host host) → IsBoundedHost host) → IsPlanEnd system end → IsEnd system end (Host host)
+pub host_word : (system : SystemTable) (end : EndId) (host : HostPort)
+    → ((host : HostPort) → IsProper (Host host) → IsBoundedHost host) → IsPlanEnd system end → IsEnd system end (Host host)
     → host.word_bytes ≤ 16
 host_word system end host law h is = small_word host.word_bytes (law host (known_proper system end (Host host) h is)).ports.word
 
-pub agent_word : (system : SystemTable) (end : EndId) (agent : AgentPort) → ((agent : AgentPort) → IsProper (Agent agent) → IsBoundedAgent agent) → IsPlanEnd system end → IsEnd system end (Agent agent)
+pub agent_word : (system : SystemTable) (end : EndId) (agent : AgentPort)
+    → ((agent : AgentPort) → IsProper (Agent agent) → IsBoundedAgent agent) → IsPlanEnd system end
+    → IsEnd system end (Agent agent)
     → agent.word_bytes ≤ 16
-agent_word system end agent law h is = small_word agent.word_bytes (law agent (known_proper system end (Agent agent) h is)).ports.word
+agent_word system end agent law h is =
+    small_word agent.word_bytes (law agent (known_proper system end (Agent agent) h is)).ports.word

@@ -39,7 +39,9 @@ entries_of system = flat_map (end_entries system) (ends_of system)
 
 -- the line of a port
 abbrev pub line_of_entry : SystemTable → PortEntry → PortLine
-line_of_entry system entry = record { name = port_name (name_at system entry.end) (role_word entry.port.role); width = entry.port.width; output = entry.output }
+line_of_entry system entry =
+    record
+    { name = port_name (name_at system entry.end) (role_word entry.port.role); width = entry.port.width; output = entry.output }
 
 -- the number of the port of this role at an end, by its name in the header
 abbrev pub port_at : SystemTable → EndId → PortRole → Option ℕ
@@ -79,13 +81,16 @@ pub record IsOwned (system : SystemTable) (k : ℕ) (port : PortLine) : Type 0 w
 pub record HasKnownPorts (system : SystemTable) : Type 0 where
   pub planned : IsPlanned system
   -- a port that an end may have stands in the header with its width and direction, or it has no bits and doesn't stand there
-  pub known : (end : EndId) (there : Finished) (p : RolePort) → Among end (ends_of system) → known_at system end ≡ there → Among p (may_have there)
+  pub known : (end : EndId) (there : Finished) (p : RolePort) → Among end (ends_of system) → known_at system end ≡ there
+      → Among p (may_have there)
       → IsPortIf (ports_of system) (is_output (starts there) p.role) p.width (port_at system end p.role)
   -- it stands for one end and one role
-  pub one_role : (a b : EndId) (r s : PortRole) (k : ℕ) → Among a (ends_of system) → Among b (ends_of system) → port_at system a r ≡ Some k → port_at system b s ≡ Some k → IsOneRole a b r s
+  pub one_role : (a b : EndId) (r s : PortRole) (k : ℕ) → Among a (ends_of system) → Among b (ends_of system)
+      → port_at system a r ≡ Some k → port_at system b s ≡ Some k → IsOneRole a b r s
   pub owner : (k : ℕ) (port : PortLine) → slice_get (ports_of system) k ≡ Some port → IsOwned system k port
   pub few_inputs : input_count (ports_of system) ≤ 880
-  pub inputs_by_ends : input_count (ports_of system) ≤ 11 * length (hosts_of system) + 11 * length (agents_of system) + 22 * length (streams_of system)
+  pub inputs_by_ends : input_count (ports_of system)
+      ≤ 11 * length (hosts_of system) + 11 * length (agents_of system) + 22 * length (streams_of system)
 
 -- ---- what the map tells
 
@@ -151,7 +156,8 @@ pub record IsTold (system : SystemTable) (end : EndId) (role : PortRole) (Tells 
 -- the sinks of the first streams
 pub record AreSinks (system : SystemTable) (number : ℕ) (sinks : List EndId) : Type 0 where
   pub count : length sinks ≡ number
-  pub each : (n place : ℕ) (connection : Connection) → n < number → slice_get (streams_of system) n ≡ Some place → slice_get system.connections place ≡ Some connection
+  pub each : (n place : ℕ) (connection : Connection) → n < number → slice_get (streams_of system) n ≡ Some place
+      → slice_get system.connections place ≡ Some connection
       → slice_get sinks n ≡ Some connection.end
 
 -- the map is that of the system's module
@@ -164,6 +170,8 @@ pub record IsMapOf (system : SystemTable) (ports : PortMap) : Type 0 where
 pub record AreTold (system : SystemTable) (ports : PortMap) : Type 0 where
   pub places : (number : ℕ) (end : EndId) → slice_get (ends_of system) number ≡ Some end → (role : Role) (place : Option ℕ)
       → IsPlaceFor ports.entries end (module_role role) place → place ≡ port_for system end (module_role role)
-  pub grants : (number : ℕ) (end : EndId) → slice_get (agents_of system) number ≡ Some end → IsTold system end role.Grant (IsAt ports.agents ports.entries number role.Grant)
-  pub dropped : (number place : ℕ) (connection : Connection) → slice_get (streams_of system) number ≡ Some place → slice_get system.connections place ≡ Some connection
+  pub grants : (number : ℕ) (end : EndId) → slice_get (agents_of system) number ≡ Some end
+      → IsTold system end role.Grant (IsAt ports.agents ports.entries number role.Grant)
+  pub dropped : (number place : ℕ) (connection : Connection) → slice_get (streams_of system) number ≡ Some place
+      → slice_get system.connections place ≡ Some connection
       → IsTold system connection.end role.Dropped (IsAt ports.sinks ports.entries number role.Dropped)

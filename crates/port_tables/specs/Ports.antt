@@ -155,7 +155,8 @@ abbrev pub port_name : EndName → List ℕ → List ℕ
 port_name name word = name.instance ++ codes "$" ++ name.interface ++ codes "$" ++ word
 
 abbrev pub port_line : EndName → Bool → RolePort → PortLine
-port_line name starts port = record { name = port_name name (role_word port.role); width = port.width; output = is_output starts port.role }
+port_line name starts port =
+    record { name = port_name name (role_word port.role); width = port.width; output = is_output starts port.role }
 
 -- the ports of the module at an end of which so much is known
 abbrev pub known_ports : EndName → Finished → List PortLine
@@ -166,7 +167,8 @@ end_ports system end = known_ports (name_at system end) (known_at system end)
 
 -- the ends of the connection of this number
 abbrev pub connection_ends : SystemTable → ℕ → List EndId
-connection_ends system number = option_map_or (λ connection. connection.start ∷ connection.end ∷ []) (slice_get system.connections number) []
+connection_ends system number =
+    option_map_or (λ connection. connection.start ∷ connection.end ∷ []) (slice_get system.connections number) []
 
 -- the ends of a system in the order of the header: the hosts, the agents, and of each stream its source and its sink
 abbrev pub ends_of : SystemTable → List EndId

@@ -18,7 +18,8 @@ both_or_neither false b = not b
 -- beats of the same form
 abbrev pub has_same_beats : Declared → Declared → Bool
 has_same_beats source sink =
-    (source.symbols == sink.symbols) && (source.symbol_bits == sink.symbol_bits) && both_or_neither source.first_high sink.first_high
+    (source.symbols == sink.symbols) && (source.symbol_bits == sink.symbol_bits)
+    && both_or_neither source.first_high sink.first_high
     && (source.channel_bits == sink.channel_bits) && (source.error_bits == sink.error_bits)
     && both_or_neither source.packets sink.packets && (source.empty_bits == sink.empty_bits)
 

@@ -75,7 +75,10 @@ fn push_ends(entries: &mut List<PortEntry>, plan: &Plan, ends: &[EndId]) -> Resu
 
 /// Appends the ports of streams.
 fn push_streams(entries: &mut List<PortEntry>, plan: &Plan) -> Result<(), NoMemory>
-    ensures { OnOk result (entries.new ≡ entries.old ++ flat_map (end_entries plan.now.system) (flat_map (connection_ends plan.now.system) (streams_of plan.now.system))) }
+    ensures { OnOk result
+        (entries.new
+        ≡ entries.old
+        ++ flat_map (end_entries plan.now.system) (flat_map (connection_ends plan.now.system) (streams_of plan.now.system))) }
 {
     plan.well_made();
     streams_are_numbered();

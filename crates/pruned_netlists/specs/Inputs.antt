@@ -15,17 +15,20 @@ record HasInputLine (lines : List Line) (m : ℕ) : Type 0 where
   pub at : slice_get lines m ≡ Some line
   pub input : is_input line.equation ≡ true
 
-one_more : (output : Bool) (line : Line) (lines : List Line) (m count : ℕ) → is_input line.equation ≡ true → m < cond (not output) 1 0 + count
+one_more : (output : Bool) (line : Line) (lines : List Line) (m count : ℕ) → is_input line.equation ≡ true
+    → m < cond (not output) 1 0 + count
     → ((k : ℕ) → k < count → HasInputLine lines k) → HasInputLine (if output then lines else line ∷ lines) m
 one_more true line lines m count is lt rest = rest m (omega (arith, lt))
 one_more false line lines zero count is lt rest = record { line = line; at = refl; input = is }
-one_more false line lines (suc m) count is lt rest = (let its = rest m (omega (arith, lt)) in record { line = its.line; at = its.at; input = its.input })
+one_more false line lines (suc m) count is lt rest =
+    (let its = rest m (omega (arith, lt)) in record { line = its.line; at = its.at; input = its.input })
 
 input_line : (ports : List PortLine) (j m : ℕ) → m < input_count ports → HasInputLine (input_lines j ports) m
 input_line [] j m lt = absurd (omega (arith, lt))
 input_line (p ∷ ports) j m lt =
     let one = sum_by-cons (λ (port : PortLine). cond (not port.output) 1 0) p ports in
-    one_more p.output (line_of p.width (Input j)) (input_lines (j + 1) ports) m (input_count ports) refl (omega (arith, lt, one)) (λ k less. input_line ports (j + 1) k less)
+    one_more p.output (line_of p.width (Input j)) (input_lines (j + 1) ports) m (input_count ports) refl
+    (omega (arith, lt, one)) (λ k less. input_line ports (j + 1) k less)
 
 pub inputs_needed : (netlist : Netlist) (n : ℕ) → IsWellMade netlist → n ≤ input_count netlist.ports → AreNeededBelow netlist n
 inputs_needed netlist n h few m lt =

@@ -36,7 +36,8 @@ moved_memory net memory = record memory { write = option_map (moved_write net) m
 -- the marked ones of the first items stand in this list, changed so, in their order
 pub record AreKept {X : Type 0} (marks : List Bool) (items : List X) (change : X → X) (count : ℕ) (kept : List X) : Type 0 where
   pub few : length kept ≡ place marks count
-  pub each : (n : ℕ) (item : X) → n < count → slice_get items n ≡ Some item → IsMarked marks n → slice_get kept (place marks n) ≡ Some (change item)
+  pub each : (n : ℕ) (item : X) → n < count → slice_get items n ≡ Some item → IsMarked marks n
+      → slice_get kept (place marks n) ≡ Some (change item)
 
 abbrev pub moved_line : List Bool → List Bool → Line → Line
 moved_line marks memory_marks line = line_of line.width (moved (place marks) (place memory_marks) line.equation)
@@ -47,4 +48,5 @@ AreMovedLines whole marks memory_marks count lines = AreKept marks whole.lines (
 
 -- and of the first memories
 abbrev pub AreMovedMemories : Netlist → List Bool → List Bool → ℕ → List Memory → Type 0
-AreMovedMemories whole marks memory_marks count memories = AreKept memory_marks whole.memories (moved_memory (place marks)) count memories
+AreMovedMemories whole marks memory_marks count memories =
+    AreKept memory_marks whole.memories (moved_memory (place marks)) count memories

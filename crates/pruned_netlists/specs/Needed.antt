@@ -44,7 +44,8 @@ sources memories (Read m a) = a ∷ memory_nets (slice_get memories m)
 pub data IsNeeded (netlist : Netlist) : ℕ → Type 0 where
   input : (n : ℕ) (line : Line) → slice_get netlist.lines n ≡ Some line → is_input line.equation ≡ true → IsNeeded netlist n
   drives : (k n : ℕ) → driver_of netlist k ≡ Some n → IsNeeded netlist n
-  source : (n a : ℕ) (line : Line) → slice_get netlist.lines n ≡ Some line → IsOneOf a (sources netlist.memories line.equation) → IsNeeded netlist n → IsNeeded netlist a
+  source : (n a : ℕ) (line : Line) → slice_get netlist.lines n ≡ Some line → IsOneOf a (sources netlist.memories line.equation)
+      → IsNeeded netlist n → IsNeeded netlist a
 
 -- a needed net reads the memory
 pub record IsReadFrom (netlist : Netlist) (m : ℕ) : Type 0 where

@@ -35,7 +35,8 @@ pub record AreNumbers (marks : List Bool) (count : ℕ) (places : List ℕ) (mar
 
 -- the input nets among the first nets stand in the list, and only needed nets
 pub record AreInputs (netlist : Netlist) (count : ℕ) (pending : List ℕ) : Type 0 where
-  pub inputs : (n : ℕ) (line : Line) → n < count → slice_get netlist.lines n ≡ Some line → is_input line.equation ≡ true → IsOneOf n pending
+  pub inputs : (n : ℕ) (line : Line) → n < count → slice_get netlist.lines n ≡ Some line → is_input line.equation ≡ true
+      → IsOneOf n pending
   pub only : (n : ℕ) → IsOneOf n pending → IsNeeded netlist n
 
 -- the input nets do, and what drives the first ports

@@ -29,13 +29,15 @@ pub record HasWholeCycle (whole pruned : Netlist) (state cycle : Cycle) : Type 0
 -- a state of the whole module for one of the pruned module, in which each valuation has one of the whole
 pub record HasWholeState (whole pruned : Netlist) (state : Cycle) : Type 0 where
   pub whole_state : Cycle
-  pub each : (cycle : Cycle) → IsValuation pruned cycle → SameState pruned state cycle → HasWholeCycle whole pruned whole_state cycle
+  pub each : (cycle : Cycle) → IsValuation pruned cycle → SameState pruned state cycle
+      → HasWholeCycle whole pruned whole_state cycle
 
 -- each net below this one is needed
 abbrev pub AreNeededBelow : Netlist → ℕ → Type 0
 AreNeededBelow netlist n = (m : ℕ) → m < n → IsNeeded netlist m
 
--- the same name and ports; nothing but what an output depends on, and the nets of inputs; and each run and each valuation shows at the ports what one
+-- the same name and ports; nothing but what an output depends on, and the nets of inputs; and each run and each valuation shows
+-- at the ports what one
 -- of the whole module shows. A needed net below which no net is left out keeps its number
 pub record IsPruned (whole pruned : Netlist) : Type 0 where
   pub name : pruned.name ≡ whole.name
@@ -47,5 +49,6 @@ pub record IsPruned (whole pruned : Netlist) : Type 0 where
   pub runs : (run : Run) (cycles : ℕ) → IsRun pruned run cycles → HasWholeRun whole pruned run cycles
   pub states : (state : Cycle) → HasWholeState whole pruned state
   pub drivers : (k n : ℕ) → driver_of whole k ≡ Some n → AreNeededBelow whole n → driver_of pruned k ≡ Some n
-  pub constants : (n w : ℕ) (value : Val) → slice_get whole.lines n ≡ Some (line_of w (Constant value)) → IsNeeded whole n → AreNeededBelow whole n
+  pub constants : (n w : ℕ) (value : Val) → slice_get whole.lines n ≡ Some (line_of w (Constant value)) → IsNeeded whole n
+      → AreNeededBelow whole n
       → slice_get pruned.lines n ≡ Some (line_of w (Constant value))

@@ -100,7 +100,8 @@ pub(crate) fn moved_lines(
 /// A memory with the new numbers of its write's nets.
 fn moved_memory(module: &Module, number: u32, nets: &Numbers) -> Memory
     requires { number < length «module».now.memories }
-    ensures { (memory : Memory) → slice_get «module».now.memories number ≡ Some memory → result ≡ moved_memory (place nets.now) memory }
+    ensures { (memory : Memory) → slice_get «module».now.memories number ≡ Some memory
+        → result ≡ moved_memory (place nets.now) memory }
 {
     let line = module.memory(number);
     Memory {
@@ -122,7 +123,8 @@ pub(crate) fn moved_memories(
     memories: &Numbers,
 ) -> Result<Vec<Memory>, NoMemory>
     requires { length memories.now ≡ length «module».now.memories }
-    ensures { IfOk result (λ moved. AreMovedMemories «module».now nets.now memories.now (length «module».now.memories) moved.items) }
+    ensures { IfOk result (λ moved. AreMovedMemories «module».now nets.now memories.now
+        (length «module».now.memories) moved.items) }
 {
     let mut moved = Vec::new(alloc);
     for number in 0..module.memory_count() {
@@ -140,7 +142,8 @@ pub(crate) fn moved_drivers(
     nets: &Numbers,
 ) -> Result<Vec<Option<u32>>, NoMemory>
     ensures count { IfOk result (λ drivers. length drivers.items ≡ length «module».now.ports) }
-    ensures each { IfOk result (λ drivers. (k : ℕ) → slice_index_or drivers.items k None ≡ option_map (place nets.now) (driver_of «module».now k)) }
+    ensures each { IfOk result (λ drivers. (k : ℕ)
+        → slice_index_or drivers.items k None ≡ option_map (place nets.now) (driver_of «module».now k)) }
 {
     module.well_made();
     let mut drivers = Vec::new(alloc);

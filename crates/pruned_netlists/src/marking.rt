@@ -86,7 +86,9 @@ fn push_sources_of(
 /// Appends the nets that a net goes by.
 fn push_sources(module: &Module, net: u32, pending: &mut Vec<u32>) -> Result<(), NoMemory>
     requires { net < length «module».now.lines }
-    ensures { OnOk result ((line : Line) → slice_get «module».now.lines net ≡ Some line → pending.new.items ≡ pending.old.items ++ sources «module».now.memories line.equation) }
+    ensures { OnOk result
+        ((line : Line) → slice_get «module».now.lines net ≡ Some line
+        → pending.new.items ≡ pending.old.items ++ sources «module».now.memories line.equation) }
 {
     module.well_made();
     push_sources_of(module, module.equation(net), pending)

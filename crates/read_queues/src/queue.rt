@@ -113,7 +113,8 @@ pub fn make_queue(
     ensures kind { IfOk result (λ held. AreWordsOf count_bits held.words) }
     ensures ignores { IfOk result (λ held. TellsByState builder.new held) }
     ensures owned { IfOk result (λ held. AreMadeBetween (owns_queue held) builder.old builder.new) }
-    ensures owned_memory { IfOk result (λ held. (length builder.old.memories ≤ held.memory.number) × (held.memory.number < length builder.new.memories)) }
+    ensures owned_memory { IfOk result (λ held. (length builder.old.memories ≤ held.memory.number)
+        × (held.memory.number < length builder.new.memories)) }
     ensures grows { GrowsInMemory 10 1 builder.old builder.new }
     ensures still_wait { StillWait builder.old builder.new }
     ensures own_wait { IfOk result (λ held. (n : ℕ) → owns_queue held n → IsWaiting builder.new n) }
@@ -121,7 +122,8 @@ pub fn make_queue(
     ensures still_wait_for_write { StillWaitForWrite builder.old builder.new }
     ensures own_waits_for_write { IfOk result (λ held. WaitsForWrite builder.new held.memory.number) }
     ensures newly_written { IfOk result (λ held. WriteWaitsBeside (λ m. m ≡ held.memory.number) builder.old builder.new) }
-    ensures full { result ≡ Err NetFault.TooManyNets → (2 ^ 20 < length builder.old.lines + 10) ⊎ (2 ^ 16 < length builder.old.memories + 1) }
+    ensures full { result ≡ Err NetFault.TooManyNets
+        → (2 ^ 20 < length builder.old.lines + 10) ⊎ (2 ^ 16 < length builder.old.memories + 1) }
 {
     let deep = address_bits(bound);
     let memory = make_memory(builder, word_bits(tag_bits, count_bits), deep)?;
@@ -171,7 +173,8 @@ pub fn finish_queue(
     ensures grows { GrowsInMemory 22 0 builder.old builder.new }
     ensures waits { (n : ℕ) → ¬ owns_queue held.now n → IsWaiting builder.old n → IsWaiting builder.new n }
     ensures no_more_wait { OnOk result (WaitsWithout (owns_queue held.now) builder.old builder.new) }
-    ensures still_wait_for_write { (m : ℕ) → ¬ (m ≡ held.now.memory.number) → WaitsForWrite builder.old m → WaitsForWrite builder.new m }
+    ensures still_wait_for_write { (m : ℕ) → ¬ (m ≡ held.now.memory.number) → WaitsForWrite builder.old m
+        → WaitsForWrite builder.new m }
     ensures no_more_write { OnOk result (WriteWaitsWithout (λ m. m ≡ held.now.memory.number) builder.old builder.new) }
     ensures full { result ≡ Err NetFault.TooManyNets → 2 ^ 20 < length builder.old.lines + 22 }
 {

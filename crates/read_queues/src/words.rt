@@ -97,7 +97,8 @@ pub(crate) fn word_of(
     requires count { HasNet builder.old (has_counts words.now) (count_width words.now) count }
     requires few { count_width words.now + tag.width ≤ 128 }
     ensures net { IfOk result (λ word. IsNetOfWidth builder.new word (count_width words.now + tag.width)) }
-    ensures value { IfOk result (λ word. Always builder.new (λ cycle. entry_of words.now tag.width (cycle.net word.number) ≡ entry (cycle.net tag.number) (value_or 1 count cycle))) }
+    ensures value { IfOk result (λ word. Always builder.new (λ cycle. entry_of words.now tag.width (cycle.net word.number)
+        ≡ entry (cycle.net tag.number) (value_or 1 count cycle))) }
     ensures adds { AddsNets 1 builder.old builder.new }
     ensures full { result ≡ Err NetFault.TooManyNets → 2 ^ 20 < length builder.old.lines + 1 }
 {
@@ -121,7 +122,9 @@ fn next_got(
     requires came { IsBit builder.old came }
     requires last { IsBit builder.old last }
     ensures net { IfOk result (λ next. IsNetOfWidth builder.new next got.width) }
-    ensures value { IfOk result (λ next. Always builder.new (λ cycle. cycle.net next.number ≡ (if is_raised (cycle.net last.number) then 0 else if is_raised (cycle.net came.number) then cycle.net more.number else cycle.net got.number))) }
+    ensures value { IfOk result (λ next. Always builder.new (λ cycle. cycle.net next.number
+        ≡ (if is_raised (cycle.net last.number) then 0 else if is_raised (cycle.net came.number) then cycle.net more.number
+        else cycle.net got.number))) }
     ensures adds { AddsNets 3 builder.old builder.new }
     ensures full { result ≡ Err NetFault.TooManyNets → 2 ^ 20 < length builder.old.lines + 3 }
 {

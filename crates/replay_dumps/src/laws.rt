@@ -11,7 +11,8 @@ use waves::no_two_readings;
 /// What is dumped can be replayed, so that both are refused alike; and a dump has one text at most.
 pub fn texts_are_dumped_as_replayed()
     ensures replayed { (text waves dump : List ℕ) → IsDumpOfText text waves dump → CanReplayText text waves }
-    ensures one_dump { (text waves one other : List ℕ) → IsDumpOfText text waves one → IsDumpOfText text waves other → one ≡ other }
+    ensures one_dump { (text waves one other : List ℕ) → IsDumpOfText text waves one → IsDumpOfText text waves other
+        → one ≡ other }
 {
     no_two_modules();
     no_two_readings();

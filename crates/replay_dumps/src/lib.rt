@@ -22,7 +22,8 @@ use waves::Waves;
 /// The most values that the nets may have in all cycles together.
 const MOST_VALUES: u64 = 4_294_967_296;
 
-/// Replays the waves of a file on a module, and dumps all of its ports. Its registers begin at their reset values, and its memories with 0.
+/// Replays the waves of a file on a module, and dumps all of its ports. Its registers begin at their reset values, and its
+/// memories with 0.
 pub fn dump_module(alloc: Global, module: Module, bytes: &[u8]) -> Result<Bytes, ReplayFault>
     ensures text { IfOk result (IsDumpOf «module» bytes.now) }
     ensures fault { IfErr result (λ fault. (fault ≡ NoMemory) ⊎ IsReplayFault «module» bytes.now fault) }

@@ -13,11 +13,13 @@ use Rattle.replays.specs.declared.faults.ReplayFault.{ReplayFault}
 use Rattle.replays.specs.declared.faults.ReplayFault.TheVariants as replay
 use Rattle.replays.specs.Traces.{trace_text}
 
--- A run of a module on these rows: it begins with the reset values and with memories of 0, and its inputs in each cycle are the values of
+-- A run of a module on these rows: it begins with the reset values and with memories of 0, and its inputs in each cycle are the
+-- values of
 -- the row, one for each input port in header order.
 pub record IsRunOn (netlist : Netlist) (rows : List (List Word)) (run : Run) : Type 0 where
   pub is_run : IsClearedRun netlist run (length rows)
-  pub inputs : (c : ℕ) (row : List Word) → slice_get rows c ≡ Some row → (k w : ℕ) → IsInputPort netlist.ports k w → run.input c k ≡ given_to netlist row k
+  pub inputs : (c : ℕ) (row : List Word) → slice_get rows c ≡ Some row → (k w : ℕ) → IsInputPort netlist.ports k w
+      → run.input c k ≡ given_to netlist row k
 
 -- the bytes are a waves file of these rows for the inputs of a module
 abbrev pub AreWaves : Netlist → List ℕ → List (List Word) → Type 0
@@ -51,7 +53,8 @@ pub record AreTooMany (netlist : Netlist) (bytes : List ℕ) (count : ℕ) : Typ
 
 -- why these waves are not replayed on a module; want of memory is no reason, and a module has no text to refuse
 abbrev pub IsReplayFault : Netlist → List ℕ → ReplayFault → Type 0
-IsReplayFault netlist bytes (replay.WavesRefused line rule) = IsFaultOf (input_widths netlist.ports) bytes (waves.Refused line rule)
+IsReplayFault netlist bytes (replay.WavesRefused line rule) =
+    IsFaultOf (input_widths netlist.ports) bytes (waves.Refused line rule)
 IsReplayFault netlist bytes (replay.TooManyValues count) = AreTooMany netlist bytes count
 IsReplayFault netlist bytes _ = ⊥
 

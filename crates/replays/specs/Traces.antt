@@ -1,4 +1,5 @@
--- The text of a run: a line for each cycle, with its number and the value at each output, and behind them a line with their number.
+-- The text of a run: a line for each cycle, with its number and the value at each output, and behind them a line with their
+-- number.
 use Rattle.std.specs.Prelude.{ℕ, zero, suc, ◌+◌, ◌/◌, List, [], ◌∷◌, ◌++◌, codes, decimal, if◌then◌else◌}
 use Rattle.netlist.specs.declared.line.PortLine.{PortLine}
 use Rattle.netlist.specs.Netlists.{Netlist}

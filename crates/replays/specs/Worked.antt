@@ -7,7 +7,10 @@ use Rattle.netlist.specs.Runs.{Run}
 abbrev pub inverter : Netlist
 inverter = record {
   name = codes "one_interconnect";
-  ports = record { name = codes "a$b$valid"; width = 1; output = false } ∷ record { name = codes "c$d$valid"; width = 1; output = true } ∷ [];
+  ports =
+      record { name = codes "a$b$valid"; width = 1; output = false }
+      ∷ record { name = codes "c$d$valid"; width = 1; output = true }
+      ∷ [];
   lines = line_of 1 (Input 0) ∷ line_of 1 (Not 0) ∷ [];
   drivers = None ∷ Some 1 ∷ [];
   memories = [];

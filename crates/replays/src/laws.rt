@@ -14,7 +14,8 @@ use waves::{never_both, no_two_first_faults, no_two_readings, rows_or_fault};
 
 /// A replay has one text at most.
 pub fn no_two_replays()
-    ensures { (netlist : Netlist) (bytes one other : List ℕ) → IsModule netlist → IsReplayOf netlist bytes one → IsReplayOf netlist bytes other → one ≡ other }
+    ensures { (netlist : Netlist) (bytes one other : List ℕ) → IsModule netlist → IsReplayOf netlist bytes one
+        → IsReplayOf netlist bytes other → one ≡ other }
 {
     one_run();
     no_two_readings();
@@ -22,9 +23,12 @@ pub fn no_two_replays()
 
 /// Waves are replayed on a module or refused, never both, and for one reason.
 pub fn replayed_or_refused()
-    ensures either { (netlist : Netlist) (bytes : List ℕ) → CanReplay netlist bytes ⊎ ((fault : Fault) × IsReplayFault netlist bytes fault) }
-    ensures never_both { (netlist : Netlist) (bytes : List ℕ) (fault : Fault) → CanReplay netlist bytes → ¬ IsReplayFault netlist bytes fault }
-    ensures one_fault { (netlist : Netlist) (bytes : List ℕ) (one other : Fault) → IsReplayFault netlist bytes one → IsReplayFault netlist bytes other → one ≡ other }
+    ensures either { (netlist : Netlist) (bytes : List ℕ)
+        → CanReplay netlist bytes ⊎ ((fault : Fault) × IsReplayFault netlist bytes fault) }
+    ensures never_both { (netlist : Netlist) (bytes : List ℕ) (fault : Fault) → CanReplay netlist bytes
+        → ¬ IsReplayFault netlist bytes fault }
+    ensures one_fault { (netlist : Netlist) (bytes : List ℕ) (one other : Fault) → IsReplayFault netlist bytes one
+        → IsReplayFault netlist bytes other → one ≡ other }
 {
     rows_or_fault();
     never_both();
@@ -36,8 +40,10 @@ pub fn replayed_or_refused()
 pub fn texts_are_replayed_or_refused()
     ensures either { (text waves : List ℕ) → CanReplayText text waves ⊎ ((fault : Fault) × IsReplayTextFault text waves fault) }
     ensures never_both { (text waves : List ℕ) (fault : Fault) → CanReplayText text waves → ¬ IsReplayTextFault text waves fault }
-    ensures one_fault { (text waves : List ℕ) (one other : Fault) → IsReplayTextFault text waves one → IsReplayTextFault text waves other → one ≡ other }
-    ensures one_trace { (text waves one other : List ℕ) → IsReplayOfText text waves one → IsReplayOfText text waves other → one ≡ other }
+    ensures one_fault { (text waves : List ℕ) (one other : Fault) → IsReplayTextFault text waves one
+        → IsReplayTextFault text waves other → one ≡ other }
+    ensures one_trace { (text waves one other : List ℕ) → IsReplayOfText text waves one → IsReplayOfText text waves other
+        → one ≡ other }
 {
     no_two_modules();
     texts_judge();
@@ -49,5 +55,6 @@ pub fn texts_are_replayed_or_refused()
 pub fn traces_are_spelled()
     ensures run { trace_text inverter rising 2 ≡ codes "0 c$d$valid=1\n1 c$d$valid=0\nend 2\n" }
     ensures wide_value { value_text (codes "m$h$address") 9 10 ≡ codes " m$h$address=00a" }
-    ensures widest_value { value_text (codes "m$h$readdata") 128 (2 ^ 128 - 1) ≡ codes " m$h$readdata=ffffffffffffffffffffffffffffffff" }
+    ensures widest_value { value_text (codes "m$h$readdata") 128 (2 ^ 128 - 1)
+        ≡ codes " m$h$readdata=ffffffffffffffffffffffffffffffff" }
 {}

@@ -26,7 +26,9 @@ fn put_value(text: &mut String, name: &str, value: Val) -> Result<(), NoMemory>
 /// Appends the values at all outputs in the present cycle.
 fn put_ports(text: &mut String, sim: &Sim) -> Result<(), NoMemory>
     requires { sim.now.stepped ≡ true }
-    ensures { OnOk result (string_bytes text.new ≡ string_bytes text.old ++ ports_text sim.now.netlist (present sim.now) 0 sim.now.netlist.ports) }
+    ensures { OnOk result
+        (string_bytes text.new
+        ≡ string_bytes text.old ++ ports_text sim.now.netlist (present sim.now) 0 sim.now.netlist.ports) }
 {
     sim.well_made();
     let module = sim.module();
@@ -61,7 +63,8 @@ fn put_end(text: &mut String, cycles: u32) -> Result<(), NoMemory>
 pub(crate) fn trace(alloc: Global, sim: &mut Sim, waves: &Waves) -> Result<String, NoMemory>
     requires widths { waves.now.widths ≡ input_widths sim.old.netlist.ports }
     requires new { (run : Run) → StandsFor sim.old run 0 }
-    ensures { IfOk result (λ text. (run : Run) × IsRunOn sim.old.netlist waves.now.rows run × (string_bytes text ≡ trace_text sim.old.netlist run (length waves.now.rows))) }
+    ensures { IfOk result (λ text. (run : Run) × IsRunOn sim.old.netlist waves.now.rows run
+        × (string_bytes text ≡ trace_text sim.old.netlist run (length waves.now.rows))) }
 {
     let mut text = String::new(alloc);
     let mut row = waves.blank_row(alloc)?;

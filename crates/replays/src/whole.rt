@@ -17,7 +17,8 @@ use waves::Waves;
 /// The most values that the nets may have in all cycles together.
 const MOST_VALUES: u64 = 4_294_967_296;
 
-/// Replays the waves of a file on a module: the text of what stands at its outputs in each cycle. Its registers begin at their reset
+/// Replays the waves of a file on a module: the text of what stands at its outputs in each cycle. Its registers begin at their
+/// reset
 /// values, and its memories with 0.
 pub fn replay_module(alloc: Global, module: Module, bytes: &[u8]) -> Result<Bytes, ReplayFault>
     ensures text { IfOk result (IsReplayOf «module» bytes.now) }

@@ -27,13 +27,21 @@ demultiplexer outputs symbols bits = record { outputs = outputs; symbols = symbo
 
 -- the ports at the input, and at each output
 abbrev pub coming : Demultiplexer → EndPorts
-coming demux = record { word = demux.symbols * demux.bits; channel = Some (bits_for demux.outputs); packets = true; empty = empty_bits demux.symbols }
+coming demux =
+    record {
+      word =
+          demux.symbols * demux.bits;
+      channel = Some (bits_for demux.outputs);
+      packets = true;
+      empty = empty_bits demux.symbols;
+    }
 
 abbrev pub going : Demultiplexer → EndPorts
 going demux = record (coming demux) { channel = None }
 
 abbrev pub demultiplexer_ports : Demultiplexer → List PortLine
-demultiplexer_ports demux = end_ports true (coming demux) (codes "in") ++ numbered_ports false (going demux) (codes "out") demux.outputs
+demultiplexer_ports demux =
+    end_ports true (coming demux) (codes "in") ++ numbered_ports false (going demux) (codes "out") demux.outputs
 
 -- what stands at the ports in a run
 abbrev pub demultiplexer_at : Demultiplexer → Netlist → Run → DemultiplexerRun
@@ -46,7 +54,8 @@ demultiplexer_at demux netlist run =
 -- every run whose input is legal demultiplexes
 abbrev pub Demultiplexes : Demultiplexer → Netlist → Type 0
 Demultiplexes demux netlist =
-    (run : Run) (cycles : ℕ) → IsRun netlist run cycles → IsLegalSource (input_side demux) (demultiplexer_at demux netlist run).input cycles
+    (run : Run) (cycles : ℕ) → IsRun netlist run cycles
+    → IsLegalSource (input_side demux) (demultiplexer_at demux netlist run).input cycles
     → IsDemultiplexed demux (demultiplexer_at demux netlist run) cycles
 
 -- the module is that of the demultiplexer
@@ -70,4 +79,5 @@ abbrev pub shown_at : PacketNets → List NetValue → ℕ → PacketNets
 shown_at from valids k = record from { valid = slice_index_or valids k from.valid }
 
 abbrev pub demultiplexer_drivers : PacketNets → NetValue → List NetValue → Bool → List (Option NetValue)
-demultiplexer_drivers from ready valids empty = coming_drivers ready true empty ++ before (λ k. going_drivers (shown_at from valids k) None empty) (length valids)
+demultiplexer_drivers from ready valids empty =
+    coming_drivers ready true empty ++ before (λ k. going_drivers (shown_at from valids k) None empty) (length valids)

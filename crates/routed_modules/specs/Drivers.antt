@@ -32,7 +32,8 @@ pub record CanDrive (netlist : Netlist) (net : NetValue) (port : ℕ) : Type 0 w
 
 -- each port has its driver
 abbrev pub AreDriven : Netlist → List (Option NetValue) → Type 0
-AreDriven netlist drivers = (k : ℕ) (net : NetValue) → slice_get drivers k ≡ Some (Some net) → driver_of netlist k ≡ Some net.number
+AreDriven netlist drivers =
+    (k : ℕ) (net : NetValue) → slice_get drivers k ≡ Some (Some net) → driver_of netlist k ≡ Some net.number
 
 -- a driver where the port is there
 abbrev pub driver_if : Bool → NetValue → List (Option NetValue)
@@ -49,8 +50,10 @@ coming_drivers ready channel empty = Some ready ∷ None ∷ None ∷ (none_if c
 
 -- and where they go out: all but `ready`
 abbrev pub going_drivers : PacketNets → Option NetValue → Bool → List (Option NetValue)
-going_drivers beat (Some channel) empty = None ∷ Some beat.valid ∷ Some beat.word ∷ Some channel ∷ Some beat.first ∷ Some beat.last ∷ driver_if empty beat.empty
-going_drivers beat None empty = None ∷ Some beat.valid ∷ Some beat.word ∷ Some beat.first ∷ Some beat.last ∷ driver_if empty beat.empty
+going_drivers beat (Some channel) empty =
+    None ∷ Some beat.valid ∷ Some beat.word ∷ Some channel ∷ Some beat.first ∷ Some beat.last ∷ driver_if empty beat.empty
+going_drivers beat None empty =
+    None ∷ Some beat.valid ∷ Some beat.word ∷ Some beat.first ∷ Some beat.last ∷ driver_if empty beat.empty
 
 -- a part of a list stands in it from this place on
 abbrev pub StandsAt : {A : Type 0} → List A → ℕ → List A → Type 0

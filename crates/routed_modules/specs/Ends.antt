@@ -52,7 +52,9 @@ pub record IsWordAt (netlist : Netlist) (place word_bits channel_bits : ℕ) (ne
 
 -- each of so many ends begins with a ready that comes in, so many ports behind that of the end before
 abbrev pub HaveReadies : Netlist → ℕ → ℕ → ℕ → Type 0
-HaveReadies netlist place stride count = (k : ℕ) → k < count → (end : List ℕ) × (has : EndPorts) × StandsAt netlist.ports (place + stride * k) (end_ports false has end)
+HaveReadies netlist place stride count =
+    (k : ℕ) → k < count
+    → (end : List ℕ) × (has : EndPorts) × StandsAt netlist.ports (place + stride * k) (end_ports false has end)
 
 -- these are the nets of them
 pub record AreReadies (netlist : Netlist) (place stride count : ℕ) (nets : List NetValue) : Type 0 where

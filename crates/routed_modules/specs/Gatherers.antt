@@ -32,7 +32,8 @@ abbrev pub gathered_in : Gatherer → EndPorts
 gathered_in g = record { word = g.symbols * g.bits; channel = Some (bits_for g.channels); packets = false; empty = None }
 
 abbrev pub gathered_out : Gatherer → EndPorts
-gathered_out g = record { word = gathered_symbols g * g.bits; channel = Some (bits_for g.channels); packets = false; empty = None }
+gathered_out g =
+    record { word = gathered_symbols g * g.bits; channel = Some (bits_for g.channels); packets = false; empty = None }
 
 abbrev pub gatherer_ports : Gatherer → List PortLine
 gatherer_ports g = end_ports true (gathered_in g) (codes "in") ++ end_ports false (gathered_out g) (codes "out")
@@ -68,4 +69,5 @@ pub record IsGathererWhole (g : Gatherer) (netlist : Netlist) : Type 0 where
 -- ---- what drives its ports
 
 abbrev pub gatherer_drivers : WordNets → GathererNets → List (Option NetValue)
-gatherer_drivers from made = Some made.ready ∷ None ∷ None ∷ None ∷ None ∷ Some made.valid ∷ Some made.word ∷ Some from.channel ∷ []
+gatherer_drivers from made =
+    Some made.ready ∷ None ∷ None ∷ None ∷ None ∷ Some made.valid ∷ Some made.word ∷ Some from.channel ∷ []

@@ -57,4 +57,5 @@ pub record IsFilled (mux : Multiplexer) (netlist : Netlist) : Type 0 where
 
 abbrev pub multiplexer_drivers : List NetValue → PacketNets → NetValue → Bool → List (Option NetValue)
 multiplexer_drivers readies beat channel empty =
-    before (λ i. coming_drivers (slice_index_or readies i channel) false empty) (length readies) ++ going_drivers beat (Some channel) empty
+    before (λ i. coming_drivers (slice_index_or readies i channel) false empty) (length readies)
+    ++ going_drivers beat (Some channel) empty

@@ -31,13 +31,15 @@ abbrev pub mark_ports : List ℕ → Bool → Bool → List PortLine
 mark_ports end true output = port_line end (codes "startofpacket") 1 output ∷ port_line end (codes "endofpacket") 1 output ∷ []
 mark_ports end false output = []
 
--- the ports of an end in the order of their roles. Where beats come in the module drives `ready` alone, and where they go out all the others
+-- the ports of an end in the order of their roles. Where beats come in the module drives `ready` alone, and where they go out all
+-- the others
 abbrev pub end_ports : Bool → EndPorts → List ℕ → List PortLine
 end_ports comes has end =
     port_line end (codes "ready") 1 comes
     ∷ port_line end (codes "valid") 1 (not comes)
     ∷ port_line end (codes "data") has.word (not comes)
-    ∷ (port_if end (codes "channel") has.channel (not comes) ++ (mark_ports end has.packets (not comes) ++ port_if end (codes "empty") has.empty (not comes)))
+    ∷ (port_if end (codes "channel") has.channel (not comes)
+    ++ (mark_ports end has.packets (not comes) ++ port_if end (codes "empty") has.empty (not comes)))
 
 -- those of so many ends, numbered from 0
 abbrev pub numbered_ports : Bool → EndPorts → List ℕ → ℕ → List PortLine

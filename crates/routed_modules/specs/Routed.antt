@@ -15,5 +15,7 @@ HaveSizes (routed.Gatherer channels symbols parts bits) = AreGathererSizes chann
 -- the module is the one that is wanted
 abbrev pub IsRoutedModule : Routed → Netlist → Type 0
 IsRoutedModule (routed.Multiplexer inputs symbols bits) netlist = IsMultiplexerModule (multiplexer inputs symbols bits) netlist
-IsRoutedModule (routed.Demultiplexer outputs symbols bits) netlist = IsDemultiplexerModule (demultiplexer outputs symbols bits) netlist
-IsRoutedModule (routed.Gatherer channels symbols parts bits) netlist = IsGathererModule (gatherer channels symbols parts bits) netlist
+IsRoutedModule (routed.Demultiplexer outputs symbols bits) netlist =
+    IsDemultiplexerModule (demultiplexer outputs symbols bits) netlist
+IsRoutedModule (routed.Gatherer channels symbols parts bits) netlist =
+    IsGathererModule (gatherer channels symbols parts bits) netlist

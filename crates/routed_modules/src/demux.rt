@@ -31,7 +31,8 @@ fn coming_ports(outputs: u8, symbols: u8, bits: u8) -> EndPorts
 
 /// The ports of its header.
 fn demux_ports(alloc: Global, has: EndPorts, outputs: u8) -> Result<List<PortLine>, NoMemory>
-    ensures { IfOk result (λ ports. ports ≡ end_ports true has (codes "in") ++ numbered_ports false (record has { channel = None }) (codes "out") outputs) }
+    ensures { IfOk result (λ ports. ports
+        ≡ end_ports true has (codes "in") ++ numbered_ports false (record has { channel = None }) (codes "out") outputs) }
 {
     let going = EndPorts {
         channel: None,
@@ -61,7 +62,8 @@ fn demux_drivers(
     made: &DemultiplexerNets,
     empty: bool,
 ) -> Result<Vec<Option<Net>>, NetFault>
-    ensures drivers { IfOk result (λ drivers. drivers.items ≡ demultiplexer_drivers from.now made.now.ready made.now.valids.items empty) }
+    ensures drivers { IfOk result (λ drivers. drivers.items
+        ≡ demultiplexer_drivers from.now made.now.ready made.now.valids.items empty) }
     ensures full { (result ≡ Err NetFault.TooManyNets) → ⊥ }
 {
     let mut drivers = Vec::new(alloc);
@@ -84,7 +86,8 @@ fn fill(
 ) -> Result<(), NetFault>
     requires sizes { AreSizes outputs symbols bits }
     requires has { has ≡ coming (demultiplexer outputs symbols bits) }
-    requires started { builder.old ≡ started (codes "demux_interconnect") (demultiplexer_ports (demultiplexer outputs symbols bits)) }
+    requires started { builder.old
+        ≡ started (codes "demux_interconnect") (demultiplexer_ports (demultiplexer outputs symbols bits)) }
     requires well_made { IsWellMade builder.old }
     requires clocked { IsClocked builder.old }
     requires written { IsWritten builder.old }

@@ -40,7 +40,8 @@ fn empty_at(builder: &mut Builder, port: u32, empty: Option<u8>) -> Result<Net, 
     }
 }
 
-/// The beat at an end with packets where beats come in, whose ports begin at this place. Where the end has no `empty`, a net is made for it.
+/// The beat at an end with packets where beats come in, whose ports begin at this place. Where the end has no `empty`, a net is
+/// made for it.
 #[tactic(auto, using(net_parts::specs::Laws::growing))]
 pub(crate) fn beat_at(
     builder: &mut Builder,

@@ -73,7 +73,8 @@ fn fill(
 ) -> Result<(), NetFault>
     requires sizes { AreGathererSizes channels symbols parts bits }
     requires has { has ≡ gathered_in (gatherer channels symbols parts bits) }
-    requires started { builder.old ≡ started (codes "gather_interconnect") (gatherer_ports (gatherer channels symbols parts bits)) }
+    requires started { builder.old
+        ≡ started (codes "gather_interconnect") (gatherer_ports (gatherer channels symbols parts bits)) }
     requires well_made { IsWellMade builder.old }
     requires clocked { IsClocked builder.old }
     requires written { IsWritten builder.old }

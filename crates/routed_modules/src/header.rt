@@ -8,7 +8,8 @@ use av_base::{List, NoMemory, Text};
 use netlist::{Builder, NetFault, PortLine};
 use std::alloc::Global;
 
-/// The ports of an end beside `ready` and `valid`: their bits, or none where there is no such port. With packets it has both marks.
+/// The ports of an end beside `ready` and `valid`: their bits, or none where there is no such port. With packets it has both
+/// marks.
 #[derive(Clone, Copy)]
 pub struct EndPorts {
     pub word: u8,

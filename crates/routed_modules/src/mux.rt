@@ -37,7 +37,9 @@ fn mux_ports(
     inputs: u8,
     channel_bits: u8,
 ) -> Result<List<PortLine>, NoMemory>
-    ensures { IfOk result (λ ports. ports ≡ numbered_ports true has (codes "in") inputs ++ end_ports false (record has { channel = Some channel_bits }) (codes "out")) }
+    ensures { IfOk result (λ ports. ports
+        ≡ numbered_ports true has (codes "in") inputs
+        ++ end_ports false (record has { channel = Some channel_bits }) (codes "out")) }
 {
     let going = EndPorts {
         channel: Some(channel_bits),
@@ -55,7 +57,8 @@ fn mux_drivers(
     made: &MultiplexerNets,
     empty: bool,
 ) -> Result<Vec<Option<Net>>, NetFault>
-    ensures drivers { IfOk result (λ drivers. drivers.items ≡ multiplexer_drivers made.now.readies.items made.now.beat made.now.channel empty) }
+    ensures drivers { IfOk result (λ drivers. drivers.items
+        ≡ multiplexer_drivers made.now.readies.items made.now.beat made.now.channel empty) }
     ensures full { (result ≡ Err NetFault.TooManyNets) → ⊥ }
 {
     let mut drivers = Vec::new(alloc);

@@ -37,7 +37,8 @@ pub record IsOwed (demux : Demultiplexer) (run : DemultiplexerRun) (c : ℕ) : T
   pub ready : AreAllReady demux run c
   pub output : ℕ
   pub is_output : output < demux.outputs
-  pub undelivered : length (delivered_symbols (output_side demux) (run.outputs output) c) < length (symbols_on output (accepted_symbols (input_side demux) run.input c))
+  pub undelivered : length (delivered_symbols (output_side demux) (run.outputs output) c)
+      < length (symbols_on output (accepted_symbols (input_side demux) run.input c))
 
 -- a beat is delivered at some output
 abbrev pub IsDelivered : Demultiplexer → DemultiplexerRun → ℕ → Type 0
@@ -49,7 +50,8 @@ pub record IsDemultiplexed (demux : Demultiplexer) (run : DemultiplexerRun) (cou
   pub legal : (k : ℕ) → k < demux.outputs → IsLegalSource (output_side demux) (run.outputs k) count
   -- what an output is given is what was accepted on its channel
   pub follows : (k : ℕ) → k < demux.outputs → (c : ℕ) → c ≤ count
-      → FollowWithin (2 * demux.symbols) (symbols_on k (accepted_symbols (input_side demux) run.input c)) (delivered_symbols (output_side demux) (run.outputs k) c)
+      → FollowWithin (2 * demux.symbols) (symbols_on k (accepted_symbols (input_side demux) run.input c))
+      (delivered_symbols (output_side demux) (run.outputs k) c)
   -- a beat is accepted where one waits
   pub accepts : (start : ℕ) → start + routing_window ≤ count
       → Throughout start routing_window (IsWaiting demux run)

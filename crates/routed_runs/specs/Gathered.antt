@@ -33,7 +33,8 @@ pub record IsOwed (gatherer : Gatherer) (run : GathererRun) (c : ℕ) : Type 0 w
   pub ready : IsTrue (is_high run.output.ready c)
   pub channel : ℕ
   pub is_channel : channel < gatherer.channels
-  pub undelivered : length (symbols_on channel (delivered_symbols (output_side gatherer) run.output c)) + gathered_symbols gatherer
+  pub undelivered : length (symbols_on channel (delivered_symbols (output_side gatherer) run.output c))
+      + gathered_symbols gatherer
       ≤ length (symbols_on channel (accepted_symbols (input_side gatherer) run.input c))
 
 -- what a gatherer does in the cycles before count
@@ -42,9 +43,11 @@ pub record IsGathered (gatherer : Gatherer) (run : GathererRun) (count : ℕ) : 
   pub legal : IsLegalSource (output_side gatherer) run.output count
   -- what comes on a channel is what was accepted on it
   pub follows : (k : ℕ) → k < gatherer.channels → (c : ℕ) → c ≤ count
-      → FollowWithin (3 * gathered_symbols gatherer) (symbols_on k (accepted_symbols (input_side gatherer) run.input c)) (symbols_on k (delivered_symbols (output_side gatherer) run.output c))
+      → FollowWithin (3 * gathered_symbols gatherer) (symbols_on k (accepted_symbols (input_side gatherer) run.input c))
+      (symbols_on k (delivered_symbols (output_side gatherer) run.output c))
   -- each beat is full, of symbols of one channel
-  pub full : (c : ℕ) → c < count → IsTrue (is_transfer direct run.output c) → shown_count (output_side gatherer) run.output c ≡ gathered_symbols gatherer
+  pub full : (c : ℕ) → c < count → IsTrue (is_transfer direct run.output c)
+      → shown_count (output_side gatherer) run.output c ≡ gathered_symbols gatherer
   -- before a sink that is ready the source sees ready
   pub accepts : (start : ℕ) → start + routing_window ≤ count
       → Throughout start routing_window (λ c. IsTrue (is_high run.output.ready c))

@@ -11,14 +11,18 @@ pub transfer_shows : (view : EndView) (c : ℕ) → IsTrue (is_transfer direct v
 transfer_shows view c moves = (and_parts (is_high view.valid c) (is_high view.ready c) moves).0
 
 -- a packet that begins with one beat is open until its end, on the channel of that beat
-module _ (symbols bits most : ℕ) (view : EndView) (count : ℕ) (legal : IsLegalSource (direct_end true symbols bits most) view count) (b : ℕ) (begun : IsTrue (is_transfer direct view b)) where
+module _ (symbols bits most : ℕ) (view : EndView) (count : ℕ)
+    (legal : IsLegalSource (direct_end true symbols bits most) view count) (b : ℕ)
+    (begun : IsTrue (is_transfer direct view b)) where
   pub record IsInside (c : ℕ) : Type 0 where
     pub opened : is_open direct view c ≡ true
     pub channel : channel_before direct view c ≡ view.channel b
 
-  pub stays_inside : (c : ℕ) → b < c → c ≤ count → ((d : ℕ) → b ≤ d → d < c → IsTrue (is_transfer direct view d) → IsFalse (is_high view.last d)) → IsInside c
+  pub stays_inside : (c : ℕ) → b < c → c ≤ count
+      → ((d : ℕ) → b ≤ d → d < c → IsTrue (is_transfer direct view d) → IsFalse (is_high view.last d)) → IsInside c
   stays_inside zero from to goes = absurd (omega arith)
-  stays_inside (suc c) from to goes = by_place (λ after. stays_inside c after (omega arith) (λ d low high. goes d low (omega arith))) (cases_lt b c)
+  stays_inside (suc c) from to goes =
+      by_place (λ after. stays_inside c after (omega arith) (λ d low high. goes d low (omega arith))) (cases_lt b c)
     where
       at_beginning : b ≡ c → IsInside (suc c)
       at_beginning same =
@@ -32,7 +36,9 @@ module _ (symbols bits most : ℕ) (view : EndView) (count : ℕ) (legal : IsLeg
       later inside after (inl moves) =
           record {
             opened = cond-true (is_transfer direct view c) _ _ moves ∙ ap not (goes c (omega (arith, after)) (omega arith) moves);
-            channel = cond-true (is_transfer direct view c) _ _ moves ∙ ((legal c (omega arith)).formed (transfer_shows view c moves)).one_channel refl inside.opened ∙ inside.channel;
+            channel =
+                cond-true (is_transfer direct view c) _ _ moves
+                ∙ ((legal c (omega arith)).formed (transfer_shows view c moves)).one_channel refl inside.opened ∙ inside.channel;
           }
       later inside after (inr stays) =
           record {
@@ -45,7 +51,8 @@ module _ (symbols bits most : ℕ) (view : EndView) (count : ℕ) (legal : IsLeg
       by_place earlier (inr here) = at_beginning (omega arith)
 
   -- and so each beat up to its end is on that channel
-  pub one_channel_inside : (c : ℕ) → b < c → c < count → ((d : ℕ) → b ≤ d → d < c → IsTrue (is_transfer direct view d) → IsFalse (is_high view.last d))
+  pub one_channel_inside : (c : ℕ) → b < c → c < count
+      → ((d : ℕ) → b ≤ d → d < c → IsTrue (is_transfer direct view d) → IsFalse (is_high view.last d))
       → IsTrue (is_transfer direct view c) → view.channel c ≡ view.channel b
   one_channel_inside c from to goes moves =
       let inside = stays_inside c from (omega arith) goes in

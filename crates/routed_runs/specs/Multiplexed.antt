@@ -59,7 +59,8 @@ pub record IsOwed (mux : Multiplexer) (run : MultiplexerRun) (c : ℕ) : Type 0 
   pub ready : IsTrue (is_high run.output.ready c)
   pub input : ℕ
   pub is_input : input < mux.inputs
-  pub undelivered : length (symbols_on input (delivered_symbols (output_side mux) run.output c)) < length (accepted_symbols (input_side mux) (run.inputs input) c)
+  pub undelivered : length (symbols_on input (delivered_symbols (output_side mux) run.output c))
+      < length (accepted_symbols (input_side mux) (run.inputs input) c)
 
 -- what a multiplexer does in the cycles before count
 pub record IsMultiplexed (mux : Multiplexer) (run : MultiplexerRun) (count : ℕ) : Type 0 where
@@ -67,7 +68,8 @@ pub record IsMultiplexed (mux : Multiplexer) (run : MultiplexerRun) (count : ℕ
   pub legal : IsLegalSource (output_side mux) run.output count
   -- what comes on the channel of an input is what the input accepted
   pub follows : (i : ℕ) → i < mux.inputs → (c : ℕ) → c ≤ count
-      → FollowWithin (2 * mux.symbols) (accepted_symbols (input_side mux) (run.inputs i) c) (symbols_on i (delivered_symbols (output_side mux) run.output c))
+      → FollowWithin (2 * mux.symbols) (accepted_symbols (input_side mux) (run.inputs i) c)
+      (symbols_on i (delivered_symbols (output_side mux) run.output c))
   -- from a beat with a first mark up to the one with its last mark all are on one channel
   pub whole : (b c : ℕ) → b < c → c < count
       → IsTrue (is_transfer direct run.output b) → IsTrue (is_high run.output.first b)

@@ -8,11 +8,22 @@ use Rattle.stream_runs.specs.Symbols.{Symbol}
 abbrev pub direct : Pace
 direct = record { latency = 0; allowance = 0 }
 
--- an end with ready latency 0, the first symbol in the high-order bits and no error port: with packets or without, of so many symbols
+-- an end with ready latency 0, the first symbol in the high-order bits and no error port: with packets or without, of so many
+-- symbols
 -- of so many bits a beat, with channels up to the last number
 abbrev pub direct_end : Bool → ℕ → ℕ → ℕ → Side
 direct_end packets symbols bits max_channel =
-    record { pace = direct; symbols = symbols; symbol_bits = bits; first_high = true; packets = packets; max_channel = max_channel; error_bits = 0 }
+    record {
+      pace =
+          direct;
+      symbols =
+          symbols;
+      symbol_bits = bits;
+      first_high = true;
+      packets = packets;
+      max_channel = max_channel;
+      error_bits = 0;
+    }
 
 -- the data and the marks of a symbol alone
 abbrev pub data_and_marks : Symbol → Symbol

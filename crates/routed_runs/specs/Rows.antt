@@ -1,4 +1,5 @@
--- Runs that were worked out by hand, cycle by cycle, and runs with a fault. All beats are of one byte, but for those that a gatherer gives.
+-- Runs that were worked out by hand, cycle by cycle, and runs with a fault. All beats are of one byte, but for those that a
+-- gatherer gives.
 use Rattle.std.specs.Prelude.{ℕ, Option, Some, None, [], ◌∷◌, List, ◌==◌, if◌then◌else◌}
 use Rattle.stream_runs.specs.View.{EndView, Beat}
 use Rattle.stream_runs.specs.Rows.{always, never, signal_of, showing, word, on_channel, opens, closes}
@@ -14,7 +15,8 @@ alone value = opens (closes 0 (word value))
 abbrev pub either : EndView → EndView → ℕ → EndView
 either zeroth first i = if i == 0 then zeroth else first
 
--- ---- two inputs: 11 and 12 are a packet of input 0, with a gap, and 21 and 22 are packets of input 1. The output isn't ready in cycle 1
+-- ---- two inputs: 11 and 12 are a packet of input 0, with a gap, and 21 and 22 are packets of input 1. The output isn't ready in
+-- cycle 1
 
 abbrev pub two_inputs : Multiplexer
 two_inputs = record { inputs = 2; symbols = 1; bits = 8 }
@@ -25,7 +27,8 @@ output_ready = signal_of (1 ∷ 0 ∷ 1 ∷ 1 ∷ 1 ∷ 1 ∷ [])
 abbrev pub gapped_input : EndView
 gapped_input =
     showing (signal_of (0 ∷ 0 ∷ 1 ∷ 1 ∷ 1 ∷ 0 ∷ []))
-    (Some (opens (word 0x11)) ∷ Some (opens (word 0x11)) ∷ Some (opens (word 0x11)) ∷ None ∷ Some (closes 0 (word 0x12)) ∷ None ∷ [])
+    (Some (opens (word 0x11)) ∷ Some (opens (word 0x11)) ∷ Some (opens (word 0x11)) ∷ None ∷ Some (closes 0 (word 0x12)) ∷ None
+    ∷ [])
 
 abbrev pub other_input : EndView
 other_input =
@@ -57,7 +60,8 @@ abbrev pub torn_run : MultiplexerRun
 torn_run =
     record {
       inputs = either gapped_input
-          (showing (signal_of (1 ∷ 0 ∷ 0 ∷ 1 ∷ 0 ∷ 0 ∷ [])) (Some (alone 0x21) ∷ None ∷ Some (alone 0x22) ∷ Some (alone 0x22) ∷ None ∷ None ∷ []));
+          (showing (signal_of (1 ∷ 0 ∷ 0 ∷ 1 ∷ 0 ∷ 0 ∷ []))
+          (Some (alone 0x21) ∷ None ∷ Some (alone 0x22) ∷ Some (alone 0x22) ∷ None ∷ None ∷ []));
       output = shown_output (Some (on_channel 1 (alone 0x22))) (Some (closes 0 (word 0x12))) None;
     }
 
@@ -107,7 +111,10 @@ abbrev pub dropping_run : DemultiplexerRun
 dropping_run =
     record {
       input = showing always (Some (on_channel 1 (alone 0x21)) ∷ Some (opens (word 0x11)) ∷ Some (closes 0 (word 0x12)) ∷ []);
-      outputs = either (showing (signal_of (1 ∷ 0 ∷ 1 ∷ 1 ∷ [])) (None ∷ Some (opens (word 0x11)) ∷ Some (closes 0 (word 0x12)) ∷ [])) first_output;
+      outputs =
+          either
+          (showing (signal_of (1 ∷ 0 ∷ 1 ∷ 1 ∷ []))
+          (None ∷ Some (opens (word 0x11)) ∷ Some (closes 0 (word 0x12)) ∷ [])) first_output;
     }
 
 -- a packet waits at the input, and both outputs are ready, but it isn't accepted
@@ -126,7 +133,8 @@ two_channels = record { channels = 2; symbols = 1; parts = 2; bits = 8 }
 abbrev pub mixed_input : EndView
 mixed_input =
     showing always
-    (Some (word 0x11) ∷ Some (on_channel 1 (word 0xaa)) ∷ Some (word 0x22) ∷ Some (on_channel 1 (word 0xbb)) ∷ Some (word 0x33) ∷ [])
+    (Some (word 0x11) ∷ Some (on_channel 1 (word 0xaa)) ∷ Some (word 0x22) ∷ Some (on_channel 1 (word 0xbb)) ∷ Some (word 0x33)
+    ∷ [])
 
 abbrev pub gathered : List (Option Beat) → GathererRun
 gathered beats = record { input = mixed_input; output = showing always beats }

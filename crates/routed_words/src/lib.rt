@@ -67,7 +67,9 @@ pub fn are_words_of(routed: Routed, words: usize) -> bool
 
 /// Three numbers that words spell.
 fn three_numbers(first: &str, second: &str, third: &str) -> Option<(u8, u8, u8)>
-    ensures { MatchOption result ((a b c : ℕ) → ¬ AreSpelled first.now second.now third.now a b c) (λ n. AreSpelled first.now second.now third.now n.0 n.1 n.2) }
+    ensures { MatchOption result
+        ((a b c : ℕ)
+        → ¬ AreSpelled first.now second.now third.now a b c) (λ n. AreSpelled first.now second.now third.now n.0 n.1 n.2) }
 {
     let Some(a) = small_number_of(first) else {
         return None;
@@ -83,7 +85,9 @@ fn three_numbers(first: &str, second: &str, third: &str) -> Option<(u8, u8, u8)>
 
 /// The module with packets that a word asks for, with these numbers.
 fn module_of(word: &str, ends: u8, symbols: u8, bits: u8) -> Option<Routed>
-    ensures { MatchOption result (¬ IsPacketsWord word.now) (λ wanted. (module_word wanted ≡ word.now) × (numbers_of wanted ≡ ends ∷ symbols ∷ bits ∷ [])) }
+    ensures { MatchOption result
+        (¬ IsPacketsWord word.now) (λ wanted. (module_word wanted ≡ word.now)
+        × (numbers_of wanted ≡ ends ∷ symbols ∷ bits ∷ [])) }
 {
     if word == "mux" {
         return Some(Routed::Multiplexer {
@@ -104,7 +108,9 @@ fn module_of(word: &str, ends: u8, symbols: u8, bits: u8) -> Option<Routed>
 
 /// Reads the words that ask for a module with packets.
 fn read_packets(words: &[String]) -> Option<Routed>
-    ensures { MatchOption result ((wanted : Wanted) → HasPackets wanted → ¬ AsksForModule wanted (map string_bytes words.now)) (λ wanted. AsksForModule wanted (map string_bytes words.now)) }
+    ensures { MatchOption result
+        ((wanted : Wanted) → HasPackets wanted
+        → ¬ AsksForModule wanted (map string_bytes words.now)) (λ wanted. AsksForModule wanted (map string_bytes words.now)) }
 {
     let [command, ends, symbols, bits] = words else {
         return None;
@@ -125,7 +131,10 @@ fn read_packets(words: &[String]) -> Option<Routed>
 
 /// Reads the words that ask for a gatherer.
 fn read_gatherer(words: &[String]) -> Option<Routed>
-    ensures { MatchOption result ((channels symbols parts bits : ℕ) → ¬ AsksForModule (Gatherer channels symbols parts bits) (map string_bytes words.now)) (λ wanted. AsksForModule wanted (map string_bytes words.now)) }
+    ensures { MatchOption result
+        ((channels symbols parts bits : ℕ)
+        → ¬ AsksForModule (Gatherer channels symbols parts bits) (map string_bytes words.now)) (λ wanted. AsksForModule wanted
+        (map string_bytes words.now)) }
 {
     let [command, channels, symbols, parts, bits] = words else {
         return None;
@@ -158,7 +167,9 @@ fn read_gatherer(words: &[String]) -> Option<Routed>
 
 /// Reads the words that ask for such a module.
 pub fn read_routed(words: &[String]) -> Option<Routed>
-    ensures { MatchOption result ((wanted : Wanted) → ¬ AsksForModule wanted (map string_bytes words.now)) (λ wanted. AsksForModule wanted (map string_bytes words.now)) }
+    ensures { MatchOption result
+        ((wanted : Wanted)
+        → ¬ AsksForModule wanted (map string_bytes words.now)) (λ wanted. AsksForModule wanted (map string_bytes words.now)) }
 {
     if let Some(routed) = read_packets(words) {
         return Some(routed);

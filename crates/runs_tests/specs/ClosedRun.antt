@@ -54,7 +54,15 @@ given_valid = signal (0 ∷ 0 ∷ 0 ∷ 1 ∷ 1 ∷ [])
 -- the agent gives these words, and the host is given these
 abbrev pub closed_run : List ℕ → List ℕ → Run
 closed_run from to = record {
-  at_host = λ h. record { signals = commands; waitrequest = always 0; readdata = signal (0 ∷ 0 ∷ 0 ∷ to); readdatavalid = given_valid; response = always 0 };
+  at_host =
+      λ h. record {
+        signals =
+            commands;
+        waitrequest = always 0;
+        readdata = signal (0 ∷ 0 ∷ 0 ∷ to);
+        readdatavalid = given_valid;
+        response = always 0;
+      };
   at_agent = λ a. record {
     signals = commands;
     waitrequest = always 0;

@@ -14,7 +14,8 @@ pub fn agent_acts_as_memory()
     ensures safe { IsSafe AreZero closed_system (closed_run right_words right_words) 5 }
     ensures returned { ReturnsInCommandOrder closed_system (closed_run right_words right_words) 0 5 }
     ensures reads { ReadsFromMemory closed_system (closed_run right_words right_words) 0 0 first_contents 5 }
-    ensures given { given (closed_system.host 0) ((closed_run right_words right_words).at_host 0) 5 ≡ record { word = 0x0705; code = 0 } ∷ record { word = 0x0709; code = 0 } ∷ [] }
+    ensures given { given (closed_system.host 0) ((closed_run right_words right_words).at_host 0) 5
+        ≡ record { word = 0x0705; code = 0 } ∷ record { word = 0x0709; code = 0 } ∷ [] }
 {}
 
 /// Words of later writes, bytes of lanes that weren't enabled, and words that the agent didn't give are none of a memory.

@@ -14,9 +14,11 @@ use Rattle.packet_bytes.specs.Noted.{HasNoted, sent}
 use Rattle.transfer_scenarios.specs.Hosts.{IsTransferHost}
 use Rattle.transfer_scenarios.specs.Stated.{scenario_of}
 
--- so many write beats of host 0 are accepted and these words given to it, in a simulation of so many cycles, on a module of the plan that
+-- so many write beats of host 0 are accepted and these words given to it, in a simulation of so many cycles, on a module of the
+-- plan that
 -- files state, of the scenario in which it does the commands of the transactions of a stream and nothing else is stated
-pub record IsRunOf (files : List (List ℕ)) (bytes : List ℕ) (cycles : ℕ) (transfers : Transfers) (beats : ℕ) (words : List ℕ) : Type 0 where
+pub record IsRunOf (files : List (List ℕ)) (bytes : List ℕ) (cycles : ℕ) (transfers : Transfers) (beats : ℕ)
+    (words : List ℕ) : Type 0 where
   pub plan : PlanTable
   pub planned : IsPlanned files plan
   pub port : HostPort
@@ -27,7 +29,8 @@ pub record IsRunOf (files : List (List ℕ)) (bytes : List ℕ) (cycles : ℕ) (
   pub is_module : IsModule netlist
   pub noted : IsNoted plan (scenario_of plan.system cycles transfers) netlist 0 beats words
 
--- the text is the replies to the leading transactions of a stream all of whose write beats are accepted and words given in such a run: to a read
+-- the text is the replies to the leading transactions of a stream all of whose write beats are accepted and words given in such a
+-- run: to a read
 -- with the bytes that it asks for of these words
 pub record IsBridged (files : List (List ℕ)) (bytes : List ℕ) (cycles : ℕ) (text : List ℕ) : Type 0 where
   pub transfers : Transfers

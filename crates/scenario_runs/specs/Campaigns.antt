@@ -23,7 +23,8 @@ use Rattle.scenario_runs.specs.declared.campaign.Campaign.{Campaign}
 -- the line of a lane
 abbrev pub lane_line : ℕ → Counts → List ℕ
 lane_line lane counts =
-    codes "lane " ++ decimal lane ++ codes " taken " ++ decimal counts.taken ++ codes " answered " ++ decimal counts.answered ++ codes " delivered " ++ decimal counts.delivered
+    codes "lane " ++ decimal lane ++ codes " taken " ++ decimal counts.taken ++ codes " answered " ++ decimal counts.answered
+    ++ codes " delivered " ++ decimal counts.delivered
     ++ codes " dropped " ++ decimal counts.dropped ++ codes "\n"
 
 -- and the last
@@ -41,18 +42,21 @@ lane_scenario plan number lane = drawn_scenario plan number lane 256
 abbrev pub lane_scenarios : PlanTable → ℕ → List Scenario
 lane_scenarios plan number = before (λ lane. lane_scenario plan number lane ∷ []) 8
 
--- the text tells what is counted of eight runs of a module, each of the scenario that is drawn for its lane, behind which the lanes stand
+-- the text tells what is counted of eight runs of a module, each of the scenario that is drawn for its lane, behind which the
+-- lanes stand
 pub record IsTextOfLanes (plan : PlanTable) (number : ℕ) (lanes : LanesValue) (text : List ℕ) : Type 0 where
   pub counts : List Counts
   pub count : length counts ≡ 8
-  pub each : (lane : ℕ) (of : Counts) → slice_get counts lane ≡ Some of → IsCountedRun plan (lane_scenario plan number lane) lanes.netlist (lane_of lanes lane) of
+  pub each : (lane : ℕ) (of : Counts) → slice_get counts lane ≡ Some of
+      → IsCountedRun plan (lane_scenario plan number lane) lanes.netlist (lane_of lanes lane) of
   pub is_text : text ≡ campaign_text number counts
 
 -- it tells what is counted of eight simulations on a module, in each lane of the scenario that is drawn for it
 pub record IsTextOfModule (plan : PlanTable) (number : ℕ) (netlist : Netlist) (text : List ℕ) : Type 0 where
   pub counts : List Counts
   pub count : length counts ≡ 8
-  pub each : (lane : ℕ) (of : Counts) → slice_get counts lane ≡ Some of → AreCounts plan (lane_scenario plan number lane) netlist of
+  pub each : (lane : ℕ) (of : Counts) → slice_get counts lane ≡ Some of
+      → AreCounts plan (lane_scenario plan number lane) netlist of
   pub is_text : text ≡ campaign_text number counts
 
 -- it tells that of a module of the plan that files state
@@ -88,7 +92,8 @@ pub record IsToldWhole (plan : PlanTable) (number : ℕ) (lanes : LanesValue) (h
   pub whole : holds ≡ with_more held text
 
 -- it holds a proper part of it, and counts a fault
-pub record IsToldInPart (plan : PlanTable) (number : ℕ) (lanes : LanesValue) (held holds : Option (List ℕ)) (first faults : ℕ) : Type 0 where
+pub record IsToldInPart (plan : PlanTable) (number : ℕ) (lanes : LanesValue) (held holds : Option (List ℕ))
+    (first faults : ℕ) : Type 0 where
   pub text : List ℕ
   pub is_text : IsTextOfLanes plan number lanes text
   pub count : ℕ

@@ -50,7 +50,8 @@ pub record IsTooLong (files : List (List ℕ)) (bytes : List ℕ) (cycles count 
 -- why transactions are not done; want of memory is no reason
 abbrev pub IsBridgeFault : List (List ℕ) → List ℕ → ℕ → BridgeFault → Type 0
 IsBridgeFault files bytes cycles (fault.SystemRefused refusal) = IsRefusedBy files refusal
-IsBridgeFault files bytes cycles (fault.PacketRefused byte rule) = ((byte ≡ 0) × (rule ≡ 8) × IsUnfit files) ⊎ IsFaultyStream files bytes byte rule
+IsBridgeFault files bytes cycles (fault.PacketRefused byte rule) =
+    ((byte ≡ 0) × (rule ≡ 8) × IsUnfit files) ⊎ IsFaultyStream files bytes byte rule
 IsBridgeFault files bytes cycles (fault.TooManyValues count) = IsTooLong files bytes cycles count
 IsBridgeFault files bytes cycles fault.NoMemory = ⊥
 

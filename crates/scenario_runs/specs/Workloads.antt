@@ -14,7 +14,8 @@ use Rattle.simulations.specs.Traces.{AreCounts}
 
 abbrev pub workload_line : ℕ → ℕ → Counts → List ℕ
 workload_line number weight counts =
-    codes "workload " ++ decimal number ++ codes " weight " ++ decimal weight ++ codes " taken " ++ decimal counts.taken ++ codes " answered " ++ decimal counts.answered
+    codes "workload " ++ decimal number ++ codes " weight " ++ decimal weight ++ codes " taken " ++ decimal counts.taken
+    ++ codes " answered " ++ decimal counts.answered
     ++ codes " delivered " ++ decimal counts.delivered ++ codes " dropped " ++ decimal counts.dropped ++ codes "\n"
 
 -- the counts are those of a simulation of a scenario on a module of a plan

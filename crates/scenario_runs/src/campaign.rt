@@ -72,7 +72,8 @@ pub fn prepare_campaign(alloc: Global, files: &[Bytes], number: u32) -> Result<C
 /// What is drawn for the eight lanes of a number.
 fn draw_scenarios(alloc: Global, plan: &Plan, number: u32) -> Result<Vec<Scenario>, NoMemory>
     ensures drawn { IfOk result (λ scenarios. scenarios.items ≡ lane_scenarios plan.now number) }
-    ensures fit { IfOk result (λ scenarios. (j : ℕ) (scenario : Stated) → slice_get scenarios.items j ≡ Some scenario → IsScenario plan.now.system scenario) }
+    ensures fit { IfOk result (λ scenarios. (j : ℕ) (scenario : Stated) → slice_get scenarios.items j ≡ Some scenario
+        → IsScenario plan.now.system scenario) }
 {
     let mut scenarios = Vec::new(alloc);
     for lane in 0..8 {
@@ -148,7 +149,8 @@ fn campaign_text(number: u32, counts: &[Counts]) -> ArrayVec<u8, 2048>
     text
 }
 
-/// Runs lanes that have not stepped, each for 256 cycles on the scenario that is drawn for it and this number, and writes the lines that tell of them:
+/// Runs lanes that have not stepped, each for 256 cycles on the scenario that is drawn for it and this number, and writes the
+/// lines that tell of them:
 /// `Done`, or `WriteFault` where they could not be written whole. At `NoMemory` no lane has stepped and nothing is written.
 pub fn campaign_module<K: Sink>(
     alloc: Global,
@@ -162,7 +164,8 @@ pub fn campaign_module<K: Sink>(
     requires unstepped { AreUnstepped lanes.old }
     requires ports { AreTold plan.now.system ports.now }
     ensures netlist { lanes.new.netlist ≡ lanes.old.netlist }
-    ensures ends { EndsCampaign plan.now number lanes.new (K.held sink.old) (K.held sink.new) (K.faults sink.old) (K.faults sink.new) result }
+    ensures ends { EndsCampaign plan.now number lanes.new (K.held sink.old) (K.held sink.new) (K.faults sink.old)
+        (K.faults sink.new) result }
     ensures lanes_stand { result ≡ WantOfMemory → lanes.new ≡ lanes.old }
     ensures nothing { result ≡ WantOfMemory → sink.new ≡ sink.old }
     ensures grows { K.faults sink.old ≤ K.faults sink.new }

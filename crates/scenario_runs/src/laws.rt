@@ -9,9 +9,12 @@ use system_plan::accepted_or_refused;
 
 /// A scenario is simulated on the system of files or refused, never both, and for one reason.
 pub fn simulated_or_refused()
-    ensures either { (files : List (List ℕ)) (bytes : List ℕ) → 1 ≤ length files → CanSimulate files bytes ⊎ ((fault : Fault) × IsSimulateFault files bytes fault) }
-    ensures never_both { (files : List (List ℕ)) (bytes : List ℕ) (fault : Fault) → CanSimulate files bytes → ¬ IsSimulateFault files bytes fault }
-    ensures one_fault { (files : List (List ℕ)) (bytes : List ℕ) (one other : Fault) → IsSimulateFault files bytes one → IsSimulateFault files bytes other → one ≡ other }
+    ensures either { (files : List (List ℕ)) (bytes : List ℕ) → 1 ≤ length files
+        → CanSimulate files bytes ⊎ ((fault : Fault) × IsSimulateFault files bytes fault) }
+    ensures never_both { (files : List (List ℕ)) (bytes : List ℕ) (fault : Fault) → CanSimulate files bytes
+        → ¬ IsSimulateFault files bytes fault }
+    ensures one_fault { (files : List (List ℕ)) (bytes : List ℕ) (one other : Fault) → IsSimulateFault files bytes one
+        → IsSimulateFault files bytes other → one ≡ other }
 {
     accepted_or_refused();
     scenario_or_fault();

@@ -35,7 +35,12 @@ pub record IsScenario (system : SystemTable) (scenario : Scenario) : Type 0 wher
   pub agents : length scenario.agents ≡ length (agents_of system)
   pub sources : length scenario.sources ≡ length (stream_connections system)
   pub sinks : length scenario.sinks ≡ length (stream_connections system)
-  pub at_hosts : (h : ℕ) (port : HostPort) (script : List HostStatement) → IsHostAt system h port → slice_get scenario.hosts h ≡ Some script → IsHostScript port script
-  pub at_agents : (a : ℕ) (port : AgentPort) (script : List AgentStatement) → IsAgentAt system a port → slice_get scenario.agents a ≡ Some script → IsAgentScript port script
-  pub at_sources : (s : ℕ) (link : StreamConnection) (script : List SourceStatement) → slice_get (stream_connections system) s ≡ Some link → slice_get scenario.sources s ≡ Some script → IsSourceScript link.source script
-  pub at_sinks : (s : ℕ) (link : StreamConnection) (script : List Pattern) → slice_get (stream_connections system) s ≡ Some link → slice_get scenario.sinks s ≡ Some script → IsSinkScript link.sink script
+  pub at_hosts : (h : ℕ) (port : HostPort) (script : List HostStatement) → IsHostAt system h port
+      → slice_get scenario.hosts h ≡ Some script → IsHostScript port script
+  pub at_agents : (a : ℕ) (port : AgentPort) (script : List AgentStatement) → IsAgentAt system a port
+      → slice_get scenario.agents a ≡ Some script → IsAgentScript port script
+  pub at_sources : (s : ℕ) (link : StreamConnection) (script : List SourceStatement)
+      → slice_get (stream_connections system) s ≡ Some link → slice_get scenario.sources s ≡ Some script
+      → IsSourceScript link.source script
+  pub at_sinks : (s : ℕ) (link : StreamConnection) (script : List Pattern) → slice_get (stream_connections system) s ≡ Some link
+      → slice_get scenario.sinks s ≡ Some script → IsSinkScript link.sink script

@@ -1,4 +1,5 @@
-//! What a scenario states: what hosts and sources do in a simulation, when agents and sinks stall, and what agents hold and answer.
+//! What a scenario states: what hosts and sources do in a simulation, when agents and sinks stall, and what agents hold and
+//! answer.
 #![tactic(auto)]
 
 mod laws;

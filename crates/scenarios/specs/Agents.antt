@@ -38,7 +38,8 @@ fill_of words = Fill (hexadecimal_in (word_at 2 words)) (bytes_in (word_at 3 wor
 
 unfoldable pub fill_in : SoFar → Named AgentPort → List (List ℕ) → Reading
 fill_in so_far agent words =
-    judged (fill_rule agent.port (is_early so_far) (length (script_at agent.number so_far.agents)) words) (with_agent agent.number (fill_of words) so_far)
+    judged (fill_rule agent.port (is_early so_far) (length (script_at agent.number so_far.agents)) words)
+    (with_agent agent.number (fill_of words) so_far)
 
 -- ---- `code AGENT OFFSET CODE`
 
@@ -62,7 +63,8 @@ code_of words = Code (hexadecimal_in (word_at 2 words)) (hexadecimal_in (word_at
 
 unfoldable pub code_in : SoFar → Named AgentPort → List (List ℕ) → Reading
 code_in so_far agent words =
-    judged (code_rule agent.port (is_early so_far) (length (script_at agent.number so_far.agents)) words) (with_agent agent.number (code_of words) so_far)
+    judged (code_rule agent.port (is_early so_far) (length (script_at agent.number so_far.agents)) words)
+    (with_agent agent.number (code_of words) so_far)
 
 -- ---- `stall END PATTERN`, of an end that has room for one or none
 
@@ -82,11 +84,13 @@ has_stall script = nat_lt 0 (length (stalls_of script))
 unfoldable pub agent_stall_in : SoFar → Named AgentPort → List (List ℕ) → Reading
 agent_stall_in so_far agent words =
     let script = script_at agent.number so_far.agents in
-    judged (stall_rule (is_early so_far) (is_full (length script) || has_stall script) words) (with_agent agent.number (Stall (pattern_of words)) so_far)
+    judged (stall_rule (is_early so_far) (is_full (length script) || has_stall script) words)
+    (with_agent agent.number (Stall (pattern_of words)) so_far)
 
 unfoldable pub sink_stall_in : SoFar → Named StreamPort → List (List ℕ) → Reading
 sink_stall_in so_far sink words =
-    judged (stall_rule (is_early so_far) (nat_lt 0 (length (script_at sink.number so_far.sinks))) words) (with_sink sink.number (pattern_of words) so_far)
+    judged (stall_rule (is_early so_far) (nat_lt 0 (length (script_at sink.number so_far.sinks))) words)
+    (with_sink sink.number (pattern_of words) so_far)
 
 -- ---- `latency AGENT CYCLES`
 
@@ -107,7 +111,8 @@ latency_rule early no_room words = first_broken
 unfoldable pub latency_in : SoFar → Named AgentPort → List (List ℕ) → Reading
 latency_in so_far agent words =
     let script = script_at agent.number so_far.agents in
-    judged (latency_rule (is_early so_far) (is_full (length script) || has_latency script) words) (with_agent agent.number (Latency (count_in (word_at 2 words))) so_far)
+    judged (latency_rule (is_early so_far) (is_full (length script) || has_latency script) words)
+    (with_agent agent.number (Latency (count_in (word_at 2 words))) so_far)
 
 -- ---- statements that break no rule
 

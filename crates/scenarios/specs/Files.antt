@@ -28,7 +28,8 @@ gone_on number (Err rule) later = Err (number, rule)
 -- what lines state, the first of which has this number
 abbrev pub lines_in : SystemTable → ℕ → SoFar → List (List ℕ) → FileReading
 lines_in system number so_far [] = at_end number (scenario_of so_far)
-lines_in system number so_far (line ∷ others) = gone_on number (line_in system so_far line) (λ next. lines_in system (number + 1) next others)
+lines_in system number so_far (line ∷ others) =
+    gone_on number (line_in system so_far line) (λ next. lines_in system (number + 1) next others)
 
 unfoldable pub file_in : SystemTable → List ℕ → FileReading
 file_in system bytes = lines_in system 1 (blank system) (lines bytes)
@@ -47,7 +48,8 @@ IsFaultOf system bytes NoMemory = true ≡ true
 -- lines lead from what was stated before them to what is stated behind them, where none of them breaks a rule
 abbrev pub Leads : SystemTable → SoFar → List (List ℕ) → SoFar → Type 0
 Leads system so_far [] after = so_far ≡ after
-Leads system so_far (line ∷ others) after = (next : SoFar) × (line_in system so_far line ≡ Ok next) × Leads system next others after
+Leads system so_far (line ∷ others) after =
+    (next : SoFar) × (line_in system so_far line ≡ Ok next) × Leads system next others after
 
 -- the line behind others breaks the rule, or there is none and nothing was said of cycles
 abbrev pub IsBrokenBy : SystemTable → SoFar → Option (List ℕ) → ScenarioRule → Type 0

@@ -38,7 +38,8 @@ abbrev pub fits_word : HostPort → List ℕ → Bool
 fits_word port text = nat_lt (hexadecimal_in text) (2 ^ word_bits port)
 
 abbrev pub fits_command : HostPort → List (List ℕ) → Bool
-fits_command port words = fits_address port (hexadecimal_in (word_at 2 words)) && fits_enables port (hexadecimal_in (word_at 3 words))
+fits_command port words =
+    fits_address port (hexadecimal_in (word_at 2 words)) && fits_enables port (hexadecimal_in (word_at 3 words))
 
 -- so many words by one command
 abbrev pub is_burst : HostPort → ℕ → Bool
@@ -47,7 +48,8 @@ is_burst port count = nat_le 1 count && nat_le count (longest_of port)
 -- ---- `write HOST ADDRESS ENABLES WORD ..`
 
 abbrev pub spells_write : List (List ℕ) → Bool
-spells_write words = is_hexadecimal (word_at 2 words) && (is_hexadecimal (word_at 3 words) && list_all is_hexadecimal (drop 4 words))
+spells_write words =
+    is_hexadecimal (word_at 2 words) && (is_hexadecimal (word_at 3 words) && list_all is_hexadecimal (drop 4 words))
 
 abbrev pub can_write : HostPort → ℕ → Bool
 can_write port beats = port.writes && is_burst port beats
@@ -67,7 +69,8 @@ write_of words = Write (hexadecimal_in (word_at 2 words)) (hexadecimal_in (word_
 
 unfoldable pub write_in : SoFar → Named HostPort → List (List ℕ) → Reading
 write_in so_far host words =
-    judged (write_rule host.port (is_early so_far) (length (script_at host.number so_far.hosts)) words) (with_host host.number (write_of words) so_far)
+    judged (write_rule host.port (is_early so_far) (length (script_at host.number so_far.hosts)) words)
+    (with_host host.number (write_of words) so_far)
 
 -- ---- `read HOST ADDRESS ENABLES COUNT`
 
@@ -91,7 +94,8 @@ read_of words = Read (hexadecimal_in (word_at 2 words)) (hexadecimal_in (word_at
 
 unfoldable pub read_in : SoFar → Named HostPort → List (List ℕ) → Reading
 read_in so_far host words =
-    judged (read_rule host.port (is_early so_far) (length (script_at host.number so_far.hosts)) words) (with_host host.number (read_of words) so_far)
+    judged (read_rule host.port (is_early so_far) (length (script_at host.number so_far.hosts)) words)
+    (with_host host.number (read_of words) so_far)
 
 -- ---- `idle HOST CYCLES`, and `gap SOURCE CYCLES`
 
@@ -105,7 +109,8 @@ rest_rule early count words = first_broken
 
 unfoldable pub idle_in : SoFar → Named HostPort → List (List ℕ) → Reading
 idle_in so_far host words =
-    judged (rest_rule (is_early so_far) (length (script_at host.number so_far.hosts)) words) (with_host host.number (Idle (count_in (word_at 2 words))) so_far)
+    judged (rest_rule (is_early so_far) (length (script_at host.number so_far.hosts)) words)
+    (with_host host.number (Idle (count_in (word_at 2 words))) so_far)
 
 -- ---- commands that break no rule
 

@@ -72,8 +72,11 @@ stream_port Start link = link.source
 stream_port End link = link.sink
 
 abbrev pub stream_at : SystemTable → Side → ℕ → Option (Named StreamPort)
-stream_at system side number = option_and_then (λ link. numbered number (Some (stream_port side link))) (slice_get (stream_connections system) number)
+stream_at system side number =
+    option_and_then (λ link. numbered number (Some (stream_port side link))) (slice_get (stream_connections system) number)
 
 -- the source, or the sink, that a word names, with the number of its stream
 unfoldable pub stream_named : SystemTable → Side → List ℕ → Option (Named StreamPort)
-stream_named system side word = option_and_then (stream_at system side) (position (λ (link : StreamConnection). bytes_eq (end_name system (stream_end side link)) word) (stream_connections system))
+stream_named system side word =
+    option_and_then (stream_at system side)
+    (position (λ (link : StreamConnection). bytes_eq (end_name system (stream_end side link)) word) (stream_connections system))

@@ -48,7 +48,8 @@ stall_by so_far words (Some agent) sink = where_there agent.port.waitrequest (ag
 stall_by so_far words None sink = at_one sink (λ one. where_there one.port.ready (sink_stall_in so_far one words))
 
 abbrev pub stall_at : SystemTable → SoFar → List (List ℕ) → Reading
-stall_at system so_far words = stall_by so_far words (agent_named system (word_at 1 words)) (stream_named system End (word_at 1 words))
+stall_at system so_far words =
+    stall_by so_far words (agent_named system (word_at 1 words)) (stream_named system End (word_at 1 words))
 
 -- a code comes by `response`, and a latency counts where words come with `readdatavalid`
 abbrev pub statement_in : SystemTable → SoFar → List (List ℕ) → Keyword → Reading
@@ -57,17 +58,21 @@ statement_in system so_far words Write = at_one (host_named system (word_at 1 wo
 statement_in system so_far words Read = at_one (host_named system (word_at 1 words)) (λ host. read_in so_far host words)
 statement_in system so_far words Idle = at_one (host_named system (word_at 1 words)) (λ host. idle_in so_far host words)
 statement_in system so_far words Fill = at_one (agent_named system (word_at 1 words)) (λ agent. fill_in so_far agent words)
-statement_in system so_far words Code = at_one (agent_named system (word_at 1 words)) (λ agent. where_there agent.port.response (code_in so_far agent words))
+statement_in system so_far words Code =
+    at_one (agent_named system (word_at 1 words)) (λ agent. where_there agent.port.response (code_in so_far agent words))
 statement_in system so_far words Stall = stall_at system so_far words
-statement_in system so_far words Latency = at_one (agent_named system (word_at 1 words)) (λ agent. where_there agent.port.readdatavalid (latency_in so_far agent words))
-statement_in system so_far words Beat = at_one (stream_named system Start (word_at 1 words)) (λ source. beat_in so_far source words)
+statement_in system so_far words Latency =
+    at_one (agent_named system (word_at 1 words)) (λ agent. where_there agent.port.readdatavalid (latency_in so_far agent words))
+statement_in system so_far words Beat =
+    at_one (stream_named system Start (word_at 1 words)) (λ source. beat_in so_far source words)
 statement_in system so_far words Gap = at_one (stream_named system Start (word_at 1 words)) (λ source. gap_in so_far source words)
 
 -- ---- a line
 
 abbrev pub by_keyword : SystemTable → SoFar → List (List ℕ) → Option Keyword → Reading
 by_keyword system so_far words None = Err Statements
-by_keyword system so_far words (Some keyword) = if fits_words keyword (length words) then statement_in system so_far words keyword else Err Words
+by_keyword system so_far words (Some keyword) =
+    if fits_words keyword (length words) then statement_in system so_far words keyword else Err Words
 
 unfoldable pub words_in : SystemTable → SoFar → List (List ℕ) → Reading
 words_in system so_far words = by_keyword system so_far words (keyword_in (first_word words))

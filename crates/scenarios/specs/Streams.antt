@@ -20,7 +20,9 @@ use Rattle.scenarios.specs.Hosts.{is_full, rest_rule}
 
 abbrev pub spells_beat : List (List ℕ) → Bool
 spells_beat words =
-    is_hexadecimal (word_at 2 words) && (is_hexadecimal (word_at 3 words) && (is_hexadecimal (word_at 4 words) && (is_some (flags_in (word_at 5 words)) && is_hexadecimal (word_at 6 words))))
+    is_hexadecimal (word_at 2 words)
+    && (is_hexadecimal (word_at 3 words)
+    && (is_hexadecimal (word_at 4 words) && (is_some (flags_in (word_at 5 words)) && is_hexadecimal (word_at 6 words))))
 
 abbrev pub flags_of : List (List ℕ) → Flags
 flags_of words = unwrap_or (flags_in (word_at 5 words)) (record { first = false; last = false })
@@ -44,7 +46,8 @@ fits_empty port empty = nat_lt empty (2 ^ port.empty_bits) && nat_lt empty port.
 
 abbrev pub fits_ports : StreamPort → SourceBeat → Bool
 fits_ports port beat =
-    nat_lt beat.word (2 ^ (port.symbols * port.symbol_bits)) && (fits_channel port beat.channel && (nat_lt beat.error (2 ^ port.error_bits) && fits_empty port beat.empty))
+    nat_lt beat.word (2 ^ (port.symbols * port.symbol_bits))
+    && (fits_channel port beat.channel && (nat_lt beat.error (2 ^ port.error_bits) && fits_empty port beat.empty))
 
 -- the channel of the packet that is open behind statements; none where none is open
 abbrev pub opened_by : Option ℕ → List SourceStatement → Option ℕ
@@ -75,13 +78,15 @@ beat_rule port early script words = first_broken
 
 unfoldable pub beat_in : SoFar → Named StreamPort → List (List ℕ) → Reading
 beat_in so_far source words =
-    judged (beat_rule source.port (is_early so_far) (script_at source.number so_far.sources) words) (with_source source.number (Beat (beat_of words)) so_far)
+    judged (beat_rule source.port (is_early so_far) (script_at source.number so_far.sources) words)
+    (with_source source.number (Beat (beat_of words)) so_far)
 
 -- ---- `gap SOURCE CYCLES`
 
 unfoldable pub gap_in : SoFar → Named StreamPort → List (List ℕ) → Reading
 gap_in so_far source words =
-    judged (rest_rule (is_early so_far) (length (script_at source.number so_far.sources)) words) (with_source source.number (Gap (count_in (word_at 2 words))) so_far)
+    judged (rest_rule (is_early so_far) (length (script_at source.number so_far.sources)) words)
+    (with_source source.number (Gap (count_in (word_at 2 words))) so_far)
 
 -- ---- beats whose words their ports have room for
 

@@ -46,7 +46,9 @@ small_agent = record {
 abbrev pub instance : List ℕ → List ℕ → Kind → Side → Finished → InstanceTable
 instance name interface kind side known = record {
   name = name;
-  interfaces = (let table : InterfaceTable = record { name = interface; kind = kind; side = side; clock = []; finished = known } in table) ∷ [];
+  interfaces =
+      (let table : InterfaceTable = record { name = interface; kind = kind; side = side; clock = []; finished = known } in table)
+      ∷ [];
 }
 
 abbrev pub joined : ℕ → ℕ → Kind → Connection

@@ -146,7 +146,9 @@ fn port_of(link: &StreamConnection, side: Side) -> StreamPort
 
 /// How many streams stand before the first whose end on this side has the word as its name.
 fn stream_len(plan: &Plan, side: Side, word: &[u8]) -> usize
-    ensures { result ≡ position_or_len (λ (link : Link). bytes_eq (end_name plan.now.system (stream_end side link)) word.now) (stream_connections plan.now.system) }
+    ensures { result
+        ≡ position_or_len (λ (link : Link). bytes_eq (end_name plan.now.system (stream_end side link)) word.now)
+        (stream_connections plan.now.system) }
 {
     plan.well_made();
     streams_are_numbered();

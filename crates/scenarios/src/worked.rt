@@ -16,10 +16,18 @@ ghost use Rattle.scenarios.specs.declared.faults.ScenarioFault.TheVariants.{Refu
 /// What the statements of each interface say.
 pub fn stated_files()
     ensures nothing { IsScenarioOf small_system (codes "cycles 65536") (small_scenario 65536 [] [] [] []) }
-    ensures host { IsScenarioOf small_system (codes "cycles 9\r\n# write\n\nwrite h.m fc f 1 ffffffff\nread h.m ff 0 4\nidle h.m 65536\n") (small_scenario 9 (Write 252 15 (1 ∷ 0xffffffff ∷ []) ∷ Read 255 0 4 ∷ Idle 65536 ∷ []) [] [] []) }
-    ensures agent { IsScenarioOf small_system (codes "cycles 9\nlatency a.s 255\nfill a.s 3c 00a0ff01\nstall a.s 011") (small_scenario 9 [] (Latency 255 ∷ Fill 60 (0 ∷ 160 ∷ 255 ∷ 1 ∷ []) ∷ Stall (record { stalls = false ∷ true ∷ true ∷ [] }) ∷ []) [] []) }
-    ensures coded_agent { IsScenarioOf coded_system (codes "cycles 9\ncode a.s 3f 3\nfill a.s 0 07\ncode a.s 0 0") (small_scenario 9 [] (Code 63 3 ∷ Fill 0 (7 ∷ []) ∷ Code 0 0 ∷ []) [] []) }
-    ensures stream { IsScenarioOf small_system (codes "cycles 9\nbeat o.x 1100 3 1 se 1\nbeat o.x 1122 2 0 s 0\ngap o.x 1\nbeat o.x 3300 2 0 e 1\nstall i.y 10\n") (small_scenario 9 [] [] (Beat whole_packet ∷ Beat first_beat ∷ Gap 1 ∷ Beat last_beat ∷ []) ((record { stalls = true ∷ false ∷ [] }) ∷ [])) }
+    ensures host { IsScenarioOf small_system
+        (codes "cycles 9\r\n# write\n\nwrite h.m fc f 1 ffffffff\nread h.m ff 0 4\nidle h.m 65536\n")
+        (small_scenario 9 (Write 252 15 (1 ∷ 0xffffffff ∷ []) ∷ Read 255 0 4 ∷ Idle 65536 ∷ []) [] [] []) }
+    ensures agent { IsScenarioOf small_system (codes "cycles 9\nlatency a.s 255\nfill a.s 3c 00a0ff01\nstall a.s 011")
+        (small_scenario 9 []
+        (Latency 255 ∷ Fill 60 (0 ∷ 160 ∷ 255 ∷ 1 ∷ []) ∷ Stall (record { stalls = false ∷ true ∷ true ∷ [] }) ∷ []) [] []) }
+    ensures coded_agent { IsScenarioOf coded_system (codes "cycles 9\ncode a.s 3f 3\nfill a.s 0 07\ncode a.s 0 0")
+        (small_scenario 9 [] (Code 63 3 ∷ Fill 0 (7 ∷ []) ∷ Code 0 0 ∷ []) [] []) }
+    ensures stream { IsScenarioOf small_system
+        (codes "cycles 9\nbeat o.x 1100 3 1 se 1\nbeat o.x 1122 2 0 s 0\ngap o.x 1\nbeat o.x 3300 2 0 e 1\nstall i.y 10\n")
+        (small_scenario 9 [] [] (Beat whole_packet ∷ Beat first_beat ∷ Gap 1 ∷ Beat last_beat ∷ [])
+        ((record { stalls = true ∷ false ∷ [] }) ∷ [])) }
 {}
 
 /// Lines whose words are wrong, each beside one that is read.
@@ -48,7 +56,8 @@ pub fn refused_spellings()
     ensures zero_in_front { IsFaultOf small_system (codes "cycles 9\nread h.m 0 f 01") (Refused 2 Spelling) }
     ensures capital_digit { IsFaultOf small_system (codes "cycles 9\nread h.m F f 1") (Refused 2 Spelling) }
     ensures longest_number { is_read (codes "cycles 9\nread h.m 00000000000000000000000000000000 f 1") ≡ true }
-    ensures digit_too_many { IsFaultOf small_system (codes "cycles 9\nread h.m 000000000000000000000000000000000 f 1") (Refused 2 Spelling) }
+    ensures digit_too_many { IsFaultOf small_system (codes "cycles 9\nread h.m 000000000000000000000000000000000 f 1")
+        (Refused 2 Spelling) }
     ensures even_digits { is_read (codes "cycles 9\nfill a.s 0 12") ≡ true }
     ensures odd_digits { IsFaultOf small_system (codes "cycles 9\nfill a.s 0 123") (Refused 2 Spelling) }
     ensures code_that_is_no_number { IsFaultOf coded_system (codes "cycles 9\ncode a.s 0 -1") (Refused 2 Spelling) }
@@ -66,7 +75,8 @@ pub fn refused_values()
     ensures longest_rest { is_read (codes "cycles 9\nidle h.m 65536") ≡ true }
     ensures rest_too_long { IsFaultOf small_system (codes "cycles 9\nidle h.m 65537") (Refused 2 Ranges) }
     ensures no_rest { IsFaultOf small_system (codes "cycles 9\nidle h.m 0") (Refused 2 Ranges) }
-    ensures many_digits { IsFaultOf small_system (codes "cycles 9\nidle h.m 10000000000000000000000000000000000000000") (Refused 2 Ranges) }
+    ensures many_digits { IsFaultOf small_system (codes "cycles 9\nidle h.m 10000000000000000000000000000000000000000")
+        (Refused 2 Ranges) }
     ensures last_byte { is_read (codes "cycles 9\nfill a.s 3c 00000000") ≡ true }
     ensures past_the_span { IsFaultOf small_system (codes "cycles 9\nfill a.s 3d 00000000") (Refused 2 Ranges) }
     ensures past_the_codes { IsFaultOf coded_system (codes "cycles 9\ncode a.s 0 4") (Refused 2 Ranges) }
@@ -103,8 +113,10 @@ pub fn refused_packets()
     ensures outside { IsFaultOf small_system (codes "cycles 9\nbeat o.x 0 0 0 e 0") (Refused 2 Packets) }
     ensures goes_on { is_read (codes "cycles 9\nbeat o.x 0 2 0 s 0\nbeat o.x 0 2 0 - 0") ≡ true }
     ensures begun_inside { IsFaultOf small_system (codes "cycles 9\nbeat o.x 0 2 0 s 0\nbeat o.x 0 2 0 s 0") (Refused 3 Packets) }
-    ensures another_channel { IsFaultOf small_system (codes "cycles 9\nbeat o.x 0 2 0 s 0\nbeat o.x 0 1 0 - 0") (Refused 3 Packets) }
-    ensures another_after_a_gap { IsFaultOf small_system (codes "cycles 9\nbeat o.x 0 2 0 s 0\ngap o.x 5\nbeat o.x 0 1 0 - 0") (Refused 4 Packets) }
+    ensures another_channel { IsFaultOf small_system (codes "cycles 9\nbeat o.x 0 2 0 s 0\nbeat o.x 0 1 0 - 0")
+        (Refused 3 Packets) }
+    ensures another_after_a_gap { IsFaultOf small_system (codes "cycles 9\nbeat o.x 0 2 0 s 0\ngap o.x 5\nbeat o.x 0 1 0 - 0")
+        (Refused 4 Packets) }
     ensures empty_in_the_middle { IsFaultOf small_system (codes "cycles 9\nbeat o.x 0 2 0 s 1") (Refused 2 Packets) }
 {}
 

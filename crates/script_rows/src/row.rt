@@ -242,7 +242,8 @@ pub fn files_of(
     Ok((files, mark))
 }
 
-/// The command, and a word for each file. A workload and a module have the numbers that are their texts in place of files, and so has a
+/// The command, and a word for each file. A workload and a module have the numbers that are their texts in place of files, and so
+/// has a
 /// campaign or a bridge in place of the first one.
 pub fn words_of(alloc: Global, row: &Row) -> Result<Vec<String>, AllocError> {
     let mut words = Vec::new(alloc);

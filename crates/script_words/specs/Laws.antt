@@ -23,7 +23,8 @@ use Rattle.script_words.specs.Kinds.{same_kind, role_named, property_named, know
 use Rattle.script_words.specs.Words.{refusal_of}
 
 -- where an item stands, seen through a map
-pub prefix_len-map : {A B : Type 0} (p : B → Bool) (f : A → B) (xs : List A) → prefix_len p (map f xs) ≡ prefix_len (λ x. p (f x)) xs
+pub prefix_len-map : {A B : Type 0} (p : B → Bool) (f : A → B) (xs : List A)
+    → prefix_len p (map f xs) ≡ prefix_len (λ x. p (f x)) xs
 prefix_len-map p f [] = refl
 prefix_len-map p f (x ∷ xs) = ap (λ (n : ℕ). cond (p (f x)) (1 + n) 0) (prefix_len-map p f xs)
 
@@ -45,7 +46,8 @@ goes_to_end : (b : Bool) (n m : ℕ) → nat_lt n m ≡ b → n ≤ m → IsNone
 goes_to_end true n m e l h = cc
 goes_to_end false n m e l h = grind (arith, nat_tests)
 
-pub none_passes : {A : Type 0} (p : A → Bool) (xs : List A) → IsNone (position p xs) → (position_or_len p xs ≡ length xs) × (list_any p xs ≡ false)
+pub none_passes : {A : Type 0} (p : A → Bool) (xs : List A) → IsNone (position p xs)
+    → (position_or_len p xs ≡ length xs) × (list_any p xs ≡ false)
 none_passes p xs h =
     let end : prefix_len (λ x. not (p x)) xs ≡ length xs = goes_to_end _ _ _ refl (prefix_len-le-length (λ x. not (p x)) xs) h in
     (end, fails_at_each p xs end)
@@ -57,7 +59,8 @@ position_within p xs k h =
     subst (λ n. n < length xs) parts.1 (let e = parts.0 in grind (arith, nat_tests))
 
 -- where a search finds nothing, no item passes
-pub find-fails : {X : Type 0} (p : X → Bool) (xs : List X) (k : ℕ) (x : X) → find p xs ≡ None → k < length xs → get_or xs k x ≡ x → p x ≡ false
+pub find-fails : {X : Type 0} (p : X → Bool) (xs : List X) (k : ℕ) (x : X) → find p xs ≡ None → k < length xs → get_or xs k x ≡ x
+    → p x ≡ false
 find-fails p [] k x h l e = absurd (omega arith)
 find-fails p (y ∷ ys) zero x h l e =
     elim (p y) as (λ b. p y ≡ b → cond b (Some y) (find p ys) ≡ None → p x ≡ false) [
@@ -123,7 +126,8 @@ role_Decides kind text role =
 abbrev pub is_property : Kind → List ℕ → PropertyId → Bool
 is_property kind text id = is_of (property_row id).kinds kind && is_called id text
 
-pub property_Decides : (kind : Kind) (text : List ℕ) (id : PropertyId) → Decides (is_property kind text id) (IsKnownAs kind id text)
+pub property_Decides : (kind : Kind) (text : List ℕ) (id : PropertyId)
+    → Decides (is_property kind text id) (IsKnownAs kind id text)
 property_Decides kind text id =
     let both = Decides-and (is_of (property_row id).kinds kind) (is_called id text) (λ t. t, λ t. t) (λ t. t, λ t. t) in
     (λ t. record { of_kind = (both.0 t).0; name = (both.0 t).1 }, λ h. both.1 (h.of_kind, h.name))
@@ -134,13 +138,17 @@ unfolding role_named
 role_named-kind kind text role h =
     ((role_Decides kind text role).0 (find-passes (is_role kind text) all_roles role h)).of_kind
 
-pub property_named-kind : (kind : Kind) (text : List ℕ) (id : PropertyId) → property_named kind text ≡ Known id → IsTrue (is_of (property_row id).kinds kind)
+pub property_named-kind : (kind : Kind) (text : List ℕ) (id : PropertyId) → property_named kind text ≡ Known id
+    → IsTrue (is_of (property_row id).kinds kind)
 unfolding property_named
-property_named-kind kind text id h = by (not (is_avalon kind) || is_listed text) (find (is_property kind text) all_properties) refl h
+property_named-kind kind text id h =
+    by (not (is_avalon kind) || is_listed text) (find (is_property kind text) all_properties) refl h
   where
-    by : (b : Bool) (o : Option PropertyId) → find (is_property kind text) all_properties ≡ o → cond b PassedOver (known_or_not o) ≡ Known id → IsTrue (is_of (property_row id).kinds kind)
+    by : (b : Bool) (o : Option PropertyId) → find (is_property kind text) all_properties ≡ o
+        → cond b PassedOver (known_or_not o) ≡ Known id → IsTrue (is_of (property_row id).kinds kind)
     by true o e q = cc
     by false None e q = cc
     by false (Some other) e q =
         let same : other ≡ id = cc in
-        subst (λ i. IsTrue (is_of (property_row i).kinds kind)) same ((property_Decides kind text other).0 (find-passes (is_property kind text) all_properties other e)).of_kind
+        subst (λ i. IsTrue (is_of (property_row i).kinds kind)) same
+        ((property_Decides kind text other).0 (find-passes (is_property kind text) all_properties other e)).of_kind

@@ -46,7 +46,8 @@ settled_line None line = line
 -- the first lines, a constant where a net has a value
 pub record AreSettledLines (whole : Netlist) (values : List (Option Word)) (count : ℕ) (lines : List Line) : Type 0 where
   pub few : length lines ≡ count
-  pub each : (n : ℕ) (line : Line) → n < count → slice_get whole.lines n ≡ Some line → slice_get lines n ≡ Some (settled_line (value_at values n) line)
+  pub each : (n : ℕ) (line : Line) → n < count → slice_get whole.lines n ≡ Some line
+      → slice_get lines n ≡ Some (settled_line (value_at values n) line)
   pub words : (n : ℕ) (value : Word) → n < count → value_at values n ≡ Some value → IsWord value.width value.bits
 
 -- the value that an equation gives where each register keeps its reset value

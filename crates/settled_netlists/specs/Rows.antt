@@ -10,7 +10,8 @@ low = word 1 0
 abbrev pub high : Word
 high = word 1 1
 
--- an input; a register that takes its conjunction with the input; the conjunction; a register that turns each cycle; what it turns to
+-- an input; a register that takes its conjunction with the input; the conjunction; a register that turns each cycle; what it
+-- turns to
 abbrev pub small : Netlist
 small = record {
   name = [];

@@ -61,11 +61,14 @@ HaveWidths netlist values = (n : ℕ) (value : Word) → value_at values n ≡ S
 -- the values hold each other up: each is what its net's equation gives by the others
 pub record AreSettled (netlist : Netlist) (values : List (Option Word)) : Type 0 where
   pub widths : HaveWidths netlist values
-  pub each : (n : ℕ) (line : Line) (value : Word) → slice_get netlist.lines n ≡ Some line → value_at values n ≡ Some value → given_by values line.equation ≡ Some value
+  pub each : (n : ℕ) (line : Line) (value : Word) → slice_get netlist.lines n ≡ Some line → value_at values n ≡ Some value
+      → given_by values line.equation ≡ Some value
 
 -- no values that hold each other up tell more
 abbrev pub AreAll : Netlist → List (Option Word) → Type 0
-AreAll netlist values = (others : List (Option Word)) → AreSettled netlist others → (n : ℕ) (value : Word) → value_at others n ≡ Some value → value_at values n ≡ Some value
+AreAll netlist values =
+    (others : List (Option Word)) → AreSettled netlist others → (n : ℕ) (value : Word) → value_at others n ≡ Some value
+    → value_at values n ≡ Some value
 
 -- one value at most for each net, each of its net's width, and no values that hold each other up tell more
 pub record AreBounds (netlist : Netlist) (values : List (Option Word)) : Type 0 where

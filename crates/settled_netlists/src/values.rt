@@ -93,7 +93,8 @@ fn keep_held(
     Ok(left)
 }
 
-/// For each net its value in each cycle of every run, where values alone tell it. Each round goes over the nets that have one yet, so few rounds
+/// For each net its value in each cycle of every run, where values alone tell it. Each round goes over the nets that have one
+/// yet, so few rounds
 /// are long.
 pub(crate) fn settled_values(alloc: Global, module: &Module) -> Result<Vec<Option<Val>>, NoMemory>
     ensures bounds { IfOk result (λ values. AreBounds «module».now values.items) }

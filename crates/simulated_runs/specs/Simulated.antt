@@ -31,14 +31,19 @@ use Rattle.stream_stand_ins.specs.Sources.{beat_shown, Shows, IsSourceStandIn}
 use Rattle.stream_stand_ins.specs.Sinks.{ready_in, IsSinkStandIn}
 use Rattle.simulated_runs.specs.Ends.{stream_view}
 
--- A run of a module from cleared memories in which each interface of the plan does what its script says, in the cycles before `end`
+-- A run of a module from cleared memories in which each interface of the plan does what its script says, in the cycles before
+-- `end`
 pub record IsSimulated (plan : PlanTable) (scenario : Scenario) (netlist : Netlist) (run : Run) (end : ℕ) : Type 0 where
   pub is_run : IsClearedRun netlist run end
-  pub hosts : (h : ℕ) (port : HostPort) (script : List HostStatement) → IsHostAt plan.system h port → slice_get scenario.hosts h ≡ Some script → IsHostStandIn port script (host_in plan netlist run h) end
-  pub agents : (a : ℕ) (port : AgentPort) (script : List AgentStatement) → IsAgentAt plan.system a port → slice_get scenario.agents a ≡ Some script → IsAgentStandIn port script (agent_in plan netlist run a) end
-  pub sources : (s : ℕ) (link : StreamConnection) (script : List SourceStatement) → slice_get (stream_connections plan.system) s ≡ Some link → slice_get scenario.sources s ≡ Some script
+  pub hosts : (h : ℕ) (port : HostPort) (script : List HostStatement) → IsHostAt plan.system h port
+      → slice_get scenario.hosts h ≡ Some script → IsHostStandIn port script (host_in plan netlist run h) end
+  pub agents : (a : ℕ) (port : AgentPort) (script : List AgentStatement) → IsAgentAt plan.system a port
+      → slice_get scenario.agents a ≡ Some script → IsAgentStandIn port script (agent_in plan netlist run a) end
+  pub sources : (s : ℕ) (link : StreamConnection) (script : List SourceStatement)
+      → slice_get (stream_connections plan.system) s ≡ Some link → slice_get scenario.sources s ≡ Some script
       → IsSourceStandIn link.source script (stream_view plan.system netlist run link.source_end) end
-  pub sinks : (s : ℕ) (link : StreamConnection) (script : List Pattern) → slice_get (stream_connections plan.system) s ≡ Some link → slice_get scenario.sinks s ≡ Some script
+  pub sinks : (s : ℕ) (link : StreamConnection) (script : List Pattern) → slice_get (stream_connections plan.system) s ≡ Some link
+      → slice_get scenario.sinks s ≡ Some script
       → IsSinkStandIn script (stream_view plan.system netlist run link.sink_end) end
 
 -- all components of a plan keep to what they declare, in the cycles before `end`
@@ -52,16 +57,25 @@ pub record AreLegal (plan : PlanTable) (netlist : Netlist) (run : Run) (end : �
 -- an agent shows in a cycle what its stand-in shows
 pub record AgentShows (port : AgentPort) (script : List AgentStatement) (view : AgentView) (c : ℕ) : Type 0 where
   pub waitrequest : view.waitrequest c ≡ one_if (stalls_in (stall_pattern script) c)
-  pub readdatavalid : view.readdatavalid c ≡ one_if (port.readdatavalid && is_due c (waiting_before (agent_side port) script view c))
-  pub readdata : view.readdata c ≡ (if port.readdatavalid then word_due c (waiting_before (agent_side port) script view c) else word_behind (agent_side port) script view c)
+  pub readdatavalid : view.readdatavalid c
+      ≡ one_if (port.readdatavalid && is_due c (waiting_before (agent_side port) script view c))
+  pub readdata : view.readdata c
+      ≡ (if port.readdatavalid then word_due c (waiting_before (agent_side port) script view c)
+      else word_behind (agent_side port) script view c)
   pub response : view.response c ≡ code_in port script view c
 
 -- each interface of the plan does in a cycle what its script says
 pub record AreShown (plan : PlanTable) (scenario : Scenario) (netlist : Netlist) (run : Run) (c : ℕ) : Type 0 where
-  pub hosts : (h : ℕ) (port : HostPort) (script : List HostStatement) → IsHostAt plan.system h port → slice_get scenario.hosts h ≡ Some script
-      → levels_at (host_in plan netlist run h).signals c ≡ shown port (left_before (all_steps port script) (host_in plan netlist run h).waitrequest c)
-  pub agents : (a : ℕ) (port : AgentPort) (script : List AgentStatement) → IsAgentAt plan.system a port → slice_get scenario.agents a ≡ Some script → AgentShows port script (agent_in plan netlist run a) c
-  pub sources : (s : ℕ) (link : StreamConnection) (script : List SourceStatement) → slice_get (stream_connections plan.system) s ≡ Some link → slice_get scenario.sources s ≡ Some script
-      → Shows (stream_view plan.system netlist run link.source_end) c (beat_shown link.source script (stream_view plan.system netlist run link.source_end) c)
-  pub sinks : (s : ℕ) (link : StreamConnection) (script : List Pattern) → slice_get (stream_connections plan.system) s ≡ Some link → slice_get scenario.sinks s ≡ Some script
+  pub hosts : (h : ℕ) (port : HostPort) (script : List HostStatement) → IsHostAt plan.system h port
+      → slice_get scenario.hosts h ≡ Some script
+      → levels_at (host_in plan netlist run h).signals c
+      ≡ shown port (left_before (all_steps port script) (host_in plan netlist run h).waitrequest c)
+  pub agents : (a : ℕ) (port : AgentPort) (script : List AgentStatement) → IsAgentAt plan.system a port
+      → slice_get scenario.agents a ≡ Some script → AgentShows port script (agent_in plan netlist run a) c
+  pub sources : (s : ℕ) (link : StreamConnection) (script : List SourceStatement)
+      → slice_get (stream_connections plan.system) s ≡ Some link → slice_get scenario.sources s ≡ Some script
+      → Shows (stream_view plan.system netlist run link.source_end) c
+      (beat_shown link.source script (stream_view plan.system netlist run link.source_end) c)
+  pub sinks : (s : ℕ) (link : StreamConnection) (script : List Pattern) → slice_get (stream_connections plan.system) s ≡ Some link
+      → slice_get scenario.sinks s ≡ Some script
       → (stream_view plan.system netlist run link.sink_end).ready c ≡ one_if (ready_in script c)

@@ -21,22 +21,31 @@ ghost use Rattle.stream_stand_ins.specs.Sinks.{IsSinkStandIn};
 
 /// A view that shows the same before a cycle is that of the same stand-in up to it.
 pub fn stand_ins_by_beginnings()
-    ensures hosts { (port : HostPort) (script : List HostStatement) (one two : HostView) (end : ℕ) → HostsAgree one two end → IsHostStandIn port script one end → IsHostStandIn port script two end }
-    ensures agents { (port : AgentPort) (script : List AgentStatement) (one two : AgentView) (end : ℕ) → AgentsAgree one two end → IsAgentStandIn port script one end → IsAgentStandIn port script two end }
-    ensures sources { (port : StreamPort) (script : List SourceStatement) (one two : EndView) (end : ℕ) → AgreeBefore one two end → IsSourceStandIn port script one end → IsSourceStandIn port script two end }
-    ensures sinks { (script : List Pattern) (one two : EndView) (end : ℕ) → AgreeBefore one two end → IsSinkStandIn script one end → IsSinkStandIn script two end }
+    ensures hosts { (port : HostPort) (script : List HostStatement) (one two : HostView) (end : ℕ) → HostsAgree one two end
+        → IsHostStandIn port script one end → IsHostStandIn port script two end }
+    ensures agents { (port : AgentPort) (script : List AgentStatement) (one two : AgentView) (end : ℕ) → AgentsAgree one two end
+        → IsAgentStandIn port script one end → IsAgentStandIn port script two end }
+    ensures sources { (port : StreamPort) (script : List SourceStatement) (one two : EndView) (end : ℕ) → AgreeBefore one two end
+        → IsSourceStandIn port script one end → IsSourceStandIn port script two end }
+    ensures sinks { (script : List Pattern) (one two : EndView) (end : ℕ) → AgreeBefore one two end → IsSinkStandIn script one end
+        → IsSinkStandIn script two end }
 {}
 
 /// What stand-ins keep as a cycle begins is the same where the views show the same before it.
 pub fn states_by_beginnings()
-    ensures hosts { (steps : List Step) (one two : HostView) (end : ℕ) → HostsAgree one two end → left_before steps one.waitrequest end ≡ left_before steps two.waitrequest end }
-    ensures agents { (script : List AgentStatement) (agent : AgentStandInValue) (one two : AgentView) → AgentsAgree one two agent.cycle → StandsFor script agent one → StandsFor script agent two }
-    ensures sources { (port : StreamPort) (script : List SourceStatement) (one two : EndView) (end : ℕ) → AgreeBefore one two end → keeping_at port script one end ≡ keeping_at port script two end }
+    ensures hosts { (steps : List Step) (one two : HostView) (end : ℕ) → HostsAgree one two end
+        → left_before steps one.waitrequest end ≡ left_before steps two.waitrequest end }
+    ensures agents { (script : List AgentStatement) (agent : AgentStandInValue) (one two : AgentView)
+        → AgentsAgree one two agent.cycle → StandsFor script agent one → StandsFor script agent two }
+    ensures sources { (port : StreamPort) (script : List SourceStatement) (one two : EndView) (end : ℕ) → AgreeBefore one two end
+        → keeping_at port script one end ≡ keeping_at port script two end }
 {}
 
 /// What an agent takes in a cycle is the same where the views show the same up to it.
 pub fn taken_by_beginnings()
-    ensures accepted { (side : AgentSide) (one two : AgentView) (end c : ℕ) → AgentsAgree one two end → c < end → agent_accepts side one c ≡ agent_accepts side two c }
+    ensures accepted { (side : AgentSide) (one two : AgentView) (end c : ℕ) → AgentsAgree one two end → c < end
+        → agent_accepts side one c ≡ agent_accepts side two c }
     ensures transfer { (side : AgentSide) (one two : AgentView) (end c : ℕ) → AgentsAgree one two end → c < end
-        → transfer_at side.shape one.signals (agent_accepts side one) c ≡ transfer_at side.shape two.signals (agent_accepts side two) c }
+        → transfer_at side.shape one.signals (agent_accepts side one) c
+        ≡ transfer_at side.shape two.signals (agent_accepts side two) c }
 {}

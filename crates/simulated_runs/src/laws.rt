@@ -24,7 +24,8 @@ use stream_stand_ins::stand_in_sources_are_legal;
 
 /// Whatever a module does, hosts, agents and sources that follow a scenario of the plan keep to what they declare.
 pub fn simulated_runs_are_legal()
-    ensures { (plan : PlanTable) (scenario : Scenario) (netlist : Netlist) (run : Run) (end : ℕ) → IsPlan plan → IsScenario plan.system scenario
+    ensures { (plan : PlanTable) (scenario : Scenario) (netlist : Netlist) (run : Run) (end : ℕ) → IsPlan plan
+        → IsScenario plan.system scenario
         → IsSimulated plan scenario netlist run end → AreLegal plan netlist run end }
 {
     ends_are_known();
@@ -35,16 +36,23 @@ pub fn simulated_runs_are_legal()
 
 /// A simulation goes on by a cycle in which each interface does what its script says.
 pub fn simulations_go_on()
-    ensures { (plan : PlanTable) (scenario : Scenario) (netlist : Netlist) (run : Run) (c : ℕ) (cycle : Cycle) → IsSimulated plan scenario netlist run c
-        → IsClearedRun netlist (with_cycle run c cycle) (suc c) → AreShown plan scenario netlist (with_cycle run c cycle) c → IsSimulated plan scenario netlist (with_cycle run c cycle) (suc c) }
+    ensures { (plan : PlanTable) (scenario : Scenario) (netlist : Netlist) (run : Run) (c : ℕ) (cycle : Cycle)
+        → IsSimulated plan scenario netlist run c
+        → IsClearedRun netlist (with_cycle run c cycle) (suc c) → AreShown plan scenario netlist (with_cycle run c cycle) c
+        → IsSimulated plan scenario netlist (with_cycle run c cycle) (suc c) }
 {
     stand_ins_by_beginnings();
 }
 
 /// A run with another cycle at one place shows the same at all ports before it.
 pub fn earlier_cycles_stay()
-    ensures hosts { (plan : PlanTable) (netlist : Netlist) (run : Run) (c : ℕ) (cycle : Cycle) (h : ℕ) → HostsAgree (host_in plan netlist run h) (host_in plan netlist (with_cycle run c cycle) h) c }
-    ensures agents { (plan : PlanTable) (netlist : Netlist) (run : Run) (c : ℕ) (cycle : Cycle) (a : ℕ) → AgentsAgree (agent_in plan netlist run a) (agent_in plan netlist (with_cycle run c cycle) a) c }
-    ensures streams { (plan : PlanTable) (netlist : Netlist) (run : Run) (c : ℕ) (cycle : Cycle) (end : EndId) → AgreeBefore (stream_view plan.system netlist run end) (stream_view plan.system netlist (with_cycle run c cycle) end) c }
-    ensures dropped { (plan : PlanTable) (netlist : Netlist) (run : Run) (c : ℕ) (cycle : Cycle) (end : EndId) (k : ℕ) → k < c → dropped_signal netlist run (name_at plan.system end) k ≡ dropped_signal netlist (with_cycle run c cycle) (name_at plan.system end) k }
+    ensures hosts { (plan : PlanTable) (netlist : Netlist) (run : Run) (c : ℕ) (cycle : Cycle) (h : ℕ)
+        → HostsAgree (host_in plan netlist run h) (host_in plan netlist (with_cycle run c cycle) h) c }
+    ensures agents { (plan : PlanTable) (netlist : Netlist) (run : Run) (c : ℕ) (cycle : Cycle) (a : ℕ)
+        → AgentsAgree (agent_in plan netlist run a) (agent_in plan netlist (with_cycle run c cycle) a) c }
+    ensures streams { (plan : PlanTable) (netlist : Netlist) (run : Run) (c : ℕ) (cycle : Cycle) (end : EndId)
+        → AgreeBefore (stream_view plan.system netlist run end) (stream_view plan.system netlist (with_cycle run c cycle) end) c }
+    ensures dropped { (plan : PlanTable) (netlist : Netlist) (run : Run) (c : ℕ) (cycle : Cycle) (end : EndId) (k : ℕ) → k < c
+        → dropped_signal netlist run (name_at plan.system end) k
+        ≡ dropped_signal netlist (with_cycle run c cycle) (name_at plan.system end) k }
 {}

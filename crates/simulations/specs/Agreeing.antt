@@ -15,4 +15,5 @@ use Rattle.simulated_runs.specs.Ends.{stream_view}
 pub record InterfacesAgree (plan : PlanTable) (netlist : Netlist) (one two : Run) (end : ℕ) : Type 0 where
   pub memory : RunsAgreeBefore (module_run plan netlist one) (module_run plan netlist two) end
   pub streams : (at : EndId) → AgreeBefore (stream_view plan.system netlist one at) (stream_view plan.system netlist two at) end
-  pub dropped : (at : EndId) (k : ℕ) → k < end → dropped_signal netlist one (name_at plan.system at) k ≡ dropped_signal netlist two (name_at plan.system at) k
+  pub dropped : (at : EndId) (k : ℕ) → k < end
+      → dropped_signal netlist one (name_at plan.system at) k ≡ dropped_signal netlist two (name_at plan.system at) k

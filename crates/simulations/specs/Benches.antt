@@ -47,7 +47,8 @@ sets_with words agent = agent_levels agent.places (levels_with agent (words agen
 
 -- what all components set in a cycle, where the agents' words are these
 abbrev pub all_levels : BenchValue → (BenchAgentValue → CodedWord) → List Level
-all_levels bench words = flat_map of_hosts.sets bench.hosts ++ flat_map (sets_with words) bench.agents ++ flat_map of_streams.sets bench.streams
+all_levels bench words =
+    flat_map of_hosts.sets bench.hosts ++ flat_map (sets_with words) bench.agents ++ flat_map of_streams.sets bench.streams
 
 -- ---- what is simulated
 
@@ -62,12 +63,14 @@ pub record IsSetUp (plan : PlanTable) (scenario : Scenario) (netlist : Netlist) 
 -- ---- as a cycle begins
 
 -- a host stands where a run has brought it
-pub record HostStands (plan : PlanTable) (netlist : Netlist) (run : Run) (c h : ℕ) (script : List HostStatement) (host : BenchHostValue) : Type 0 where
+pub record HostStands (plan : PlanTable) (netlist : Netlist) (run : Run) (c h : ℕ) (script : List HostStatement)
+    (host : BenchHostValue) : Type 0 where
   pub of : IsHostOf plan.system h host
   pub left : host.stand_in.left ≡ left_before (all_steps host.stand_in.port script) (host_in plan netlist run h).waitrequest c
 
 -- so does an agent, with room for so many cycles in all
-pub record AgentStands (plan : PlanTable) (netlist : Netlist) (run : Run) (c cycles a : ℕ) (script : List AgentStatement) (agent : BenchAgentValue) : Type 0 where
+pub record AgentStands (plan : PlanTable) (netlist : Netlist) (run : Run) (c cycles a : ℕ) (script : List AgentStatement)
+    (agent : BenchAgentValue) : Type 0 where
   pub of : IsAgentOf plan.system a agent
   pub cycle : agent.stand_in.cycle ≡ c
   pub cycles_are : agent.stand_in.cycles ≡ cycles
@@ -75,21 +78,27 @@ pub record AgentStands (plan : PlanTable) (netlist : Netlist) (run : Run) (c cyc
   pub stands : AgentStandsFor script agent.stand_in (agent_in plan netlist run a)
 
 -- and a stream
-pub record StreamStands (plan : PlanTable) (netlist : Netlist) (run : Run) (c s : ℕ) (statements : List SourceStatement) (script : List Pattern) (stream : BenchStreamValue) : Type 0 where
+pub record StreamStands (plan : PlanTable) (netlist : Netlist) (run : Run) (c s : ℕ) (statements : List SourceStatement)
+    (script : List Pattern) (stream : BenchStreamValue) : Type 0 where
   pub of : IsStreamOf plan.system s script stream
   pub cycle : stream.cycle ≡ c
   pub keeping : stream.keeping ≡ keeping_at stream.source statements (stream_view plan.system netlist run of.link.source_end) c
 
 -- the components of a bench stand where a run has brought them
-pub record ComponentsStand (plan : PlanTable) (scenario : Scenario) (netlist : Netlist) (run : Run) (c : ℕ) (bench : BenchValue) : Type 0 where
+pub record ComponentsStand (plan : PlanTable) (scenario : Scenario) (netlist : Netlist) (run : Run) (c : ℕ)
+    (bench : BenchValue) : Type 0 where
   pub host_count : length bench.hosts ≡ length (hosts_of plan.system)
   pub agent_count : length bench.agents ≡ length (agents_of plan.system)
   pub stream_count : length bench.streams ≡ length (stream_connections plan.system)
-  pub hosts : (h : ℕ) (host : BenchHostValue) (script : List HostStatement) → slice_get bench.hosts h ≡ Some host → slice_get scenario.hosts h ≡ Some script → HostStands plan netlist run c h script host
-  pub agents : (a : ℕ) (agent : BenchAgentValue) (script : List AgentStatement) → slice_get bench.agents a ≡ Some agent → slice_get scenario.agents a ≡ Some script
+  pub hosts : (h : ℕ) (host : BenchHostValue) (script : List HostStatement) → slice_get bench.hosts h ≡ Some host
+      → slice_get scenario.hosts h ≡ Some script → HostStands plan netlist run c h script host
+  pub agents : (a : ℕ) (agent : BenchAgentValue) (script : List AgentStatement) → slice_get bench.agents a ≡ Some agent
+      → slice_get scenario.agents a ≡ Some script
       → AgentStands plan netlist run c scenario.cycles a script agent
-  pub streams : (s : ℕ) (stream : BenchStreamValue) (statements : List SourceStatement) (script : List Pattern) → slice_get bench.streams s ≡ Some stream
-      → slice_get scenario.sources s ≡ Some statements → slice_get scenario.sinks s ≡ Some script → StreamStands plan netlist run c s statements script stream
+  pub streams : (s : ℕ) (stream : BenchStreamValue) (statements : List SourceStatement) (script : List Pattern)
+      → slice_get bench.streams s ≡ Some stream
+      → slice_get scenario.sources s ≡ Some statements → slice_get scenario.sinks s ≡ Some script
+      → StreamStands plan netlist run c s statements script stream
 
 -- the bench stands behind the cycles before c of a run that simulates the scenario
 pub record IsUnderWay (plan : PlanTable) (scenario : Scenario) (run : Run) (c : ℕ) (bench : BenchValue) : Type 0 where

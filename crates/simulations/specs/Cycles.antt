@@ -36,15 +36,19 @@ shown_first bench = record bench { row = set_levels bench.row (all_levels bench 
 
 -- a bench whose row has what the agents show once the commands are known
 abbrev pub answered : BenchValue → BenchValue
-answered bench = record bench { row = set_levels bench.row (flat_map (λ (agent : BenchAgentValue). of_agents.sets_answered agent bench.sim) bench.agents) }
+answered bench =
+    record bench
+    { row = set_levels bench.row (flat_map (λ (agent : BenchAgentValue). of_agents.sets_answered agent bench.sim) bench.agents) }
 
 -- the cycle was evaluated with what the components set, where the agents' words are these
-pub record IsShown (plan : PlanTable) (scenario : Scenario) (run : Run) (c : ℕ) (words : BenchAgentValue → CodedWord) (bench : BenchValue) : Type 0 where
+pub record IsShown (plan : PlanTable) (scenario : Scenario) (run : Run) (c : ℕ) (words : BenchAgentValue → CodedWord)
+    (bench : BenchValue) : Type 0 where
   pub under_way : IsUnderWay plan scenario run c bench
   pub stepped : bench.sim.stepped ≡ true
   pub is_run : IsClearedRun bench.sim.netlist (run_with run c bench) (suc c)
   pub valuation : IsValuation bench.sim.netlist (present bench.sim)
-  pub inputs : (k w : ℕ) → IsInputPort bench.sim.netlist.ports k w → (present bench.sim).input k ≡ given_to bench.sim.netlist bench.row k
+  pub inputs : (k w : ℕ) → IsInputPort bench.sim.netlist.ports k w
+      → (present bench.sim).input k ≡ given_to bench.sim.netlist bench.row k
   pub fits : AllFitPorts bench words
   pub stand : AllStand bench.row (all_levels bench words)
 
@@ -54,8 +58,10 @@ pub record IsEvaluated (plan : PlanTable) (scenario : Scenario) (run : Run) (c :
   pub stepped : bench.sim.stepped ≡ true
   pub is_run : IsClearedRun bench.sim.netlist (run_with run c bench) (suc c)
   pub shown : AreShown plan scenario bench.sim.netlist (run_with run c bench) c
-  pub hosts : (h : ℕ) (host : BenchHostValue) → slice_get bench.hosts h ≡ Some host → of_hosts.IsSeen (host_in plan bench.sim.netlist (run_with run c bench) h) c bench.sim host
-  pub agents : (a : ℕ) (agent : BenchAgentValue) → slice_get bench.agents a ≡ Some agent → of_agents.IsSeen (agent_in plan bench.sim.netlist (run_with run c bench) a) bench.sim agent
+  pub hosts : (h : ℕ) (host : BenchHostValue) → slice_get bench.hosts h ≡ Some host
+      → of_hosts.IsSeen (host_in plan bench.sim.netlist (run_with run c bench) h) c bench.sim host
+  pub agents : (a : ℕ) (agent : BenchAgentValue) → slice_get bench.agents a ≡ Some agent
+      → of_agents.IsSeen (agent_in plan bench.sim.netlist (run_with run c bench) a) bench.sim agent
   pub streams : StreamsAreShown plan bench.sim.netlist (run_with run c bench) bench.sim bench
 
 -- ---- what a bench is asked to be
@@ -97,20 +103,26 @@ pub record HaveEnded (bench after : BenchValue) : Type 0 where
   pub host_count : length after.hosts ≡ length bench.hosts
   pub agent_count : length after.agents ≡ length bench.agents
   pub stream_count : length after.streams ≡ length bench.streams
-  pub hosts : (h : ℕ) (old new : BenchHostValue) → slice_get bench.hosts h ≡ Some old → slice_get after.hosts h ≡ Some new → new ≡ of_hosts.behind old bench.sim
-  pub agents : (a : ℕ) (old new : BenchAgentValue) → slice_get bench.agents a ≡ Some old → slice_get after.agents a ≡ Some new → of_agents.Follows old bench.sim new
-  pub streams : (s : ℕ) (old new : BenchStreamValue) → slice_get bench.streams s ≡ Some old → slice_get after.streams s ≡ Some new → new ≡ of_streams.behind old bench.sim
+  pub hosts : (h : ℕ) (old new : BenchHostValue) → slice_get bench.hosts h ≡ Some old → slice_get after.hosts h ≡ Some new
+      → new ≡ of_hosts.behind old bench.sim
+  pub agents : (a : ℕ) (old new : BenchAgentValue) → slice_get bench.agents a ≡ Some old → slice_get after.agents a ≡ Some new
+      → of_agents.Follows old bench.sim new
+  pub streams : (s : ℕ) (old new : BenchStreamValue) → slice_get bench.streams s ≡ Some old → slice_get after.streams s ≡ Some new
+      → new ≡ of_streams.behind old bench.sim
 
 -- ---- what is told and counted of a cycle
 
 -- the lines of all components, in order
 abbrev pub lines_of : BenchValue → ℕ → List (List ℕ)
 lines_of bench c =
-    flat_map (λ (host : BenchHostValue). of_hosts.tells host bench.sim c) bench.hosts ++ flat_map (λ (agent : BenchAgentValue). of_agents.tells agent bench.sim c) bench.agents
+    flat_map (λ (host : BenchHostValue). of_hosts.tells host bench.sim c) bench.hosts
+    ++ flat_map (λ (agent : BenchAgentValue). of_agents.tells agent bench.sim c) bench.agents
     ++ flat_map (λ (stream : BenchStreamValue). of_streams.tells stream bench.sim c) bench.streams
 
 -- what they count together
 abbrev pub counts_of : BenchValue → Counts
 counts_of bench =
-    with_counts (with_counts (counted_together (λ (host : BenchHostValue). of_hosts.counts host bench.sim) bench.hosts) (counted_together (λ (agent : BenchAgentValue). of_agents.counts agent bench.sim) bench.agents))
+    with_counts
+    (with_counts (counted_together (λ (host : BenchHostValue). of_hosts.counts host bench.sim) bench.hosts)
+    (counted_together (λ (agent : BenchAgentValue). of_agents.counts agent bench.sim) bench.agents))
     (counted_together (λ (stream : BenchStreamValue). of_streams.counts stream bench.sim) bench.streams)

@@ -29,9 +29,11 @@ abbrev pub write_beats_before : HostView → ℕ → ℕ
 write_beats_before view zero = 0
 write_beats_before view (suc c) = with_beat (write_beats_before view c) (takes_write view c)
 
--- in a simulation of a scenario on a module so many write beats of the host of this number are accepted, and these words given to it
+-- in a simulation of a scenario on a module so many write beats of the host of this number are accepted, and these words given to
+-- it
 pub record IsNoted (plan : PlanTable) (scenario : Scenario) (netlist : Netlist) (host beats : ℕ) (words : List ℕ) : Type 0 where
   pub run : Run
   pub simulated : IsSimulated plan scenario netlist run scenario.cycles
   pub beats_are : beats ≡ write_beats_before (host_in plan netlist run host) scenario.cycles
-  pub words_are : words ≡ map (λ (w : Word). w.word) (given ((memory_system plan).host host) (host_in plan netlist run host) scenario.cycles)
+  pub words_are : words
+      ≡ map (λ (w : Word). w.word) (given ((memory_system plan).host host) (host_in plan netlist run host) scenario.cycles)

@@ -16,7 +16,8 @@ use Rattle.simulations.specs.Traces.{run_ends}
 use Rattle.simulations.specs.Written.{Holds}
 
 -- the lines of the cycles of a run so far are written, or a part of them
-pub record TellsSoFar (plan : PlanTable) (scenario : Scenario) (netlist : Netlist) (c : ℕ) (bench : BenchValue) (whole : Bool) (held : Option (List ℕ)) (first : ℕ) (holds : Option (List ℕ)) (faults : ℕ) : Type 0 where
+pub record TellsSoFar (plan : PlanTable) (scenario : Scenario) (netlist : Netlist) (c : ℕ) (bench : BenchValue) (whole : Bool)
+    (held : Option (List ℕ)) (first : ℕ) (holds : Option (List ℕ)) (faults : ℕ) : Type 0 where
   pub run : Run
   pub netlist_is : bench.sim.netlist ≡ netlist
   pub set : IsSetUp plan scenario bench.sim.netlist
@@ -24,7 +25,8 @@ pub record TellsSoFar (plan : PlanTable) (scenario : Scenario) (netlist : Netlis
   pub holding : Holds whole held first holds faults (before (told_in (run_ends plan bench.sim.netlist run)) c)
 
 -- what was done in them is counted
-pub record CountsSoFar (plan : PlanTable) (scenario : Scenario) (netlist : Netlist) (c : ℕ) (bench : BenchValue) (counts : Counts) : Type 0 where
+pub record CountsSoFar (plan : PlanTable) (scenario : Scenario) (netlist : Netlist) (c : ℕ) (bench : BenchValue)
+    (counts : Counts) : Type 0 where
   pub run : Run
   pub netlist_is : bench.sim.netlist ≡ netlist
   pub set : IsSetUp plan scenario bench.sim.netlist
@@ -35,7 +37,8 @@ abbrev pub no_counts : Counts
 no_counts = record { taken = 0; answered = 0; delivered = 0; dropped = 0 }
 
 -- the counts are those of a simulation of a scenario on a module, and the simulator stands behind its last cycle
-pub record IsCountedRun (plan : PlanTable) (scenario : Scenario) (netlist : Netlist) (sim : SimValue) (counts : Counts) : Type 0 where
+pub record IsCountedRun (plan : PlanTable) (scenario : Scenario) (netlist : Netlist) (sim : SimValue)
+    (counts : Counts) : Type 0 where
   pub run : Run
   pub simulated : IsSimulated plan scenario netlist run scenario.cycles
   pub stands : StandsFor sim run scenario.cycles

@@ -33,7 +33,8 @@ use Rattle.simulations.specs.Benches.{BenchValue, HostStands, AgentStands, Strea
 
 -- ---- as a cycle begins
 
-pub record IsSoundHost (plan : PlanTable) (scenario : Scenario) (netlist : Netlist) (run : Run) (c h : ℕ) (host : BenchHostValue) : Type 0 where
+pub record IsSoundHost (plan : PlanTable) (scenario : Scenario) (netlist : Netlist) (run : Run) (c h : ℕ)
+    (host : BenchHostValue) : Type 0 where
   pub script : List HostStatement
   pub script_is : slice_get scenario.hosts h ≡ Some script
   pub fits : IsHostScript host.stand_in.port script
@@ -41,7 +42,8 @@ pub record IsSoundHost (plan : PlanTable) (scenario : Scenario) (netlist : Netli
   pub stands : HostStands plan netlist run c h script host
 
 -- an agent that doesn't read is read in no run
-pub record IsSoundAgent (plan : PlanTable) (scenario : Scenario) (netlist : Netlist) (run : Run) (c a : ℕ) (agent : BenchAgentValue) : Type 0 where
+pub record IsSoundAgent (plan : PlanTable) (scenario : Scenario) (netlist : Netlist) (run : Run) (c a : ℕ)
+    (agent : BenchAgentValue) : Type 0 where
   pub script : List AgentStatement
   pub script_is : slice_get scenario.agents a ≡ Some script
   pub fits : IsAgentScript agent.stand_in.port script
@@ -49,7 +51,8 @@ pub record IsSoundAgent (plan : PlanTable) (scenario : Scenario) (netlist : Netl
   pub stands : AgentStands plan netlist run c scenario.cycles a script agent
   pub unread : IsFalse agent.stand_in.port.reads → (other : Run) (d : ℕ) → (agent_in plan netlist other a).signals.read d ≡ 0
 
-pub record IsSoundStream (plan : PlanTable) (scenario : Scenario) (netlist : Netlist) (run : Run) (c s : ℕ) (stream : BenchStreamValue) : Type 0 where
+pub record IsSoundStream (plan : PlanTable) (scenario : Scenario) (netlist : Netlist) (run : Run) (c s : ℕ)
+    (stream : BenchStreamValue) : Type 0 where
   pub statements : List SourceStatement
   pub statements_are : slice_get scenario.sources s ≡ Some statements
   pub script : List Pattern
@@ -63,23 +66,35 @@ pub record IsSoundStream (plan : PlanTable) (scenario : Scenario) (netlist : Net
 
 -- what the components show fits their ports, where the agents' words are these
 pub record AllFitPorts (bench : BenchValue) (words : BenchAgentValue → CodedWord) : Type 0 where
-  pub hosts : (h : ℕ) (host : BenchHostValue) → slice_get bench.hosts h ≡ Some host → FitsHostPorts host.stand_in.port (of_hosts.shown_by host)
-  pub agents : (a : ℕ) (agent : BenchAgentValue) → slice_get bench.agents a ≡ Some agent → FitsAgentPorts agent.stand_in.port (levels_with agent (words agent))
-  pub sources : (s : ℕ) (stream : BenchStreamValue) → slice_get bench.streams s ≡ Some stream → FitsSource stream.source (unwrap_or (of_streams.shown_by stream) no_beat)
-  pub sinks : (s : ℕ) (stream : BenchStreamValue) → slice_get bench.streams s ≡ Some stream → FitsReady stream.sink (is_ready stream)
+  pub hosts : (h : ℕ) (host : BenchHostValue) → slice_get bench.hosts h ≡ Some host
+      → FitsHostPorts host.stand_in.port (of_hosts.shown_by host)
+  pub agents : (a : ℕ) (agent : BenchAgentValue) → slice_get bench.agents a ≡ Some agent
+      → FitsAgentPorts agent.stand_in.port (levels_with agent (words agent))
+  pub sources : (s : ℕ) (stream : BenchStreamValue) → slice_get bench.streams s ≡ Some stream
+      → FitsSource stream.source (unwrap_or (of_streams.shown_by stream) no_beat)
+  pub sinks : (s : ℕ) (stream : BenchStreamValue) → slice_get bench.streams s ≡ Some stream
+      → FitsReady stream.sink (is_ready stream)
 
 -- a run shows in a cycle what an agent sets with this word and code, and what stands at the outputs that command it
-pub record AgentIsShown (plan : PlanTable) (netlist : Netlist) (run : Run) (k a : ℕ) (sim : SimValue) (agent : BenchAgentValue) (answer : CodedWord) : Type 0 where
+pub record AgentIsShown (plan : PlanTable) (netlist : Netlist) (run : Run) (k a : ℕ) (sim : SimValue) (agent : BenchAgentValue)
+    (answer : CodedWord) : Type 0 where
   pub shown : AreShownBy (agent_in plan netlist run a) k (levels_with agent answer)
   pub commanded_is : levels_at (agent_in plan netlist run a).signals k ≡ commanded agent sim
   pub granted : (agent_in plan netlist run a).grant k ≡ level_now sim 0 agent.ports.grant
 
 -- it shows that of all hosts and agents
-pub record MemoryIsShown (plan : PlanTable) (netlist : Netlist) (run : Run) (k : ℕ) (sim : SimValue) (bench : BenchValue) (words : BenchAgentValue → CodedWord) : Type 0 where
-  pub hosts : (h : ℕ) (host : BenchHostValue) → slice_get bench.hosts h ≡ Some host → of_hosts.IsSeen (host_in plan netlist run h) k sim host
-  pub agents : (a : ℕ) (agent : BenchAgentValue) → slice_get bench.agents a ≡ Some agent → AgentIsShown plan netlist run k a sim agent (words agent)
+pub record MemoryIsShown (plan : PlanTable) (netlist : Netlist) (run : Run) (k : ℕ) (sim : SimValue) (bench : BenchValue)
+    (words : BenchAgentValue → CodedWord) : Type 0 where
+  pub hosts : (h : ℕ) (host : BenchHostValue) → slice_get bench.hosts h ≡ Some host
+      → of_hosts.IsSeen (host_in plan netlist run h) k sim host
+  pub agents : (a : ℕ) (agent : BenchAgentValue) → slice_get bench.agents a ≡ Some agent
+      → AgentIsShown plan netlist run k a sim agent (words agent)
 
 -- and that of all streams
 abbrev pub StreamsAreShown : PlanTable → Netlist → Run → SimValue → BenchValue → Type 0
-StreamsAreShown plan netlist run sim bench = (s : ℕ) (stream : BenchStreamValue) → slice_get bench.streams s ≡ Some stream → (script : List Pattern) (of : IsStreamOf plan.system s script stream)
-    → of_streams.IsSeen (stream_view plan.system netlist run of.link.source_end) (stream_view plan.system netlist run of.link.sink_end) (dropped_signal netlist run (name_at plan.system of.link.sink_end)) sim stream
+StreamsAreShown plan netlist run sim bench =
+    (s : ℕ) (stream : BenchStreamValue) → slice_get bench.streams s ≡ Some stream
+    → (script : List Pattern) (of : IsStreamOf plan.system s script stream)
+    → of_streams.IsSeen (stream_view plan.system netlist run of.link.source_end)
+    (stream_view plan.system netlist run of.link.sink_end)
+    (dropped_signal netlist run (name_at plan.system of.link.sink_end)) sim stream

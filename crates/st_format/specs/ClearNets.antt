@@ -37,5 +37,7 @@ pub record ClearsBeat (symbols bits : ℕ) (from to : BeatNets) (netlist : Netli
   pub shows : Always netlist (λ cycle. beat_in cycle to ≡ cleared symbols bits (beat_in cycle from))
 
 -- this lasts. No contract reads the proof; the law of the stage cites it
-pub clears_lasts : (symbols bits : ℕ) (from to : BeatNets) (old new : Netlist) → ClearsBeat symbols bits from to old → Extends old new → ClearsBeat symbols bits from to new
-clears_lasts symbols bits from to old new h e = record { valid = h.valid; shows = λ cycle v. h.shows cycle (e.valuations cycle v) }
+pub clears_lasts : (symbols bits : ℕ) (from to : BeatNets) (old new : Netlist) → ClearsBeat symbols bits from to old
+    → Extends old new → ClearsBeat symbols bits from to new
+clears_lasts symbols bits from to old new h e =
+    record { valid = h.valid; shows = λ cycle v. h.shows cycle (e.valuations cycle v) }

@@ -71,7 +71,8 @@ abbrev pub shown_rest : Sizes → Shown → Shown
 shown_rest sizes shown =
     record {
       valid = if has_more sizes shown.beat then 1 else 0;
-      beat = record (rest_of sizes shown.beat) { word = shown.beat.word % 2 ^ (sizes.bits * (sizes.symbols * (sizes.parts - 1))) };
+      beat =
+          record (rest_of sizes shown.beat) { word = shown.beat.word % 2 ^ (sizes.bits * (sizes.symbols * (sizes.parts - 1))) };
     }
 
 -- what is held above the lowest part of a word
@@ -79,10 +80,12 @@ abbrev pub laid_above : Sizes → Shown → ℕ → Shown
 laid_above sizes held word =
     record {
       valid = held.valid;
-      beat = record held.beat { word = held.beat.word * 2 ^ (sizes.bits * sizes.symbols) + word % 2 ^ (sizes.bits * sizes.symbols) };
+      beat =
+          record held.beat { word = held.beat.word * 2 ^ (sizes.bits * sizes.symbols) + word % 2 ^ (sizes.bits * sizes.symbols) };
     }
 
--- the wide beat of the cycle: what is held of one, or else the one that is shown. The lowest part of the one that is shown stands below
+-- the wide beat of the cycle: what is held of one, or else the one that is shown. The lowest part of the one that is shown stands
+-- below
 -- what is held too, and counts for nothing there
 abbrev pub now_of : Sizes → Shown → Shown → Shown
 now_of sizes held from = if held.valid == 1 then laid_above sizes held from.beat.word else counted sizes.count from
@@ -115,13 +118,17 @@ pub record NarrowForward (sizes : Sizes) (from to : BeatNets) (kept : NarrowKept
 
 -- after the second call: ready is passed on while nothing is held, and where the part goes the rest is held
 pub record NarrowBackward (kept : NarrowKept) (ready up : NetValue) (netlist : Netlist) : Type 0 where
-  pub asks : Always netlist (λ cycle. (cycle.net up.number == 1) ≡ (not (cycle.net kept.held.valid.number == 1) && (cycle.net ready.number == 1)))
+  pub asks : Always netlist (λ cycle. (cycle.net up.number == 1)
+      ≡ (not (cycle.net kept.held.valid.number == 1) && (cycle.net ready.number == 1)))
   pub moves : (run : Run) (cycles : ℕ) → IsRun netlist run cycles → (c : ℕ) → c + 1 < cycles
-      → shown_in (cycle_of run (c + 1)) kept.held ≡ (if (run.net c kept.shown.number == 1) && (run.net c ready.number == 1) then shown_in (cycle_of run c) kept.rest else shown_in (cycle_of run c) kept.held)
+      → shown_in (cycle_of run (c + 1)) kept.held
+      ≡ (if (run.net c kept.shown.number == 1) && (run.net c ready.number == 1) then shown_in (cycle_of run c) kept.rest
+      else shown_in (cycle_of run c) kept.held)
 
 -- ---- what stands lasts. No contract reads these proofs; the law of the stage cites them
 
-pub keeps_lasts : (kept : NarrowKept) (old new : Netlist) → NarrowKeeps kept old → Extends old new → ((n : ℕ) → IsOfBeat kept.held n → IsWaiting old n → IsWaiting new n) → NarrowKeeps kept new
+pub keeps_lasts : (kept : NarrowKept) (old new : Netlist) → NarrowKeeps kept old → Extends old new
+    → ((n : ℕ) → IsOfBeat kept.held n → IsWaiting old n → IsWaiting new n) → NarrowKeeps kept new
 keeps_lasts kept old new h e w = record {
   held = beat_lasts old new kept.held e h.held;
   rest = beat_lasts old new kept.rest e h.rest;
@@ -130,7 +137,8 @@ keeps_lasts kept old new h e w = record {
   shown = net_lasts old new kept.shown 1 e h.shown;
 }
 
-pub forward_lasts : (sizes : Sizes) (from to : BeatNets) (kept : NarrowKept) (old new : Netlist) → NarrowForward sizes from to kept old → Extends old new → NarrowForward sizes from to kept new
+pub forward_lasts : (sizes : Sizes) (from to : BeatNets) (kept : NarrowKept) (old new : Netlist)
+    → NarrowForward sizes from to kept old → Extends old new → NarrowForward sizes from to kept new
 forward_lasts sizes from to kept old new h e = record {
   shown_is = h.shown_is;
   numbers = h.numbers;
@@ -139,7 +147,8 @@ forward_lasts sizes from to kept old new h e = record {
   rests = λ cycle v. h.rests cycle (e.valuations cycle v);
 }
 
-pub backward_lasts : (kept : NarrowKept) (ready up : NetValue) (old new : Netlist) → NarrowBackward kept ready up old → Extends old new → NarrowBackward kept ready up new
+pub backward_lasts : (kept : NarrowKept) (ready up : NetValue) (old new : Netlist) → NarrowBackward kept ready up old
+    → Extends old new → NarrowBackward kept ready up new
 backward_lasts kept ready up old new h e = record {
   asks = λ cycle v. h.asks cycle (e.valuations cycle v);
   moves = λ run cycles r. h.moves run cycles (e.runs run cycles r);

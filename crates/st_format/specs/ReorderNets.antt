@@ -21,8 +21,10 @@ pub record IsReorderShape (symbols bits : ℕ) (shape : Shape) : Type 0 where
 -- the beat goes through with the symbols of its word in the other order
 pub record TurnsBeat (symbols bits : ℕ) (from to : BeatNets) (netlist : Netlist) : Type 0 where
   pub valid : to.valid ≡ from.valid
-  pub shows : Always netlist (λ cycle. beat_in cycle to ≡ (record (beat_in cycle from) { word = turned_word bits symbols (cycle.net from.word.number) }))
+  pub shows : Always netlist (λ cycle. beat_in cycle to
+      ≡ (record (beat_in cycle from) { word = turned_word bits symbols (cycle.net from.word.number) }))
 
 -- this lasts. No contract reads the proof; the law of the stage cites it
-pub turns_lasts : (symbols bits : ℕ) (from to : BeatNets) (old new : Netlist) → TurnsBeat symbols bits from to old → Extends old new → TurnsBeat symbols bits from to new
+pub turns_lasts : (symbols bits : ℕ) (from to : BeatNets) (old new : Netlist) → TurnsBeat symbols bits from to old
+    → Extends old new → TurnsBeat symbols bits from to new
 turns_lasts symbols bits from to old new h e = record { valid = h.valid; shows = λ cycle v. h.shows cycle (e.valuations cycle v) }

@@ -21,13 +21,17 @@ use Rattle.st_windows.specs.WindowNets as windows
 
 -- ---- which it is
 
--- beats of so many symbols, of packets or not, become beats of so many others: by nothing where they are as many, by parts where one number divides the
+-- beats of so many symbols, of packets or not, become beats of so many others: by nothing where they are as many, by parts where
+-- one number divides the
 -- other, and else by a window
 abbrev pub IsResizeOf : ℕ → ℕ → ℕ → Bool → Resize → Type 0
 IsResizeOf from into bits packets Equal = from ≡ into
-IsResizeOf from into bits packets (Cut stage) = (from ≡ into * stage.sizes.parts) × (stage.sizes.symbols ≡ into) × (stage.sizes.bits ≡ bits)
-IsResizeOf from into bits packets (Join stage) = (into ≡ from * stage.sizes.parts) × (stage.sizes.symbols ≡ from) × (stage.sizes.bits ≡ bits) × (stage.packets ≡ packets)
-IsResizeOf from into bits packets (Slide stage) = ¬ (from % into ≡ 0) × ¬ (into % from ≡ 0) × (stage.sizes.from ≡ from) × (stage.sizes.into ≡ into) × (stage.sizes.bits ≡ bits)
+IsResizeOf from into bits packets (Cut stage) =
+    (from ≡ into * stage.sizes.parts) × (stage.sizes.symbols ≡ into) × (stage.sizes.bits ≡ bits)
+IsResizeOf from into bits packets (Join stage) =
+    (into ≡ from * stage.sizes.parts) × (stage.sizes.symbols ≡ from) × (stage.sizes.bits ≡ bits) × (stage.packets ≡ packets)
+IsResizeOf from into bits packets (Slide stage) =
+    ¬ (from % into ≡ 0) × ¬ (into % from ≡ 0) × (stage.sizes.from ≡ from) × (stage.sizes.into ≡ into) × (stage.sizes.bits ≡ bits)
 
 -- a beat may have symbols of several
 abbrev pub joins_beats : Resize → Bool
@@ -59,14 +63,16 @@ resize_passes (Slide stage) shape = ⊥
 
 abbrev pub resize_takes : Resize → Widths → Type 0
 resize_takes Equal widths = Unit {0}
-resize_takes (Cut stage) widths = (widths.word ≡ stage.sizes.bits * (stage.sizes.symbols * stage.sizes.parts)) × (widths.empty ≤ 8)
+resize_takes (Cut stage) widths =
+    (widths.word ≡ stage.sizes.bits * (stage.sizes.symbols * stage.sizes.parts)) × (widths.empty ≤ 8)
 resize_takes (Join stage) widths = (widths.word ≡ stage.sizes.bits * stage.sizes.symbols) × (widths.empty ≤ 8)
 resize_takes (Slide stage) widths = (widths.word ≡ stage.sizes.bits * stage.sizes.from) × (widths.empty ≤ 8)
 
 abbrev pub resize_gives : Resize → Widths → Widths
 resize_gives Equal widths = widths
 resize_gives (Cut stage) widths = record widths { word = stage.sizes.bits * stage.sizes.symbols; empty = stage.sizes.count }
-resize_gives (Join stage) widths = record widths { word = stage.sizes.bits * (stage.sizes.symbols * stage.sizes.parts); empty = stage.sizes.count }
+resize_gives (Join stage) widths =
+    record widths { word = stage.sizes.bits * (stage.sizes.symbols * stage.sizes.parts); empty = stage.sizes.count }
 resize_gives (Slide stage) widths = record widths { word = stage.sizes.bits * stage.sizes.into; empty = stage.sizes.count }
 
 abbrev pub resize_forward : Resize → ℕ
@@ -117,21 +123,26 @@ ResizeBackward _ _ ready up netlist = ⊥
 
 -- ---- what stands lasts. No contract reads these proofs; the law of the stage cites them
 
-pub resize_keeps_lasts : (resize : Resize) (kept : ResizeKept) (old new : Netlist) → ResizeKeeps resize kept old → Extends old new → ((n : ℕ) → resize_owns kept n → IsWaiting old n → IsWaiting new n) → ResizeKeeps resize kept new
+pub resize_keeps_lasts : (resize : Resize) (kept : ResizeKept) (old new : Netlist) → ResizeKeeps resize kept old → Extends old new
+    → ((n : ℕ) → resize_owns kept n → IsWaiting old n → IsWaiting new n) → ResizeKeeps resize kept new
 resize_keeps_lasts Equal Straight old new h e w = h
 resize_keeps_lasts (Cut stage) (OfCut same kept) old new h e w = (h.0, narrows.keeps_lasts kept old new h.1 e w)
 resize_keeps_lasts (Join stage) (OfJoin same kept) old new h e w = (h.0, widens.keeps_lasts kept old new h.1 e w)
 resize_keeps_lasts (Slide stage) (OfSlide same kept) old new h e w = (h.0, windows.keeps_lasts kept old new h.1 e w)
 resize_keeps_lasts _ _ old new h e w = absurd h
 
-pub resize_forward_lasts : (resize : Resize) (from to : BeatNets) (kept : ResizeKept) (old new : Netlist) → ResizeForward resize from to kept old → Extends old new → ResizeForward resize from to kept new
+pub resize_forward_lasts : (resize : Resize) (from to : BeatNets) (kept : ResizeKept) (old new : Netlist)
+    → ResizeForward resize from to kept old → Extends old new → ResizeForward resize from to kept new
 resize_forward_lasts Equal from to Straight old new h e = h
-resize_forward_lasts (Cut stage) from to (OfCut same kept) old new h e = narrows.forward_lasts stage.sizes from to kept old new h e
+resize_forward_lasts (Cut stage) from to (OfCut same kept) old new h e =
+    narrows.forward_lasts stage.sizes from to kept old new h e
 resize_forward_lasts (Join stage) from to (OfJoin same kept) old new h e = widens.forward_lasts stage from to kept old new h e
-resize_forward_lasts (Slide stage) from to (OfSlide same kept) old new h e = windows.forward_lasts stage.sizes from to kept old new h e
+resize_forward_lasts (Slide stage) from to (OfSlide same kept) old new h e =
+    windows.forward_lasts stage.sizes from to kept old new h e
 resize_forward_lasts _ from to _ old new h e = absurd h
 
-pub resize_backward_lasts : (resize : Resize) (kept : ResizeKept) (ready up : NetValue) (old new : Netlist) → ResizeBackward resize kept ready up old → Extends old new → ResizeBackward resize kept ready up new
+pub resize_backward_lasts : (resize : Resize) (kept : ResizeKept) (ready up : NetValue) (old new : Netlist)
+    → ResizeBackward resize kept ready up old → Extends old new → ResizeBackward resize kept ready up new
 resize_backward_lasts Equal Straight ready up old new h e = h
 resize_backward_lasts (Cut stage) (OfCut same kept) ready up old new h e = narrows.backward_lasts kept ready up old new h e
 resize_backward_lasts (Join stage) (OfJoin same kept) ready up old new h e = widens.backward_lasts kept ready up old new h e

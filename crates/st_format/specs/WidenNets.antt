@@ -19,7 +19,8 @@ use Rattle.st_format.specs.declared.widen.WidenKept.{WidenKept}
 -- a side of narrow beats upstream, and downstream the same with wide ones, both with the first symbol in the high-order bits
 -- and ready latency 0, with a test that all channels pass; without packets there is one channel
 pub record IsWidenShape (stage : Widen) (shape : Shape) : Type 0 where
-  pub is : shape ≡ widen_shape shape.passes stage.sizes.parts shape.up (of_symbols shape.up (stage.sizes.symbols * stage.sizes.parts))
+  pub is : shape
+      ≡ widen_shape shape.passes stage.sizes.parts shape.up (of_symbols shape.up (stage.sizes.symbols * stage.sizes.parts))
   pub symbols_are : shape.up.symbols ≡ stage.sizes.symbols
   pub bits_are : shape.up.symbol_bits ≡ stage.sizes.bits
   pub unmarked : stage.packets ≡ false → IsFalse shape.up.packets
@@ -38,14 +39,17 @@ part_at bits symbols parts held coming gathered q =
 abbrev pub laid : ℕ → ℕ → ℕ → ℕ → ℕ → ℕ → ℕ → ℕ
 laid bits symbols parts held coming gathered zero = 0
 laid bits symbols parts held coming gathered (suc q) =
-    part_at bits symbols parts held coming gathered q * 2 ^ (bits * (symbols * q)) + laid bits symbols parts held coming gathered q
+    part_at bits symbols parts held coming gathered q * 2 ^ (bits * (symbols * q))
+    + laid bits symbols parts held coming gathered q
 
--- the word that joins what is gathered, where something is, with the coming word: with packets each in its place, from the high-order
+-- the word that joins what is gathered, where something is, with the coming word: with packets each in its place, from the
+-- high-order
 -- end on, and without the coming one behind those before it
 abbrev pub joined_by : Widen → ℕ → ℕ → ℕ → ℕ → ℕ
 joined_by stage some held coming gathered =
     if stage.packets
-    then laid stage.sizes.bits stage.sizes.symbols stage.sizes.parts ((if some == 1 then held else 0) * 2 ^ (stage.sizes.bits * stage.sizes.symbols)) coming gathered stage.sizes.parts
+    then laid stage.sizes.bits stage.sizes.symbols stage.sizes.parts
+    ((if some == 1 then held else 0) * 2 ^ (stage.sizes.bits * stage.sizes.symbols)) coming gathered stage.sizes.parts
     else held * 2 ^ (stage.sizes.bits * stage.sizes.symbols) + coming
 
 -- the bits below those of a joined word that are held: with packets those of the last place
@@ -63,7 +67,8 @@ is_full sizes held from = (from.beat.last == 1) || (held.beat.empty == sizes.sym
 -- empty of the joined beat: the symbols that are missing behind the coming ones, and empty of these
 abbrev pub missing_in : Sizes → ℕ → ℕ → ℕ
 missing_in sizes gathered empty =
-    ((sizes.symbols * (sizes.parts - 1) + (2 ^ sizes.count - gathered)) % 2 ^ sizes.count + empty % 2 ^ sizes.count) % 2 ^ sizes.count
+    ((sizes.symbols * (sizes.parts - 1) + (2 ^ sizes.count - gathered)) % 2 ^ sizes.count
+    + empty % 2 ^ sizes.count) % 2 ^ sizes.count
 
 -- what is gathered, joined with the beat that is shown; empty of what is gathered says how many symbols that are
 abbrev pub shown_joined : Widen → Shown → Shown → Shown
@@ -136,21 +141,30 @@ pub record WidenForward (stage : Widen) (from to : BeatNets) (kept : WidenKept) 
   pub numbers : AreNumbered kept.held kept.held.valid.number
   pub starts : StartsEmpty netlist kept.held
   pub word_fits : Always netlist (λ cycle. cycle.net from.word.number < 2 ^ (stage.sizes.bits * stage.sizes.symbols))
-  pub held_fits : Always netlist (λ cycle. cycle.net kept.held.word.number < 2 ^ (stage.sizes.bits * (stage.sizes.symbols * (stage.sizes.parts - 1))))
+  pub held_fits : Always netlist (λ cycle. cycle.net kept.held.word.number
+      < 2 ^ (stage.sizes.bits * (stage.sizes.symbols * (stage.sizes.parts - 1))))
   pub shows : Always netlist (λ cycle. shown_in cycle to ≡ shown_joined stage (shown_in cycle kept.held) (shown_in cycle from))
-  pub fills : Always netlist (λ cycle. shown_in cycle kept.filled ≡ shown_filled stage (shown_in cycle kept.held) (shown_in cycle from))
+  pub fills : Always netlist (λ cycle. shown_in cycle kept.filled
+      ≡ shown_filled stage (shown_in cycle kept.held) (shown_in cycle from))
   pub empties : Always netlist (λ cycle. shown_in cycle kept.none ≡ nothing_shown)
 
--- after the second call: ready is shown where no wide beat is, or with ready; a beat that comes is gathered, or all go with it, and then what is
+-- after the second call: ready is shown where no wide beat is, or with ready; a beat that comes is gathered, or all go with it,
+-- and then what is
 -- left of the word counts for nothing
 pub record WidenBackward (kept : WidenKept) (ready up : NetValue) (netlist : Netlist) : Type 0 where
-  pub asks : Always netlist (λ cycle. (cycle.net up.number == 1) ≡ (not (cycle.net kept.full.number == 1) || (cycle.net ready.number == 1)))
+  pub asks : Always netlist (λ cycle. (cycle.net up.number == 1)
+      ≡ (not (cycle.net kept.full.number == 1) || (cycle.net ready.number == 1)))
   pub moves : (run : Run) (cycles : ℕ) → IsRun netlist run cycles → (c : ℕ) → c + 1 < cycles
-      → shown_in (cycle_of run (c + 1)) kept.held ≡ (if (run.net c kept.coming.number == 1) && (run.net c up.number == 1) then shown_next (run.net c kept.full.number == 1) (shown_in (cycle_of run c) kept.none) (shown_in (cycle_of run c) kept.filled) else shown_in (cycle_of run c) kept.held)
+      → shown_in (cycle_of run (c + 1)) kept.held
+      ≡ (if (run.net c kept.coming.number == 1) && (run.net c up.number == 1)
+      then shown_next (run.net c kept.full.number == 1) (shown_in (cycle_of run c) kept.none)
+      (shown_in (cycle_of run c) kept.filled)
+      else shown_in (cycle_of run c) kept.held)
 
 -- ---- what stands lasts. No contract reads these proofs; the law of the stage cites them
 
-pub keeps_lasts : (kept : WidenKept) (old new : Netlist) → WidenKeeps kept old → Extends old new → ((n : ℕ) → IsOfBeat kept.held n → IsWaiting old n → IsWaiting new n) → WidenKeeps kept new
+pub keeps_lasts : (kept : WidenKept) (old new : Netlist) → WidenKeeps kept old → Extends old new
+    → ((n : ℕ) → IsOfBeat kept.held n → IsWaiting old n → IsWaiting new n) → WidenKeeps kept new
 keeps_lasts kept old new h e w = record {
   held = beat_lasts old new kept.held e h.held;
   none = beat_lasts old new kept.none e h.none;
@@ -162,7 +176,8 @@ keeps_lasts kept old new h e w = record {
   full = net_lasts old new kept.full 1 e h.full;
 }
 
-pub forward_lasts : (stage : Widen) (from to : BeatNets) (kept : WidenKept) (old new : Netlist) → WidenForward stage from to kept old → Extends old new → WidenForward stage from to kept new
+pub forward_lasts : (stage : Widen) (from to : BeatNets) (kept : WidenKept) (old new : Netlist)
+    → WidenForward stage from to kept old → Extends old new → WidenForward stage from to kept new
 forward_lasts stage from to kept old new h e = record {
   coming_is = h.coming_is;
   full_is = h.full_is;
@@ -175,7 +190,8 @@ forward_lasts stage from to kept old new h e = record {
   empties = λ cycle v. h.empties cycle (e.valuations cycle v);
 }
 
-pub backward_lasts : (kept : WidenKept) (ready up : NetValue) (old new : Netlist) → WidenBackward kept ready up old → Extends old new → WidenBackward kept ready up new
+pub backward_lasts : (kept : WidenKept) (ready up : NetValue) (old new : Netlist) → WidenBackward kept ready up old
+    → Extends old new → WidenBackward kept ready up new
 backward_lasts kept ready up old new h e = record {
   asks = λ cycle v. h.asks cycle (e.valuations cycle v);
   moves = λ run cycles r. h.moves run cycles (e.runs run cycles r);

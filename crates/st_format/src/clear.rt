@@ -49,7 +49,8 @@ fn clear_low(builder: &mut Builder, word: Net, low: u8) -> Result<Net, NetFault>
     requires inside { low ≤ word.width }
     requires small { word.width ≤ 128 }
     ensures net { IfOk result (λ high. IsNetOfWidth builder.new high word.width) }
-    ensures value { IfOk result (λ high. Always builder.new (λ cycle. cycle.net high.number ≡ without_low low (cycle.net word.number))) }
+    ensures value { IfOk result (λ high. Always builder.new (λ cycle. cycle.net high.number
+        ≡ without_low low (cycle.net word.number))) }
     ensures adds { AddsNets 3 builder.old builder.new }
     ensures full { result ≡ Err NetFault.TooManyNets → 2 ^ 20 < length builder.old.lines + 3 }
 {
@@ -88,7 +89,9 @@ fn clear_more(
     requires inside { bits * count + bits ≤ word.width }
     requires small { word.width ≤ 128 }
     ensures net { IfOk result (λ more. IsNetOfWidth builder.new more word.width) }
-    ensures value { IfOk result (λ more. Always builder.new (λ cycle. cycle.net more.number ≡ (if nat_lt count (cycle.net empty.number) then without_low (bits * count + bits) (cycle.net word.number) else cycle.net cleared.number))) }
+    ensures value { IfOk result (λ more. Always builder.new (λ cycle. cycle.net more.number
+        ≡ (if nat_lt count (cycle.net empty.number) then without_low (bits * count + bits) (cycle.net word.number)
+        else cycle.net cleared.number))) }
     ensures adds { AddsNets 6 builder.old builder.new }
     ensures full { result ≡ Err NetFault.TooManyNets → 2 ^ 20 < length builder.old.lines + 6 }
 {
@@ -117,7 +120,8 @@ fn clear_symbols(
     requires some_bits { 1 ≤ bits }
     requires small { bits * symbols ≤ 128 }
     ensures net { IfOk result (λ cleared. IsNetOfWidth builder.new cleared (bits * symbols)) }
-    ensures value { IfOk result (λ cleared. Always builder.new (λ cycle. cycle.net cleared.number ≡ without_empty bits symbols (cycle.net empty.number) (cycle.net word.number))) }
+    ensures value { IfOk result (λ cleared. Always builder.new (λ cycle. cycle.net cleared.number
+        ≡ without_empty bits symbols (cycle.net empty.number) (cycle.net word.number))) }
     ensures adds { AddsNets (6 * symbols) builder.old builder.new }
     ensures full { result ≡ Err NetFault.TooManyNets → 2 ^ 20 < length builder.old.lines + 6 * symbols }
 {

@@ -40,7 +40,8 @@ pub(crate) fn count_empty(
     requires few { count ≤ 128 }
     ensures beat { IfOk result (λ made. AreBeatNets builder.new made) }
     ensures widths { IfOk result (λ made. HaveCountedWidths count made from.now) }
-    ensures value { IfOk result (λ made. Always builder.new (λ cycle. shown_in cycle made ≡ counted count (shown_in cycle from.now))) }
+    ensures value { IfOk result (λ made. Always builder.new (λ cycle. shown_in cycle made
+        ≡ counted count (shown_in cycle from.now))) }
     ensures adds { AddsNets 4 builder.old builder.new }
     ensures full { result ≡ Err NetFault.TooManyNets → 2 ^ 20 < length builder.old.lines + 4 }
 {

@@ -1,4 +1,5 @@
-//! From the form of a source's beats to that of a sink's: symbols are brought to one order, and beats come apart or are joined. Each
+//! From the form of a source's beats to that of a sink's: symbols are brought to one order, and beats come apart or are joined.
+//! Each
 //! stage stands only where it is needed. The turn to a sink's own order isn't part of it.
 
 ghost use Rattle.std.specs.Prelude.{◌≡◌, ℕ, ◌+◌, ◌*◌, ◌/◌, ◌<◌, ◌≤◌, Bool};
@@ -73,8 +74,10 @@ pub fn format_of(source: &SourcePort, sink: &SinkPort) -> Format
     ensures few_resize { resize_nets result.second ≤ 2200 }
 
     // Ends of one form have nothing between them.
-    ensures nothing { source.now.symbols ≡ sink.now.symbols → source.now.first_high ≡ sink.now.first_high → format_nets result ≡ 0 }
-    ensures no_order { source.now.symbols ≡ sink.now.symbols → source.now.first_high ≡ sink.now.first_high → order_nets result.first ≡ 0 }
+    ensures nothing { source.now.symbols ≡ sink.now.symbols → source.now.first_high ≡ sink.now.first_high
+        → format_nets result ≡ 0 }
+    ensures no_order { source.now.symbols ≡ sink.now.symbols → source.now.first_high ≡ sink.now.first_high
+        → order_nets result.first ≡ 0 }
     ensures no_resize { source.now.symbols ≡ sink.now.symbols → resize_nets result.second ≡ 0 }
 {
     let bits = source.symbol_bits as u8;

@@ -53,7 +53,8 @@ pub fn empty_symbols_are_clear()
 /// Behind a legal source, the stages of a format send beats with 0 in their empty symbols: where a `Clear` is one of them, or
 /// the sink's beats have one symbol, whatever stands there, and else where the source does.
 pub fn format_sends_clear_beats(format: &Format)
-    ensures { (shape : Shape) (from to : BeatNets) (front : FrontKept) (back : ResizeKept) (ready up : NetValue) (netlist : Netlist)
+    ensures { (shape : Shape) (from to : BeatNets) (front : FrontKept) (back : ResizeKept) (ready up : NetValue)
+        (netlist : Netlist)
         → format_has format.now shape → FormatForward format.now from to front back netlist
         → FormatBackward format.now front back ready up netlist → (run : Run) → IsEndlessRun netlist run → (count : ℕ)
         → IsLegalSource shape.up (view_of run from up) count

@@ -57,8 +57,10 @@ struct Current {
 #[tactic(auto, using(net_parts::specs::Laws::growing))]
 fn rest_word(builder: &mut Builder, sizes: &Sizes, word: Net) -> Result<Net, NetFault>
     requires word { IsNetOfWidth builder.old word (sizes.now.bits * (sizes.now.symbols * sizes.now.parts)) }
-    ensures net { IfOk result (λ rest. IsNetOfWidth builder.new rest (sizes.now.bits * (sizes.now.symbols * (sizes.now.parts - 1)))) }
-    ensures value { IfOk result (λ rest. Always builder.new (λ cycle. cycle.net rest.number ≡ cycle.net word.number % 2 ^ (sizes.now.bits * (sizes.now.symbols * (sizes.now.parts - 1))))) }
+    ensures net { IfOk result (λ rest. IsNetOfWidth builder.new rest
+        (sizes.now.bits * (sizes.now.symbols * (sizes.now.parts - 1)))) }
+    ensures value { IfOk result (λ rest. Always builder.new (λ cycle. cycle.net rest.number
+        ≡ cycle.net word.number % 2 ^ (sizes.now.bits * (sizes.now.symbols * (sizes.now.parts - 1))))) }
     ensures adds { AddsNets 1 builder.old builder.new }
     ensures full { result ≡ Err NetFault.TooManyNets → 2 ^ 20 < length builder.old.lines + 1 }
 {
@@ -79,7 +81,8 @@ fn lay_above(
     ensures beat { IfOk result (λ made. AreBeatNets builder.new made) }
     ensures word { IfOk result (λ made. made.word.width ≡ sizes.now.bits * (sizes.now.symbols * sizes.now.parts)) }
     ensures others { IfOk result (λ made. HaveRestWidths sizes.now held.now made) }
-    ensures value { IfOk result (λ made. Always builder.new (λ cycle. shown_in cycle made ≡ laid_above sizes.now (shown_in cycle held.now) (cycle.net word.number))) }
+    ensures value { IfOk result (λ made. Always builder.new (λ cycle. shown_in cycle made
+        ≡ laid_above sizes.now (shown_in cycle held.now) (cycle.net word.number))) }
     ensures adds { AddsNets 2 builder.old builder.new }
     ensures full { result ≡ Err NetFault.TooManyNets → 2 ^ 20 < length builder.old.lines + 2 }
 {
@@ -114,7 +117,8 @@ fn hold_parts(builder: &mut Builder, sizes: &Sizes, beat: &BeatNets) -> Result<B
     reg_beat(builder, &like)
 }
 
-/// Makes the registers, and the wide beat of the cycle: what is held of one, or else the one that is shown. The lowest part is that of
+/// Makes the registers, and the wide beat of the cycle: what is held of one, or else the one that is shown. The lowest part is
+/// that of
 /// the one that is shown in any case, so that nothing is chosen there: where one is held, all symbols of that part are empty.
 #[tactic(auto, using(net_parts::specs::Laws::growing))]
 fn show_current(builder: &mut Builder, sizes: &Sizes, from: &BeatNets) -> Result<Current, NetFault>
@@ -127,7 +131,8 @@ fn show_current(builder: &mut Builder, sizes: &Sizes, from: &BeatNets) -> Result
     ensures beat { IfOk result (λ made. AreBeatNets builder.new made.beat) }
     ensures widths { IfOk result (λ made. HaveRestWidths sizes.now made.held made.beat) }
     ensures counted { IfOk result (λ made. HaveCountedWidths sizes.now.count made.beat from.now) }
-    ensures value { IfOk result (λ made. Always builder.new (λ cycle. shown_in cycle made.beat ≡ shown_now sizes.now cycle made.held from.now)) }
+    ensures value { IfOk result (λ made. Always builder.new (λ cycle. shown_in cycle made.beat
+        ≡ shown_now sizes.now cycle made.held from.now)) }
     ensures grows { GrowsBy 21 builder.old builder.new }
     ensures still_wait { StillWait builder.old builder.new }
     ensures newly { IfOk result (λ made. WaitsBeside (IsOfBeat made.held) builder.old builder.new) }
@@ -145,7 +150,8 @@ fn show_current(builder: &mut Builder, sizes: &Sizes, from: &BeatNets) -> Result
 fn part_follows(builder: &mut Builder, sizes: &Sizes, empty: Net) -> Result<Net, NetFault>
     requires { IsNetOfWidth builder.old empty sizes.now.count }
     ensures net { IfOk result (λ more. IsBit builder.new more) }
-    ensures value { IfOk result (λ more. Always builder.new (λ cycle. (cycle.net more.number == 1) ≡ more_follow sizes.now (cycle.net empty.number))) }
+    ensures value { IfOk result (λ more. Always builder.new (λ cycle. (cycle.net more.number == 1)
+        ≡ more_follow sizes.now (cycle.net empty.number))) }
     ensures adds { AddsNets 2 builder.old builder.new }
     ensures full { result ≡ Err NetFault.TooManyNets → 2 ^ 20 < length builder.old.lines + 2 }
 {
@@ -158,9 +164,11 @@ fn part_follows(builder: &mut Builder, sizes: &Sizes, empty: Net) -> Result<Net,
 fn part_empty(builder: &mut Builder, sizes: &Sizes, empty: Net, more: Net) -> Result<Net, NetFault>
     requires empty { IsNetOfWidth builder.old empty sizes.now.count }
     requires more { IsBit builder.old more }
-    requires follows { Always builder.old (λ cycle. (cycle.net more.number == 1) ≡ more_follow sizes.now (cycle.net empty.number)) }
+    requires follows { Always builder.old (λ cycle. (cycle.net more.number == 1)
+        ≡ more_follow sizes.now (cycle.net empty.number)) }
     ensures net { IfOk result (λ left. IsNetOfWidth builder.new left sizes.now.count) }
-    ensures value { IfOk result (λ left. Always builder.new (λ cycle. cycle.net left.number ≡ piece_empty sizes.now (cycle.net empty.number))) }
+    ensures value { IfOk result (λ left. Always builder.new (λ cycle. cycle.net left.number
+        ≡ piece_empty sizes.now (cycle.net empty.number))) }
     ensures adds { AddsNets 4 builder.old builder.new }
     ensures full { result ≡ Err NetFault.TooManyNets → 2 ^ 20 < length builder.old.lines + 4 }
 {
@@ -176,7 +184,8 @@ fn part_last(builder: &mut Builder, last: Net, more: Net) -> Result<Net, NetFaul
     requires last { IsBit builder.old last }
     requires more { IsBit builder.old more }
     ensures net { IfOk result (λ mark. IsBit builder.new mark) }
-    ensures value { IfOk result (λ mark. Always builder.new (λ cycle. cycle.net mark.number ≡ (if cycle.net more.number == 1 then 0 else cycle.net last.number))) }
+    ensures value { IfOk result (λ mark. Always builder.new (λ cycle. cycle.net mark.number
+        ≡ (if cycle.net more.number == 1 then 0 else cycle.net last.number))) }
     ensures adds { AddsNets 2 builder.old builder.new }
     ensures full { result ≡ Err NetFault.TooManyNets → 2 ^ 20 < length builder.old.lines + 2 }
 {
@@ -202,7 +211,8 @@ fn show_part(
     ensures channel { IfOk result (λ made. made.channel.width ≡ beat.now.channel.width) }
     ensures error { IfOk result (λ made. made.error.width ≡ beat.now.error.width) }
     ensures empty { IfOk result (λ made. made.empty.width ≡ sizes.now.count) }
-    ensures value { IfOk result (λ made. Always builder.new (λ cycle. shown_in cycle made ≡ shown_piece sizes.now (shown_in cycle beat.now))) }
+    ensures value { IfOk result (λ made. Always builder.new (λ cycle. shown_in cycle made
+        ≡ shown_piece sizes.now (shown_in cycle beat.now))) }
     ensures adds { AddsNets 7 builder.old builder.new }
     ensures full { result ≡ Err NetFault.TooManyNets → 2 ^ 20 < length builder.old.lines + 7 }
 {
@@ -233,7 +243,8 @@ fn leave_rest(
     requires follows { Always builder.old (λ cycle. (cycle.net more.number == 1) ≡ has_more sizes.now (beat_in cycle beat.now)) }
     ensures rest { IfOk result (λ made. AreBeatNets builder.new made) }
     ensures widths { IfOk result (λ made. HaveRestWidths sizes.now made beat.now) }
-    ensures value { IfOk result (λ made. Always builder.new (λ cycle. shown_in cycle made ≡ shown_rest sizes.now (shown_in cycle beat.now))) }
+    ensures value { IfOk result (λ made. Always builder.new (λ cycle. shown_in cycle made
+        ≡ shown_rest sizes.now (shown_in cycle beat.now))) }
     ensures adds { AddsNets 4 builder.old builder.new }
     ensures full { result ≡ Err NetFault.TooManyNets → 2 ^ 20 < length builder.old.lines + 4 }
 {
@@ -268,10 +279,12 @@ fn cut_beat(builder: &mut Builder, sizes: &Sizes, beat: &BeatNets) -> Result<Cut
     ensures channel { IfOk result (λ made. made.part.channel.width ≡ beat.now.channel.width) }
     ensures error { IfOk result (λ made. made.part.error.width ≡ beat.now.error.width) }
     ensures empty { IfOk result (λ made. made.part.empty.width ≡ sizes.now.count) }
-    ensures shows { IfOk result (λ made. Always builder.new (λ cycle. shown_in cycle made.part ≡ shown_piece sizes.now (shown_in cycle beat.now))) }
+    ensures shows { IfOk result (λ made. Always builder.new (λ cycle. shown_in cycle made.part
+        ≡ shown_piece sizes.now (shown_in cycle beat.now))) }
     ensures rest { IfOk result (λ made. AreBeatNets builder.new made.rest) }
     ensures widths { IfOk result (λ made. HaveRestWidths sizes.now made.rest beat.now) }
-    ensures rests { IfOk result (λ made. Always builder.new (λ cycle. shown_in cycle made.rest ≡ shown_rest sizes.now (shown_in cycle beat.now))) }
+    ensures rests { IfOk result (λ made. Always builder.new (λ cycle. shown_in cycle made.rest
+        ≡ shown_rest sizes.now (shown_in cycle beat.now))) }
     ensures adds { AddsNets 13 builder.old builder.new }
     ensures full { result ≡ Err NetFault.TooManyNets → 2 ^ 20 < length builder.old.lines + 13 }
 {

@@ -1,5 +1,7 @@
-//! What changes how many symbols a beat has: nothing where both ends have equally many, what takes beats apart or joins them where the
-//! symbols of one end divide those of the other, and else a window of symbols. In each cycle it takes or gives a whole beat, so that it
+//! What changes how many symbols a beat has: nothing where both ends have equally many, what takes beats apart or joins them
+//! where the
+//! symbols of one end divide those of the other, and else a window of symbols. In each cycle it takes or gives a whole beat, so
+//! that it
 //! carries as many symbols as the smaller beat has.
 
 ghost use Rattle.std.specs.Prelude.{◌≡◌, ◌+◌, ◌*◌, ◌≤◌};

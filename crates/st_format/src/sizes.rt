@@ -49,7 +49,8 @@ impl Sizes {
     pub(crate) fn narrow_bits(&self) -> u8
         ensures value { result ≡ self.now.bits * self.now.symbols }
         ensures some { 1 ≤ result }
-        ensures within { self.now.bits * (self.now.symbols * (self.now.parts - 1)) + result ≡ self.now.bits * (self.now.symbols * self.now.parts) }
+        ensures within { self.now.bits * (self.now.symbols * (self.now.parts - 1)) + result
+            ≡ self.now.bits * (self.now.symbols * self.now.parts) }
     {
         self.bits * self.symbols
     }

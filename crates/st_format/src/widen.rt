@@ -1,6 +1,7 @@
 //! Narrow beats that are joined to wide ones: beats are gathered, and the one that takes the last place or ends a packet goes out
 //! with them. A narrow beat is taken in each cycle in which no wide beat is shown, and with ready. Its state is one
-//! wide word without a part, its hold a wide beat without a part, and it makes five nets for each part and 46 more at most. Its law is that of
+//! wide word without a part, its hold a wide beat without a part, and it makes five nets for each part and 46 more at most. Its
+//! law is that of
 //! `widen_is_a_stage`.
 
 ghost use Rattle.std.specs.Prelude.{◌≡◌, ℕ, ◌+◌, ◌-◌, ◌*◌, ◌/◌, ◌%◌, ◌^◌, ◌<◌, ◌≤◌, ◌==◌, ◌||◌, if◌then◌else◌, bit_or, length, IfOk};
@@ -109,7 +110,9 @@ fn lay_part(
     requires gathered { IsNetOfWidth builder.old gathered sizes.now.count }
     requires inside { part < sizes.now.parts }
     ensures net { IfOk result (λ laid. IsNetOfWidth builder.new laid (sizes.now.bits * sizes.now.symbols)) }
-    ensures value { IfOk result (λ laid. Always builder.new (λ cycle. cycle.net laid.number ≡ part_at sizes.now.bits sizes.now.symbols sizes.now.parts (cycle.net held.number) (cycle.net coming.number) (cycle.net gathered.number) part)) }
+    ensures value { IfOk result (λ laid. Always builder.new (λ cycle. cycle.net laid.number
+        ≡ part_at sizes.now.bits sizes.now.symbols sizes.now.parts (cycle.net held.number) (cycle.net coming.number)
+        (cycle.net gathered.number) part)) }
     ensures adds { AddsNets 4 builder.old builder.new }
     ensures full { result ≡ Err NetFault.TooManyNets → 2 ^ 20 < length builder.old.lines + 4 }
 {
@@ -133,7 +136,9 @@ fn lay_word(
     requires coming { IsNetOfWidth builder.old coming (sizes.now.bits * sizes.now.symbols) }
     requires gathered { IsNetOfWidth builder.old gathered sizes.now.count }
     ensures net { IfOk result (λ word. IsNetOfWidth builder.new word (sizes.now.bits * (sizes.now.symbols * sizes.now.parts))) }
-    ensures value { IfOk result (λ word. Always builder.new (λ cycle. cycle.net word.number ≡ laid sizes.now.bits sizes.now.symbols sizes.now.parts (cycle.net held.number) (cycle.net coming.number) (cycle.net gathered.number) sizes.now.parts)) }
+    ensures value { IfOk result (λ word. Always builder.new (λ cycle. cycle.net word.number
+        ≡ laid sizes.now.bits sizes.now.symbols sizes.now.parts (cycle.net held.number) (cycle.net coming.number)
+        (cycle.net gathered.number) sizes.now.parts)) }
     ensures adds { AddsNets (5 * sizes.now.parts) builder.old builder.new }
     ensures full { result ≡ Err NetFault.TooManyNets → 2 ^ 20 < length builder.old.lines + 5 * sizes.now.parts }
 {
@@ -157,11 +162,15 @@ fn join_word(
     gathered: Net,
 ) -> Result<Net, NetFault>
     requires some { IsBit builder.old some }
-    requires held { IsNetOfWidth builder.old held (stage.now.sizes.bits * (stage.now.sizes.symbols * (stage.now.sizes.parts - 1))) }
+    requires held { IsNetOfWidth builder.old held
+        (stage.now.sizes.bits * (stage.now.sizes.symbols * (stage.now.sizes.parts - 1))) }
     requires coming { IsNetOfWidth builder.old coming (stage.now.sizes.bits * stage.now.sizes.symbols) }
     requires gathered { IsNetOfWidth builder.old gathered stage.now.sizes.count }
-    ensures net { IfOk result (λ word. IsNetOfWidth builder.new word (stage.now.sizes.bits * (stage.now.sizes.symbols * stage.now.sizes.parts))) }
-    ensures value { IfOk result (λ word. Always builder.new (λ cycle. cycle.net word.number ≡ joined_by stage.now (cycle.net some.number) (cycle.net held.number) (cycle.net coming.number) (cycle.net gathered.number))) }
+    ensures net { IfOk result (λ word. IsNetOfWidth builder.new word
+        (stage.now.sizes.bits * (stage.now.sizes.symbols * stage.now.sizes.parts))) }
+    ensures value { IfOk result (λ word. Always builder.new (λ cycle. cycle.net word.number
+        ≡ joined_by stage.now (cycle.net some.number) (cycle.net held.number) (cycle.net coming.number)
+        (cycle.net gathered.number))) }
     ensures adds { AddsNets (5 * stage.now.sizes.parts + 4) builder.old builder.new }
     ensures full { result ≡ Err NetFault.TooManyNets → 2 ^ 20 < length builder.old.lines + (5 * stage.now.sizes.parts + 4) }
 {
@@ -180,8 +189,10 @@ fn join_word(
 #[tactic(auto, using(net_parts::specs::Laws::growing))]
 fn hold_word(builder: &mut Builder, stage: &Widen, word: Net) -> Result<Net, NetFault>
     requires { IsNetOfWidth builder.old word (stage.now.sizes.bits * (stage.now.sizes.symbols * stage.now.sizes.parts)) }
-    ensures net { IfOk result (λ held. IsNetOfWidth builder.new held (stage.now.sizes.bits * (stage.now.sizes.symbols * (stage.now.sizes.parts - 1)))) }
-    ensures value { IfOk result (λ held. Always builder.new (λ cycle. cycle.net held.number ≡ held_of stage.now (cycle.net word.number))) }
+    ensures net { IfOk result (λ held. IsNetOfWidth builder.new held
+        (stage.now.sizes.bits * (stage.now.sizes.symbols * (stage.now.sizes.parts - 1)))) }
+    ensures value { IfOk result (λ held. Always builder.new (λ cycle. cycle.net held.number
+        ≡ held_of stage.now (cycle.net word.number))) }
     ensures adds { AddsNets 1 builder.old builder.new }
     ensures full { result ≡ Err NetFault.TooManyNets → 2 ^ 20 < length builder.old.lines + 1 }
 {
@@ -195,7 +206,8 @@ fn fills_up(builder: &mut Builder, sizes: &Sizes, last: Net, gathered: Net) -> R
     requires last { IsBit builder.old last }
     requires gathered { IsNetOfWidth builder.old gathered sizes.now.count }
     ensures net { IfOk result (λ full. IsBit builder.new full) }
-    ensures value { IfOk result (λ full. Always builder.new (λ cycle. (cycle.net full.number == 1) ≡ ((cycle.net last.number == 1) || (cycle.net gathered.number == sizes.now.symbols * (sizes.now.parts - 1))))) }
+    ensures value { IfOk result (λ full. Always builder.new (λ cycle. (cycle.net full.number == 1)
+        ≡ ((cycle.net last.number == 1) || (cycle.net gathered.number == sizes.now.symbols * (sizes.now.parts - 1))))) }
     ensures adds { AddsNets 3 builder.old builder.new }
     ensures full { result ≡ Err NetFault.TooManyNets → 2 ^ 20 < length builder.old.lines + 3 }
 {
@@ -215,7 +227,8 @@ fn join_empty(
     requires gathered { IsNetOfWidth builder.old gathered sizes.now.count }
     requires empty { IsNet builder.old empty }
     ensures net { IfOk result (λ joined. IsNetOfWidth builder.new joined sizes.now.count) }
-    ensures value { IfOk result (λ joined. Always builder.new (λ cycle. cycle.net joined.number ≡ missing_in sizes.now (cycle.net gathered.number) (cycle.net empty.number))) }
+    ensures value { IfOk result (λ joined. Always builder.new (λ cycle. cycle.net joined.number
+        ≡ missing_in sizes.now (cycle.net gathered.number) (cycle.net empty.number))) }
     ensures adds { AddsNets 5 builder.old builder.new }
     ensures full { result ≡ Err NetFault.TooManyNets → 2 ^ 20 < length builder.old.lines + 5 }
 {
@@ -240,11 +253,13 @@ fn join_beat(
     requires from { AreBeatNets builder.old from.now }
     requires from_word { from.now.word.width ≡ stage.now.sizes.bits * stage.now.sizes.symbols }
     ensures beat { IfOk result (λ made. AreBeatNets builder.new made) }
-    ensures word { IfOk result (λ made. made.word.width ≡ stage.now.sizes.bits * (stage.now.sizes.symbols * stage.now.sizes.parts)) }
+    ensures word { IfOk result (λ made. made.word.width
+        ≡ stage.now.sizes.bits * (stage.now.sizes.symbols * stage.now.sizes.parts)) }
     ensures channel { IfOk result (λ made. made.channel.width ≡ from.now.channel.width) }
     ensures error { IfOk result (λ made. made.error.width ≡ from.now.error.width) }
     ensures empty { IfOk result (λ made. made.empty.width ≡ stage.now.sizes.count) }
-    ensures value { IfOk result (λ made. Always builder.new (λ cycle. shown_in cycle made ≡ shown_joined stage.now (shown_in cycle held.now) (shown_in cycle from.now))) }
+    ensures value { IfOk result (λ made. Always builder.new (λ cycle. shown_in cycle made
+        ≡ shown_joined stage.now (shown_in cycle held.now) (shown_in cycle from.now))) }
     ensures adds { AddsNets (5 * stage.now.sizes.parts + 15) builder.old builder.new }
     ensures full { result ≡ Err NetFault.TooManyNets → 2 ^ 20 < length builder.old.lines + (5 * stage.now.sizes.parts + 15) }
 {
@@ -285,7 +300,9 @@ fn gather_more(
     requires coming { IsBit builder.old coming }
     ensures filled { IfOk result (λ made. AreBeatNets builder.new made) }
     ensures widths { IfOk result (λ made. HaveSameWidths made none.now) }
-    ensures value { IfOk result (λ made. Always builder.new (λ cycle. shown_in cycle made ≡ shown_gathered stage.now (cycle.net coming.number) (shown_in cycle held.now) (shown_in cycle joined.now) (shown_in cycle none.now))) }
+    ensures value { IfOk result (λ made. Always builder.new (λ cycle. shown_in cycle made
+        ≡ shown_gathered stage.now (cycle.net coming.number) (shown_in cycle held.now) (shown_in cycle joined.now)
+        (shown_in cycle none.now))) }
     ensures adds { AddsNets 3 builder.old builder.new }
     ensures full { result ≡ Err NetFault.TooManyNets → 2 ^ 20 < length builder.old.lines + 3 }
 {
@@ -314,7 +331,8 @@ impl Stage for Widen {
 
     ghost takes = { λ s widths. (widths.word ≡ s.sizes.bits * s.sizes.symbols) × (widths.empty ≤ 8) };
 
-    ghost gives = { λ s widths. record widths { word = s.sizes.bits * (s.sizes.symbols * s.sizes.parts); empty = s.sizes.count } };
+    ghost gives = { λ s widths. record widths
+        { word = s.sizes.bits * (s.sizes.symbols * s.sizes.parts); empty = s.sizes.count } };
 
     ghost forward_nets = { λ s. 5 * s.sizes.parts + 29 };
 

@@ -16,7 +16,8 @@ fn take_symbol(builder: &mut Builder, word: Net, bits: u8, place: u8) -> Result<
     requires inside { bits * place + bits ≤ word.width }
     requires small { word.width ≤ 128 }
     ensures net { IfOk result (λ symbol. IsNetOfWidth builder.new symbol bits) }
-    ensures value { IfOk result (λ symbol. Always builder.new (λ cycle. cycle.net symbol.number ≡ cycle.net word.number / 2 ^ (bits * place) % 2 ^ bits)) }
+    ensures value { IfOk result (λ symbol. Always builder.new (λ cycle. cycle.net symbol.number
+        ≡ cycle.net word.number / 2 ^ (bits * place) % 2 ^ bits)) }
     ensures adds { AddsNets 1 builder.old builder.new }
     ensures full { result ≡ Err NetFault.TooManyNets → 2 ^ 20 < length builder.old.lines + 1 }
 {
@@ -37,7 +38,8 @@ pub(crate) fn turn_symbols(
     requires some_bits { 1 ≤ bits }
     requires small { bits * symbols ≤ 128 }
     ensures net { IfOk result (λ turned. IsNetOfWidth builder.new turned (bits * symbols)) }
-    ensures value { IfOk result (λ turned. Always builder.new (λ cycle. cycle.net turned.number ≡ turned_word bits symbols (cycle.net word.number))) }
+    ensures value { IfOk result (λ turned. Always builder.new (λ cycle. cycle.net turned.number
+        ≡ turned_word bits symbols (cycle.net word.number))) }
     ensures adds { AddsNets (2 * symbols) builder.old builder.new }
     ensures full { result ≡ Err NetFault.TooManyNets → 2 ^ 20 < length builder.old.lines + 2 * symbols }
 {

@@ -15,4 +15,6 @@ Picks value index bits from count item = (k : ℕ) → k < count → index % 2 ^
 abbrev pub AreLater : NetValue → NetValue → NetValue → NetValue → ℕ → ℕ → NetValue → Cycle → Type 0
 AreLater counts moves channel next bits channels later cycle =
     (k : ℕ) → k < channels
-    → field bits k (cycle.net later.number) ≡ (if (cycle.net moves.number == 1) && (cycle.net channel.number == k) then cycle.net next.number else field bits k (cycle.net counts.number))
+    → field bits k (cycle.net later.number)
+    ≡ (if (cycle.net moves.number == 1) && (cycle.net channel.number == k) then cycle.net next.number
+    else field bits k (cycle.net counts.number))

@@ -29,21 +29,30 @@ pub record AreFlowNets (netlist : Netlist) (bits : ℕ) (flow : FlowNets) : Type
   pub is : IsFlow netlist flow
 
 -- the count is that of the channel; with the last word a beat goes out, and it comes where the beat is taken
-pub record Flows (netlist : Netlist) (shape : GathererShape) (bits : ℕ) (counts : NetValue) (from : WordNets) (ready : NetValue) (flow : FlowNets) : Type 0 where
-  pub picks : Always netlist (λ cycle. Picks (λ k. field bits k (cycle.net counts.number)) (cycle.net from.channel.number) shape.channel_bits 0 shape.channels (cycle.net flow.count.number))
-  pub last_is : Always netlist (λ cycle. cycle.net flow.last.number ≡ (if cycle.net flow.count.number == shape.parts - 1 then 1 else 0))
-  pub room_is : Always netlist (λ cycle. (cycle.net flow.room.number == 1) ≡ (not (cycle.net flow.last.number == 1) || (cycle.net ready.number == 1)))
-  pub valid_is : Always netlist (λ cycle. (cycle.net flow.valid.number == 1) ≡ ((cycle.net from.valid.number == 1) && (cycle.net flow.last.number == 1)))
-  pub moves_is : Always netlist (λ cycle. (cycle.net flow.moves.number == 1) ≡ ((cycle.net from.valid.number == 1) && (cycle.net flow.room.number == 1)))
+pub record Flows (netlist : Netlist) (shape : GathererShape) (bits : ℕ) (counts : NetValue) (from : WordNets) (ready : NetValue)
+    (flow : FlowNets) : Type 0 where
+  pub picks : Always netlist (λ cycle. Picks (λ k. field bits k (cycle.net counts.number))
+      (cycle.net from.channel.number) shape.channel_bits 0 shape.channels (cycle.net flow.count.number))
+  pub last_is : Always netlist (λ cycle. cycle.net flow.last.number
+      ≡ (if cycle.net flow.count.number == shape.parts - 1 then 1 else 0))
+  pub room_is : Always netlist (λ cycle. (cycle.net flow.room.number == 1)
+      ≡ (not (cycle.net flow.last.number == 1) || (cycle.net ready.number == 1)))
+  pub valid_is : Always netlist (λ cycle. (cycle.net flow.valid.number == 1)
+      ≡ ((cycle.net from.valid.number == 1) && (cycle.net flow.last.number == 1)))
+  pub moves_is : Always netlist (λ cycle. (cycle.net flow.moves.number == 1)
+      ≡ ((cycle.net from.valid.number == 1) && (cycle.net flow.room.number == 1)))
 
 -- the counts a cycle later: one more for the channel on which a word comes, and 0 behind a beat's last one
-pub record CountsOn (netlist : Netlist) (shape : GathererShape) (bits : ℕ) (counts channel : NetValue) (flow : FlowNets) (later : NetValue) : Type 0 where
+pub record CountsOn (netlist : Netlist) (shape : GathererShape) (bits : ℕ) (counts channel : NetValue) (flow : FlowNets)
+    (later : NetValue) : Type 0 where
   pub next : NetValue
-  pub next_is : Always netlist (λ cycle. cycle.net next.number ≡ (if cycle.net flow.last.number == 1 then 0 else (cycle.net flow.count.number + 1) % 2 ^ bits))
+  pub next_is : Always netlist (λ cycle. cycle.net next.number
+      ≡ (if cycle.net flow.last.number == 1 then 0 else (cycle.net flow.count.number + 1) % 2 ^ bits))
   pub later_is : Always netlist (AreLater counts flow.moves channel next bits shape.channels later)
 
 -- so in each run, from counts of 0 on
-pub record CountsWords (netlist : Netlist) (shape : GathererShape) (from : WordNets) (ready : NetValue) (flow : FlowNets) : Type 0 where
+pub record CountsWords (netlist : Netlist) (shape : GathererShape) (from : WordNets) (ready : NetValue)
+    (flow : FlowNets) : Type 0 where
   pub bits : ℕ
   pub fits : shape.parts ≤ 2 ^ bits
   pub counts : NetValue

@@ -42,5 +42,6 @@ gatherer_run run from ready made =
 abbrev pub GathersInLonger : Netlist → GathererShape → WordNets → NetValue → GathererNets → Type 0
 GathersInLonger netlist shape from ready made =
     (longer : Netlist) → Extends netlist longer → (run : Run) → IsEndlessRun longer run
-    → (gatherer : Gatherer) → HasShape gatherer shape → (count : ℕ) → IsLegalSource (input_side gatherer) (gatherer_run run from ready made).input count
+    → (gatherer : Gatherer) → HasShape gatherer shape → (count : ℕ)
+    → IsLegalSource (input_side gatherer) (gatherer_run run from ready made).input count
     → IsGathered gatherer (gatherer_run run from ready made) count

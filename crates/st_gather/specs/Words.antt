@@ -26,11 +26,16 @@ word_view run nets ready = record {
   ready = λ c. run.net c ready.number;
 }
 
--- some memory has words of the channels. The net shows those of the one that is shown and behind them the word that comes, and where
+-- some memory has words of the channels. The net shows those of the one that is shown and behind them the word that comes, and
+-- where
 -- a word moves its channel has the latest of these from then on, one fewer than a beat
-pub record JoinsWords (netlist : Netlist) (from : WordNets) (channel_bits word_bits parts : ℕ) (moves word : NetValue) : Type 0 where
+pub record JoinsWords (netlist : Netlist) (from : WordNets) (channel_bits word_bits parts : ℕ)
+    (moves word : NetValue) : Type 0 where
   pub memory : ℕ
   pub fits : Always netlist (λ cycle. (k : ℕ) → k < 2 ^ channel_bits → cycle.cell memory k < 2 ^ (word_bits * (parts - 1)))
-  pub shows : Always netlist (λ cycle. cycle.net word.number ≡ cycle.cell memory (cycle.net from.channel.number) * 2 ^ word_bits + cycle.net from.word.number)
+  pub shows : Always netlist (λ cycle. cycle.net word.number
+      ≡ cycle.cell memory (cycle.net from.channel.number) * 2 ^ word_bits + cycle.net from.word.number)
   pub keeps : (run : Run) (cycles : ℕ) → IsRun netlist run cycles → (c : ℕ) → c + 1 < cycles → (k : ℕ) → k < 2 ^ channel_bits
-      → run.cell (c + 1) memory k ≡ (if (run.net c moves.number == 1) && (run.net c from.channel.number == k) then run.net c word.number % 2 ^ (word_bits * (parts - 1)) else run.cell c memory k)
+      → run.cell (c + 1) memory k
+      ≡ (if (run.net c moves.number == 1) && (run.net c from.channel.number == k)
+      then run.net c word.number % 2 ^ (word_bits * (parts - 1)) else run.cell c memory k)

@@ -68,7 +68,8 @@ fn count_at(builder: &mut Builder, counts: Net, bits: u8, number: u8) -> Result<
     requires few { bits ≤ 4 }
     requires few_channels { number < 16 }
     ensures net { IfOk result (λ count. IsNetOfWidth builder.new count bits) }
-    ensures value { IfOk result (λ count. Always builder.new (λ cycle. cycle.net count.number ≡ field bits number (cycle.net counts.number))) }
+    ensures value { IfOk result (λ count. Always builder.new (λ cycle. cycle.net count.number
+        ≡ field bits number (cycle.net counts.number))) }
     ensures adds { AddsNets 1 builder.old builder.new }
     ensures full { result ≡ Err NetFault.TooManyNets → 2 ^ 20 < length builder.old.lines + 1 }
 {
@@ -76,7 +77,8 @@ fn count_at(builder: &mut Builder, counts: Net, bits: u8, number: u8) -> Result<
     builder.slice(counts, low + (bits - 1), low)
 }
 
-/// Of the counts of so many channels, from one on, that of the channel which has the number of the index's lowest bits among them.
+/// Of the counts of so many channels, from one on, that of the channel which has the number of the index's lowest bits among
+/// them.
 #[tactic(auto, using(net_parts::specs::Laws::growing))]
 pub(crate) fn count_of(
     builder: &mut Builder,
@@ -98,7 +100,8 @@ pub(crate) fn count_of(
     requires few_channels { from + channels ≤ 16 }
     requires fits { channels ≤ 2 ^ index_bits }
     ensures net { IfOk result (λ count. IsNetOfWidth builder.new count bits) }
-    ensures value { IfOk result (λ count. Always builder.new (λ cycle. Picks (λ k. field bits k (cycle.net counts.number)) (cycle.net index.number) index_bits from channels (cycle.net count.number))) }
+    ensures value { IfOk result (λ count. Always builder.new (λ cycle. Picks (λ k. field bits k (cycle.net counts.number))
+        (cycle.net index.number) index_bits from channels (cycle.net count.number))) }
     ensures adds { AddsNets (3 * channels - 2) builder.old builder.new }
     ensures full { result ≡ Err NetFault.TooManyNets → 2 ^ 20 < length builder.old.lines + (3 * channels - 2) }
 {
@@ -136,7 +139,8 @@ pub(crate) fn next_count(
     requires some { 1 ≤ bits }
     requires few { bits ≤ 4 }
     ensures net { IfOk result (λ next. IsNetOfWidth builder.new next bits) }
-    ensures value { IfOk result (λ next. Always builder.new (λ cycle. cycle.net next.number ≡ (if cycle.net last.number == 1 then 0 else (cycle.net count.number + 1) % 2 ^ bits))) }
+    ensures value { IfOk result (λ next. Always builder.new (λ cycle. cycle.net next.number
+        ≡ (if cycle.net last.number == 1 then 0 else (cycle.net count.number + 1) % 2 ^ bits))) }
     ensures adds { AddsNets 4 builder.old builder.new }
     ensures full { result ≡ Err NetFault.TooManyNets → 2 ^ 20 < length builder.old.lines + 4 }
 {

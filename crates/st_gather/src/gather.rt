@@ -171,7 +171,8 @@ pub fn emit_gatherer(
     ensures word { IfOk result (λ made. IsNetOfWidth builder.new made.word (shape.word_bits * shape.parts)) }
     ensures gathers { IfOk result (λ made. GathersInLonger builder.new shape from.now ready made) }
     ensures whole { OnOk result (LeavesWhole (9 * shape.channels + 11) builder.old builder.new) }
-    ensures full { result ≡ Err NetFault.TooManyNets → (2 ^ 20 < length builder.old.lines + (9 * shape.channels + 11)) ⊎ (2 ^ 16 < length builder.old.memories + 1) }
+    ensures full { result ≡ Err NetFault.TooManyNets
+        → (2 ^ 20 < length builder.old.lines + (9 * shape.channels + 11)) ⊎ (2 ^ 16 < length builder.old.memories + 1) }
 {
     gatherer_gathers();
     let made = count_channels(builder, shape, from, ready)?;

@@ -16,7 +16,8 @@ pub struct WordNets {
     pub channel: Net,
 }
 
-/// The words that the channel has, and behind them the one that comes. Where `moves` is high the channel has this one too from then
+/// The words that the channel has, and behind them the one that comes. Where `moves` is high the channel has this one too from
+/// then
 /// on, and of all that it has the latest ones, one fewer than a beat.
 #[tactic(auto, using(net_parts::specs::Laws::growing))]
 pub(crate) fn join_words(
@@ -37,7 +38,8 @@ pub(crate) fn join_words(
     ensures net { IfOk result (λ word. IsNetOfWidth builder.new word (word_bits * parts)) }
     ensures joins { IfOk result (λ word. JoinsWords builder.new from.now channel_bits word_bits parts moves word) }
     ensures whole { OnOk result (LeavesWhole 3 builder.old builder.new) }
-    ensures full { result ≡ Err NetFault.TooManyNets → (2 ^ 20 < length builder.old.lines + 3) ⊎ (2 ^ 16 < length builder.old.memories + 1) }
+    ensures full { result ≡ Err NetFault.TooManyNets
+        → (2 ^ 20 < length builder.old.lines + 3) ⊎ (2 ^ 16 < length builder.old.memories + 1) }
 {
     let kept_bits = word_bits * (parts - 1);
     let memory = builder.memory(kept_bits, channel_bits)?;

@@ -14,7 +14,8 @@ use Rattle.st_mux.specs.Packets.{packet_view}
 use Rattle.st_mux.specs.Selecting.{Selects}
 use Rattle.st_mux.specs.Each.{AreSetWhere, shown_on}
 
--- a run of a demultiplexer: the beat of the input, its channel and its ready, and at each output that beat, with a valid and a ready of its own
+-- a run of a demultiplexer: the beat of the input, its channel and its ready, and at each output that beat, with a valid and a
+-- ready of its own
 abbrev pub demultiplexer_run : Run → PacketNets → NetValue → NetValue → List NetValue → List NetValue → DemultiplexerRun
 demultiplexer_run run from channel ready valids readies =
     record {
@@ -32,15 +33,22 @@ DemultiplexesInLonger netlist from channel ready valids readies =
 
 -- ---- laws. No contract reads a proof of these
 
-pub demultiplexer_between : (netlist : Netlist) (run : Run) (from : PacketNets) (channel ready : NetValue) (valids readies : List NetValue) (bits : ℕ) (demux : Demultiplexer) → IsEndlessRun netlist run
-    → Always netlist (AreSetWhere (shown_on from.valid channel) valids) → Always netlist (λ cycle. Selects (λ item. cycle.net item.number) (cycle.net channel.number) bits readies ready)
-    → Always netlist (λ cycle. cycle.net channel.number < 2 ^ bits) → length valids ≡ length readies → demux.outputs ≡ length readies
+pub demultiplexer_between : (netlist : Netlist) (run : Run) (from : PacketNets) (channel ready : NetValue)
+    (valids readies : List NetValue) (bits : ℕ) (demux : Demultiplexer)
+    → IsEndlessRun netlist run
+    → Always netlist (AreSetWhere (shown_on from.valid channel) valids)
+    → Always netlist (λ cycle. Selects (λ item. cycle.net item.number) (cycle.net channel.number) bits readies ready)
+    → Always netlist (λ cycle. cycle.net channel.number < 2 ^ bits) → length valids ≡ length readies
+    → demux.outputs ≡ length readies
     → IsDemultiplexerRun demux (demultiplexer_run run from channel ready valids readies)
 demultiplexer_between netlist run from channel ready valids readies bits demux endless shown selected fits lengths outputs =
     record {
       valid = λ c k is_output. shown (cycle_of run c) (here c) from.valid k (omega (arith, is_output, lengths, outputs));
       beat = λ c k is_output high. refl;
-      ready = λ c is_output. ap (λ n. n == 1) (selected (cycle_of run c) (here c) from.valid (run.net c channel.number) (omega (arith, is_output, outputs)) (mod-eq_of_lt (fits (cycle_of run c) (here c))));
+      ready =
+          λ c is_output. ap (λ n. n == 1)
+          (selected (cycle_of run c) (here c) from.valid (run.net c channel.number) (omega (arith, is_output, outputs))
+          (mod-eq_of_lt (fits (cycle_of run c) (here c))));
     }
   where
     here : (c : ℕ) → IsValuation netlist (cycle_of run c)

@@ -18,7 +18,8 @@ shown_on shown channel cycle k = (cycle.net shown.number == 1) && (cycle.net cha
 
 -- net k is high where the test holds of k
 abbrev pub AreSetWhere : (Cycle → ℕ → Bool) → List NetValue → Cycle → Type 0
-AreSetWhere test nets cycle = (other : NetValue) (k : ℕ) → k < length nets → (cycle.net (get_or nets k other).number == 1) ≡ test cycle k
+AreSetWhere test nets cycle =
+    (other : NetValue) (k : ℕ) → k < length nets → (cycle.net (get_or nets k other).number == 1) ≡ test cycle k
 
 -- so many such nets were made
 pub record MakesEach (old new : Netlist) (test : Cycle → ℕ → Bool) (nets : List NetValue) (count : ℕ) : Type 0 where
@@ -30,12 +31,16 @@ pub record MakesEach (old new : Netlist) (test : Cycle → ℕ → Bool) (nets :
 -- ---- laws. No contract reads a proof of these
 
 -- with one more
-pub each_more : (old now new : Netlist) (test : Cycle → ℕ → Bool) (nets : List NetValue) (here : NetValue) (count : ℕ) → MakesEach old now test nets count → AddsNets 3 now new
-    → IsBit new here → Always new (λ cycle. (cycle.net here.number == 1) ≡ test cycle count) → MakesEach old new test (nets ++ here ∷ []) (count + 1)
+pub each_more : (old now new : Netlist) (test : Cycle → ℕ → Bool) (nets : List NetValue) (here : NetValue) (count : ℕ)
+    → MakesEach old now test nets count → AddsNets 3 now new
+    → IsBit new here → Always new (λ cycle. (cycle.net here.number == 1) ≡ test cycle count)
+    → MakesEach old new test (nets ++ here ∷ []) (count + 1)
 each_more old now new test nets here count was adds bit value =
     record {
       lengths = length-append nets (here ∷ []) ∙ ap (λ n. n + 1) was.lengths;
-      bits = λ other k below. at (λ net j. IsBit new net) other k below (λ less. bits_last now new nets adds.grows.extends was.bits other k less) bit;
+      bits =
+          λ other k below. at (λ net j. IsBit new net) other k below
+          (λ less. bits_last now new nets adds.grows.extends was.bits other k less) bit;
       value = λ cycle v other k below.
           at (λ net j. (cycle.net net.number == 1) ≡ test cycle j) other k below
           (λ less. was.value cycle (adds.grows.extends.valuations cycle v) other k less)
@@ -43,13 +48,16 @@ each_more old now new test nets here count was adds bit value =
       adds = adds_fewer _ _ _ _ (omega arith) (adds_twice _ _ _ _ _ was.adds adds);
     }
   where
-    at : (P : NetValue → ℕ → Type 0) (other : NetValue) (k : ℕ) → k < length (nets ++ here ∷ []) → (k < length nets → P (get_or nets k other) k) → P here count → P (get_or (nets ++ here ∷ []) k other) k
+    at : (P : NetValue → ℕ → Type 0) (other : NetValue) (k : ℕ) → k < length (nets ++ here ∷ [])
+        → (k < length nets → P (get_or nets k other) k) → P here count → P (get_or (nets ++ here ∷ []) k other) k
     at P other k below earlier latest = by_place (cases_lt k (length nets))
       where
         by_place : (k < length nets) ⊎ (length nets ≤ k) → P (get_or (nets ++ here ∷ []) k other) k
-        by_place (inl less) = subst (λ (net : NetValue). P net k) (sym (get_or_append_left nets (here ∷ []) other k less)) (earlier less)
+        by_place (inl less) =
+            subst (λ (net : NetValue). P net k) (sym (get_or_append_left nets (here ∷ []) other k less)) (earlier less)
         by_place (inr more) =
             let whole = length-append nets (here ∷ []) in
             let last : length nets ≡ k = omega (arith, below, whole, more) in
             subst (λ n. P (get_or (nets ++ here ∷ []) n other) n) last
-            (subst (λ (net : NetValue). P net (length nets)) (sym (get_or-append_seam nets here [] other)) (subst (P here) (sym was.lengths) latest))
+            (subst (λ (net : NetValue). P net (length nets)) (sym (get_or-append_seam nets here [] other))
+            (subst (P here) (sym was.lengths) latest))

@@ -42,21 +42,25 @@ valid_nets inputs = map (λ (input : PacketNets). input.valid) inputs
 -- the choice stays: a beat is shown that isn't the last of its packet, or isn't taken; or none is, and it has to stay
 abbrev pub stays_in : Cycle → PacketNets → NetValue → NetValue → Bool
 stays_in cycle beat ready locked =
-    if cycle.net beat.valid.number == 1 then not ((cycle.net ready.number == 1) && (cycle.net beat.last.number == 1)) else cycle.net locked.number == 1
+    if cycle.net beat.valid.number == 1 then not ((cycle.net ready.number == 1) && (cycle.net beat.last.number == 1))
+    else cycle.net locked.number == 1
 
 -- the nets lead the chosen input to the output, and show its ready to it alone
-pub record Leads (netlist : Netlist) (inputs : List PacketNets) (turns : TurnNets) (bits : ℕ) (ready : NetValue) (made : MultiplexerNets) : Type 0 where
+pub record Leads (netlist : Netlist) (inputs : List PacketNets) (turns : TurnNets) (bits : ℕ) (ready : NetValue)
+    (made : MultiplexerNets) : Type 0 where
   pub beat : ArePacketNets netlist made.beat
   pub like : IsLike made.beat inputs
   pub channel : IsNetOfWidth netlist made.channel bits
   pub readies : AreBits netlist made.readies.items
   pub count : length made.readies.items ≡ length inputs
-  pub chosen : Always netlist (λ cycle. IsChosen (length inputs) (cycle.net turns.holder.number) (is_set cycle (valid_nets inputs)) (cycle.net turns.locked.number == 1) (cycle.net made.channel.number))
+  pub chosen : Always netlist (λ cycle. IsChosen (length inputs) (cycle.net turns.holder.number)
+      (is_set cycle (valid_nets inputs)) (cycle.net turns.locked.number == 1) (cycle.net made.channel.number))
   pub led : Always netlist (λ cycle. Selects (shown_in cycle) (cycle.net made.channel.number) bits inputs made.beat)
   pub shown : Always netlist (AreSetWhere (led_to ready made.channel bits) made.readies.items)
 
 -- all nets of a multiplexer: what leads its inputs, and what its registers take
-pub record AreMultiplexerNets (netlist : Netlist) (inputs : List PacketNets) (bits : ℕ) (ready : NetValue) (made : MultiplexerNets) : Type 0 where
+pub record AreMultiplexerNets (netlist : Netlist) (inputs : List PacketNets) (bits : ℕ) (ready : NetValue)
+    (made : MultiplexerNets) : Type 0 where
   pub turns : TurnNets
   pub stays : NetValue
   pub leads : Leads netlist inputs turns bits ready made
@@ -78,7 +82,8 @@ multiplexer_run run inputs made ready =
 abbrev pub ShowsSomeInput : Netlist → List PacketNets → PacketNets → Type 0
 ShowsSomeInput netlist inputs beat =
     (longer : Netlist) → Extends netlist longer → (run : Run) → IsEndlessRun longer run → (c : ℕ)
-    → (i : ℕ) × (i < length inputs) × ((other : PacketNets) → shown_in (cycle_of run c) beat ≡ shown_in (cycle_of run c) (get_or inputs i other))
+    → (i : ℕ) × (i < length inputs)
+    × ((other : PacketNets) → shown_in (cycle_of run c) beat ≡ shown_in (cycle_of run c) (get_or inputs i other))
 
 -- in each endless run of each longer netlist they are a multiplexer as long as the inputs are legal
 abbrev pub MultiplexesInLonger : Netlist → List PacketNets → MultiplexerNets → NetValue → Type 0
@@ -96,14 +101,19 @@ both_turned true false = refl
 both_turned false true = refl
 both_turned false false = refl
 
-pub valids_are_bits : (netlist : Netlist) (inputs : List PacketNets) → AreAlike netlist inputs → AreBits netlist (valid_nets inputs)
+pub valids_are_bits : (netlist : Netlist) (inputs : List PacketNets) → AreAlike netlist inputs
+    → AreBits netlist (valid_nets inputs)
 valids_are_bits netlist [] alike other k below = absurd (omega (arith, below))
 valids_are_bits netlist (input ∷ inputs) alike other k below =
-    let size : length (valid_nets (input ∷ inputs)) ≡ length (input ∷ inputs) = length-map (input ∷ inputs) (λ (input : PacketNets). input.valid) in
+    let size : length (valid_nets (input ∷ inputs)) ≡ length (input ∷ inputs) = length-map (input ∷ inputs)
+    (λ (input : PacketNets). input.valid) in
     let inside : k < length (input ∷ inputs) = omega (arith, below, size) in
-    subst (IsBit netlist) (sym (get_or-map (λ (input : PacketNets). input.valid) (input ∷ inputs) k input other inside)) (alike.nets input k inside).valid
+    subst (IsBit netlist) (sym (get_or-map (λ (input : PacketNets). input.valid) (input ∷ inputs) k input other inside))
+    (alike.nets input k inside).valid
 
-pub leads_last : (a b : Netlist) (inputs : List PacketNets) (turns : TurnNets) (bits : ℕ) (ready : NetValue) (made : MultiplexerNets) → Extends a b → Leads a inputs turns bits ready made → Leads b inputs turns bits ready made
+pub leads_last : (a b : Netlist) (inputs : List PacketNets) (turns : TurnNets) (bits : ℕ) (ready : NetValue)
+    (made : MultiplexerNets)
+    → Extends a b → Leads a inputs turns bits ready made → Leads b inputs turns bits ready made
 leads_last a b inputs turns bits ready made e l = record {
   beat = packet_lasts a b made.beat e l.beat;
   like = l.like;
@@ -115,7 +125,8 @@ leads_last a b inputs turns bits ready made e l = record {
   shown = λ cycle v. l.shown cycle (e.valuations cycle v);
 }
 
-pub all_last : (a b : Netlist) (inputs : List PacketNets) (bits : ℕ) (ready : NetValue) (made : MultiplexerNets) → Extends a b → AreMultiplexerNets a inputs bits ready made → AreMultiplexerNets b inputs bits ready made
+pub all_last : (a b : Netlist) (inputs : List PacketNets) (bits : ℕ) (ready : NetValue) (made : MultiplexerNets) → Extends a b
+    → AreMultiplexerNets a inputs bits ready made → AreMultiplexerNets b inputs bits ready made
 all_last a b inputs bits ready made e m = record {
   turns = m.turns;
   stays = m.stays;
@@ -127,7 +138,8 @@ all_last a b inputs bits ready made e m = record {
   locked_takes = λ run cycles r. m.locked_takes run cycles (e.runs run cycles r);
 }
 
-module _ (netlist : Netlist) (inputs : List PacketNets) (bits : ℕ) (ready : NetValue) (made : MultiplexerNets) (m : AreMultiplexerNets netlist inputs bits ready made)
+module _ (netlist : Netlist) (inputs : List PacketNets) (bits : ℕ) (ready : NetValue) (made : MultiplexerNets)
+    (m : AreMultiplexerNets netlist inputs bits ready made)
     (some : 0 < length inputs) (few : length inputs ≤ 2 ^ bits) (run : Run) (endless : IsEndlessRun netlist run) where
   abbrev turns : TurnNets
   turns = m.turns
@@ -135,15 +147,22 @@ module _ (netlist : Netlist) (inputs : List PacketNets) (bits : ℕ) (ready : Ne
   at : (c : ℕ) → IsValuation netlist (cycle_of run c)
   at c = (endless (c + 1)).valuations c (omega arith)
 
-  chosen_at : (c : ℕ) → IsChosen (length inputs) (run.net c turns.holder.number) (is_set (cycle_of run c) (valid_nets inputs)) (run.net c turns.locked.number == 1) (run.net c made.channel.number)
+  chosen_at : (c : ℕ)
+      → IsChosen (length inputs) (run.net c turns.holder.number) (is_set (cycle_of run c) (valid_nets inputs))
+      (run.net c turns.locked.number == 1) (run.net c made.channel.number)
   chosen_at c = m.leads.chosen (cycle_of run c) (at c)
 
-  takes : (register next : NetValue) → TakesNext netlist register next → (c : ℕ) → run.net (suc c) register.number ≡ run.net c next.number
-  takes register next moves c = subst (λ k. run.net k register.number ≡ run.net c next.number) (omega arith) (moves run (c + 2) (endless (c + 2)) c (omega arith))
+  takes : (register next : NetValue) → TakesNext netlist register next → (c : ℕ)
+      → run.net (suc c) register.number ≡ run.net c next.number
+  takes register next moves c =
+      subst (λ k. run.net k register.number ≡ run.net c next.number) (omega arith)
+      (moves run (c + 2) (endless (c + 2)) c (omega arith))
 
   holds : (c : ℕ) → run.net c turns.holder.number < length inputs
   holds zero = let low = m.holder_starts run 1 (endless 1) (omega arith) in omega (arith, low, some)
-  holds (suc c) = let next = takes turns.holder made.channel m.holder_takes c in let inside = (chosen_at c).is_input (holds c) in omega (arith, next, inside)
+  holds (suc c) =
+      let next = takes turns.holder made.channel m.holder_takes c in
+      let inside = (chosen_at c).is_input (holds c) in omega (arith, next, inside)
 
   inside : (c : ℕ) → run.net c made.channel.number < length inputs
   inside c = (chosen_at c).is_input (holds c)
@@ -158,16 +177,27 @@ module _ (netlist : Netlist) (inputs : List PacketNets) (bits : ℕ) (ready : Ne
   asks_is c i below =
       let size : length (valid_nets inputs) ≡ length inputs = length-map inputs (λ (input : PacketNets). input.valid) in
       set_at (cycle_of run c) (valid_nets inputs) i made.beat.valid (omega (arith, below, size))
-      ∙ ap (λ (net : NetValue). run.net c net.number == 1) (get_or-map (λ (input : PacketNets). input.valid) inputs i made.beat made.beat.valid below)
+      ∙ ap (λ (net : NetValue). run.net c net.number == 1)
+      (get_or-map (λ (input : PacketNets). input.valid) inputs i made.beat made.beat.valid below)
 
-  led_by : (c : ℕ) (other : PacketNets) → shown_in (cycle_of run c) made.beat ≡ shown_in (cycle_of run c) (get_or inputs (run.net c made.channel.number) other)
+  led_by : (c : ℕ) (other : PacketNets)
+      → shown_in (cycle_of run c) made.beat ≡ shown_in (cycle_of run c) (get_or inputs (run.net c made.channel.number) other)
   led_by c other = m.leads.led (cycle_of run c) (at c) other (run.net c made.channel.number) (inside c) (small c)
 
-  pub shows_some : (c : ℕ) → (i : ℕ) × (i < length inputs) × ((other : PacketNets) → shown_in (cycle_of run c) made.beat ≡ shown_in (cycle_of run c) (get_or inputs i other))
+  pub shows_some : (c : ℕ)
+      → (i : ℕ) × (i < length inputs)
+      × ((other : PacketNets) → shown_in (cycle_of run c) made.beat ≡ shown_in (cycle_of run c) (get_or inputs i other))
   shows_some c = (run.net c made.channel.number, inside c, led_by c)
 
   abbrev pub turns_in : Turns
-  turns_in = record { chosen = λ c. run.net c made.channel.number; holder = λ c. run.net c turns.holder.number; locked = λ c. run.net c turns.locked.number == 1 }
+  turns_in =
+      record {
+        chosen =
+            λ c. run.net c made.channel.number;
+        holder =
+            λ c. run.net c turns.holder.number;
+        locked = λ c. run.net c turns.locked.number == 1;
+      }
 
   pub multiplexer_here : (mux : Multiplexer) → mux.inputs ≡ length inputs → IsMultiplexerRun mux view turns_in
   multiplexer_here mux same = record {
@@ -177,12 +207,26 @@ module _ (netlist : Netlist) (inputs : List PacketNets) (bits : ℕ) (ready : Ne
     keeps = λ c is. (chosen_at c).keeps is;
     asked = λ c free i below asking. (
         let asks_i = subst IsTrue (sym (asks_is c i (omega (arith, below, same)))) asking in
-        subst IsTrue (asks_is c (run.net c made.channel.number) (inside c)) ((chosen_at c).asked free i (omega (arith, below, same)) asks_i));
+        subst IsTrue (asks_is c (run.net c made.channel.number) (inside c))
+        ((chosen_at c).asked free i (omega (arith, below, same)) asks_i));
     first = λ c free i below asking. (
         let asks_i = subst IsTrue (sym (asks_is c i (omega (arith, below, same)))) asking in
-        subst (λ n. turns_to n (run.net c turns.holder.number) (run.net c made.channel.number) ≤ turns_to n (run.net c turns.holder.number) i) (sym same) ((chosen_at c).first free i (omega (arith, below, same)) asks_i));
+        subst (λ n. turns_to n (run.net c turns.holder.number) (run.net c made.channel.number)
+        ≤ turns_to n (run.net c turns.holder.number) i)
+        (sym same) ((chosen_at c).first free i (omega (arith, below, same)) asks_i));
     valid = λ c. ap (λ shown. shown.valid == 1) (led_by c made.beat);
-    beat = λ c high. ap (λ shown. record { word = shown.word; channel = run.net c made.channel.number; error = 0; first = shown.first; last = shown.last; empty = shown.empty }) (led_by c made.beat);
+    beat =
+        λ c high. ap (λ shown. record {
+          word =
+              shown.word;
+          channel =
+              run.net c made.channel.number;
+          error = 0;
+          first = shown.first;
+          last = shown.last;
+          empty = shown.empty;
+        })
+        (led_by c made.beat);
     ready = λ c i below.
         (m.leads.shown (cycle_of run c) (at c) made.channel i (let count = m.leads.count in omega (arith, below, same, count))
         ∙ ap (λ n. (run.net c ready.number == 1) && (n == i)) (small c)

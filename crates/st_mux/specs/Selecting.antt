@@ -18,14 +18,16 @@ AreBits netlist nets = (other : NetValue) (k : ℕ) → k < length nets → IsBi
 
 -- the item is the one that has the number of the index's lowest bits
 abbrev pub Selects : {A V : Type 0} → (A → V) → ℕ → ℕ → List A → A → Type 0
-Selects {A} value index bits items item = (other : A) (k : ℕ) → k < length items → index % 2 ^ bits ≡ k → value item ≡ value (get_or items k other)
+Selects {A} value index bits items item =
+    (other : A) (k : ℕ) → k < length items → index % 2 ^ bits ≡ k → value item ≡ value (get_or items k other)
 
 -- ---- laws. No contract reads a proof of these
 
 pub bits_before : (netlist : Netlist) (nets : List NetValue) (n : ℕ) → AreBits netlist nets → AreBits netlist (take n nets)
 bits_before netlist nets n are other k below =
     let most = length-take n nets in
-    subst (IsBit netlist) (sym (get_or-take n nets k other (omega (arith, below, most)))) (are other k (omega (arith, below, most)))
+    subst (IsBit netlist) (sym (get_or-take n nets k other (omega (arith, below, most))))
+    (are other k (omega (arith, below, most)))
 
 pub bits_behind : (netlist : Netlist) (nets : List NetValue) (n : ℕ) → AreBits netlist nets → AreBits netlist (drop n nets)
 bits_behind netlist nets n are other k below =
@@ -46,14 +48,18 @@ two_fits b = let same : suc b ≡ 1 + b = omega arith in ap (λ n. 2 ^ n) same
 
 module _ {A V : Type 0} (value : A → V) (index b : ℕ) (items : List A) where
   -- a bit less tells as many items apart as it has numbers
-  pub selects_fewer : (item : A) → length items ≤ 2 ^ b → Selects value index b items item → Selects value index (suc b) items item
+  pub selects_fewer : (item : A) → length items ≤ 2 ^ b → Selects value index b items item
+      → Selects value index (suc b) items item
   selects_fewer item few selects other k below is =
       selects other k below
-      (sym (mod-mod-pow index 1 b) ∙ ap (λ n. index % n % 2 ^ b) (sym (two_fits b)) ∙ ap (λ n. n % 2 ^ b) is ∙ mod-eq_of_lt (omega (arith, below, few)))
+      (sym (mod-mod-pow index 1 b) ∙ ap (λ n. index % n % 2 ^ b) (sym (two_fits b)) ∙ ap (λ n. n % 2 ^ b) is
+      ∙ mod-eq_of_lt (omega (arith, below, few)))
 
   -- the highest bit tells both halves apart
-  pub selects_halves : (bit : ℕ) (low high item : A) → bit ≡ index / 2 ^ b % 2 ^ 1 → value item ≡ (if bit == 0 then value low else value high)
-      → Selects value index b (take (2 ^ b) items) low → Selects value index b (drop (2 ^ b) items) high → Selects value index (suc b) items item
+  pub selects_halves : (bit : ℕ) (low high item : A) → bit ≡ index / 2 ^ b % 2 ^ 1
+      → value item ≡ (if bit == 0 then value low else value high)
+      → Selects value index b (take (2 ^ b) items) low → Selects value index b (drop (2 ^ b) items) high
+      → Selects value index (suc b) items item
   selects_halves bit low high item bit_is chosen in_front in_back other k below is = by_bit (cases_Bool (bit == 0))
     where
       parts : k ≡ (index / 2 ^ b % 2 ^ 1) * 2 ^ b + index % 2 ^ b
@@ -68,7 +74,8 @@ module _ {A V : Type 0} (value : A → V) (index b : ℕ) (items : List A) where
           let here : k ≡ index % 2 ^ b = parts ∙ ap (λ n. n * 2 ^ b + index % 2 ^ b) (sym bit_is ∙ none) ∙ omega arith in
           let most = length-take (2 ^ b) items in
           let low_k : k < 2 ^ b = omega (arith, here, inner) in
-          chosen ∙ cond-true (bit == 0) _ _ zero_bit ∙ in_front other k (omega (arith, low_k, below, most)) (sym here) ∙ ap value (get_or-take (2 ^ b) items k other low_k)
+          chosen ∙ cond-true (bit == 0) _ _ zero_bit ∙ in_front other k (omega (arith, low_k, below, most)) (sym here)
+          ∙ ap value (get_or-take (2 ^ b) items k other low_k)
       by_bit (inr one_bit) =
           let some = eqb-false _ _ one_bit in
           let few : index / 2 ^ b % 2 ^ 1 < 2 ^ 1 = mod-lt (index / 2 ^ b) (pow_pos 1) in

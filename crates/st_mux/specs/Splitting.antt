@@ -25,7 +25,8 @@ pub record AreLed (netlist : Netlist) (bit index : NetValue) (bits : ℕ) (nets 
 
 -- the bit is high where another one is, and the index has this digit above its lowest bits
 abbrev pub IsHalf : NetValue → NetValue → NetValue → ℕ → ℕ → Cycle → Type 0
-IsHalf half bit index b digit cycle = (cycle.net half.number == 1) ≡ ((cycle.net bit.number == 1) && (cycle.net index.number / 2 ^ b % 2 ^ 1 == digit))
+IsHalf half bit index b digit cycle =
+    (cycle.net half.number == 1) ≡ ((cycle.net bit.number == 1) && (cycle.net index.number / 2 ^ b % 2 ^ 1 == digit))
 
 -- ---- laws. No contract reads a proof of these
 
@@ -45,11 +46,13 @@ same_behind r m k p e = by_test (cases_Bool (r == k))
 
 in_front : (t r m k p : ℕ) → t < 2 → m ≡ t * p + r → k < p → ((t == 0) && (r == k)) ≡ (m == k)
 in_front zero r m k p few e below = let is : r ≡ m = omega (arith, e) in ap (λ n. n == k) is
-in_front (suc zero) r m k p few e below = let whole : 1 * p + r ≡ p + r = omega arith in sym (differ m k (λ same. omega (arith, e, whole, same, below)))
+in_front (suc zero) r m k p few e below =
+    let whole : 1 * p + r ≡ p + r = omega arith in sym (differ m k (λ same. omega (arith, e, whole, same, below)))
 in_front (suc (suc t)) r m k p few e below = absurd (omega (arith, few))
 
 at_back : (t r m k p : ℕ) → t < 2 → r < p → m ≡ t * p + r → ((t == 1) && (r == k)) ≡ (m == p + k)
-at_back zero r m k p few inside e = let whole : 0 * p + r ≡ r = omega arith in sym (differ m (p + k) (λ same. omega (arith, e, whole, same, inside)))
+at_back zero r m k p few inside e =
+    let whole : 0 * p + r ≡ r = omega arith in sym (differ m (p + k) (λ same. omega (arith, e, whole, same, inside)))
 at_back (suc zero) r m k p few inside e = same_behind r m k p (let whole : 1 * p + r ≡ p + r = omega arith in e ∙ whole)
 at_back (suc (suc t)) r m k p few inside e = absurd (omega (arith, few))
 
@@ -68,7 +71,8 @@ module _ (index b : ℕ) where
   front_test k below = in_front (index / 2 ^ b % 2 ^ 1) (index % 2 ^ b) (index % 2 ^ suc b) k (2 ^ b) one_digit digits below
 
   pub back_test : (k : ℕ) → ((index / 2 ^ b % 2 ^ 1 == 1) && (index % 2 ^ b == k)) ≡ (index % 2 ^ suc b == 2 ^ b + k)
-  back_test k = at_back (index / 2 ^ b % 2 ^ 1) (index % 2 ^ b) (index % 2 ^ suc b) k (2 ^ b) one_digit (mod-lt index (pow_pos b)) digits
+  back_test k =
+      at_back (index / 2 ^ b % 2 ^ 1) (index % 2 ^ b) (index % 2 ^ suc b) k (2 ^ b) one_digit (mod-lt index (pow_pos b)) digits
 
 with_true : (a t : Bool) → t ≡ true → a ≡ (a && t)
 with_true true t e = sym e
@@ -80,54 +84,77 @@ led_alone netlist bit index is = record {
   are_bits = λ other k below. at (λ net k. IsBit netlist net) other k below is;
   value = λ cycle v other k below.
       at (λ net k. (cycle.net net.number == 1) ≡ led_to bit index 0 cycle k) other k below
-      (with_true (cycle.net bit.number == 1) _ (eq-eqb (cycle.net index.number % 2 ^ 0) 0 (let least = mod-lt (cycle.net index.number) (pow_pos 0) in omega (arith, least))));
+      (with_true (cycle.net bit.number == 1) _
+      (eq-eqb (cycle.net index.number % 2 ^ 0) 0
+      (let least = mod-lt (cycle.net index.number) (pow_pos 0) in omega (arith, least))));
 }
   where
-    at : (P : NetValue → ℕ → Type 0) (other : NetValue) (k : ℕ) → k < length (bit ∷ []) → P bit 0 → P (get_or (bit ∷ []) k other) k
+    at : (P : NetValue → ℕ → Type 0) (other : NetValue) (k : ℕ) → k < length (bit ∷ []) → P bit 0
+        → P (get_or (bit ∷ []) k other) k
     at P other zero below h = h
     at P other (suc k) below h = absurd (omega (arith, below))
 
-pub led_last : (old new : Netlist) (bit index : NetValue) (bits : ℕ) (nets : List NetValue) (count : ℕ) → Extends old new → AreLed old bit index bits nets count → AreLed new bit index bits nets count
+pub led_last : (old new : Netlist) (bit index : NetValue) (bits : ℕ) (nets : List NetValue) (count : ℕ) → Extends old new
+    → AreLed old bit index bits nets count → AreLed new bit index bits nets count
 led_last old new bit index bits nets count e h =
-    record { lengths = h.lengths; are_bits = bits_last old new nets e h.are_bits; value = λ cycle v. h.value cycle (e.valuations cycle v) }
+    record {
+      lengths =
+          h.lengths;
+      are_bits = bits_last old new nets e h.are_bits;
+      value = λ cycle v. h.value cycle (e.valuations cycle v);
+    }
 
 module _ (netlist : Netlist) (bit index : NetValue) (b : ℕ) where
   -- the first half alone, where there are no more
-  pub led_in_front : (half : NetValue) (nets : List NetValue) (count : ℕ) → count ≤ 2 ^ b → Always netlist (IsHalf half bit index b 0) → AreLed netlist half index b nets count → AreLed netlist bit index (suc b) nets count
+  pub led_in_front : (half : NetValue) (nets : List NetValue) (count : ℕ) → count ≤ 2 ^ b
+      → Always netlist (IsHalf half bit index b 0) → AreLed netlist half index b nets count
+      → AreLed netlist bit index (suc b) nets count
   led_in_front half nets count few is h = record {
     lengths = h.lengths;
     are_bits = h.are_bits;
     value = λ cycle v other k below.
         (let size = h.lengths in
         h.value cycle v other k below ∙ ap (λ a. a && (cycle.net index.number % 2 ^ b == k)) (is cycle v)
-        ∙ and_moved (cycle.net bit.number == 1) _ _ _ (front_test (cycle.net index.number) b k (omega (arith, below, size, few))));
+        ∙ and_moved (cycle.net bit.number == 1) _ _ _
+        (front_test (cycle.net index.number) b k (omega (arith, below, size, few))));
   }
 
   -- both halves
-  pub led_in_both : (front back : NetValue) (xs ys : List NetValue) (more : ℕ) → Always netlist (IsHalf front bit index b 0) → Always netlist (IsHalf back bit index b 1)
-      → AreLed netlist front index b xs (2 ^ b) → AreLed netlist back index b ys more → AreLed netlist bit index (suc b) (xs ++ ys) (2 ^ b + more)
+  pub led_in_both : (front back : NetValue) (xs ys : List NetValue) (more : ℕ) → Always netlist (IsHalf front bit index b 0)
+      → Always netlist (IsHalf back bit index b 1)
+      → AreLed netlist front index b xs (2 ^ b) → AreLed netlist back index b ys more
+      → AreLed netlist bit index (suc b) (xs ++ ys) (2 ^ b + more)
   led_in_both front back xs ys more in_xs in_ys h i = record {
     lengths = (let whole = length-append xs ys in let one = h.lengths in let two = i.lengths in omega (arith, whole, one, two));
-    are_bits = λ other k below. (by_place other k below (λ net n. IsBit netlist net) (λ less. h.are_bits other k less) (λ rest. i.are_bits other (k - length xs) rest) (cases_lt k (length xs)));
+    are_bits =
+        λ other k below. (by_place other k below (λ net n. IsBit netlist net) (λ less. h.are_bits other k less)
+        (λ rest. i.are_bits other
+        (k - length xs) rest)
+        (cases_lt k (length xs)));
     value = λ cycle v other k below.
         (by_place other k below (λ net n. (cycle.net net.number == 1) ≡ led_to bit index (suc b) cycle n)
         (λ less. (let size = h.lengths in
         h.value cycle v other k less ∙ ap (λ a. a && (cycle.net index.number % 2 ^ b == k)) (in_xs cycle v)
         ∙ and_moved (cycle.net bit.number == 1) _ _ _ (front_test (cycle.net index.number) b k (omega (arith, less, size)))))
         (λ rest. (
-        i.value cycle v other (k - length xs) rest ∙ ap (λ a. a && (cycle.net index.number % 2 ^ b == k - length xs)) (in_ys cycle v)
+        i.value cycle v other (k - length xs) rest
+        ∙ ap (λ a. a && (cycle.net index.number % 2 ^ b == k - length xs)) (in_ys cycle v)
         ∙ and_moved (cycle.net bit.number == 1) _ _ _ (back_test (cycle.net index.number) b (k - length xs))))
         (cases_lt k (length xs)));
   }
     where
-      by_place : (other : NetValue) (k : ℕ) → k < length (xs ++ ys) → (P : NetValue → ℕ → Type 0) → (k < length xs → P (get_or xs k other) k) → (k - length xs < length ys → P (get_or ys (k - length xs) other) (2 ^ b + (k - length xs)))
+      by_place : (other : NetValue) (k : ℕ) → k < length (xs ++ ys) → (P : NetValue → ℕ → Type 0)
+          → (k < length xs → P (get_or xs k other) k)
+          → (k - length xs < length ys → P (get_or ys (k - length xs) other) (2 ^ b + (k - length xs)))
           → (k < length xs) ⊎ (length xs ≤ k) → P (get_or (xs ++ ys) k other) k
-      by_place other k below P first second (inl less) = subst (λ (net : NetValue). P net k) (sym (get_or_append_left xs ys other k less)) (first less)
+      by_place other k below P first second (inl less) =
+          subst (λ (net : NetValue). P net k) (sym (get_or_append_left xs ys other k less)) (first less)
       by_place other k below P first second (inr more) =
           let whole = length-append xs ys in
           let size = h.lengths in
           let rest : k - length xs < length ys = omega (arith, below, whole, more) in
           let back : 2 ^ b + (k - length xs) ≡ k = omega (arith, more, size) in
           let split : length xs + (k - length xs) ≡ k = omega (arith, more) in
-          let here : get_or (xs ++ ys) k other ≡ get_or ys (k - length xs) other = ap (λ n. get_or (xs ++ ys) n other) (sym split) ∙ get_or-append-add xs ys (k - length xs) other in
+          let here : get_or (xs ++ ys) k other ≡ get_or ys (k - length xs) other = ap
+          (λ n. get_or (xs ++ ys) n other) (sym split) ∙ get_or-append-add xs ys (k - length xs) other in
           subst (λ (net : NetValue). P net k) (sym here) (subst (λ n. P (get_or ys (k - length xs) other) n) back (second rest))

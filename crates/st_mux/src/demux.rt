@@ -41,7 +41,8 @@ pub fn shown_on(
     requires small { bits ≤ 4 }
     requires fits { number < 2 ^ bits }
     ensures net { IfOk result (λ net. IsBit builder.new net) }
-    ensures value { IfOk result (λ net. Always builder.new (λ cycle. (cycle.net net.number == 1) ≡ ((cycle.net shown.number == 1) && (cycle.net channel.number == number)))) }
+    ensures value { IfOk result (λ net. Always builder.new (λ cycle. (cycle.net net.number == 1)
+        ≡ ((cycle.net shown.number == 1) && (cycle.net channel.number == number)))) }
     ensures adds { AddsNets 3 builder.old builder.new }
     ensures full { result ≡ Err NetFault.TooManyNets → 2 ^ 20 < length builder.old.lines + 3 }
 {
@@ -77,7 +78,8 @@ fn shown_on_each(
     Ok(nets)
 }
 
-/// Makes a demultiplexer from the beat of its input, the channel of so many bits, and the readies of its outputs. After an error the
+/// Makes a demultiplexer from the beat of its input, the channel of so many bits, and the readies of its outputs. After an error
+/// the
 /// builder is to be dropped.
 #[tactic(auto, using(net_parts::specs::Laws::growing))]
 pub fn emit_demultiplexer(

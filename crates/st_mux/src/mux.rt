@@ -1,4 +1,5 @@
-//! A multiplexer: one input at a time is led straight to the output. It keeps which input it led last, and whether it has to stay with it.
+//! A multiplexer: one input at a time is led straight to the output. It keeps which input it led last, and whether it has to stay
+//! with it.
 
 ghost use Rattle.std.specs.Prelude.{◌≡◌, ℕ, ◌+◌, ◌-◌, ◌*◌, ◌^◌, ◌<◌, ◌≤◌, length, IfOk, OnOk};
 ghost use Rattle.netlist.specs.Netlists.{IsNet, IsWaiting};
@@ -117,7 +118,8 @@ fn lead(
     requires few { length inputs.now ≤ 2 ^ bits }
     ensures leads { IfOk result (λ made. Leads builder.new inputs.now turns.now bits ready made) }
     ensures adds { AddsNets (14 * length inputs.now + 4 * 2 ^ bits - 5) builder.old builder.new }
-    ensures full { result ≡ Err NetFault.TooManyNets → 2 ^ 20 < length builder.old.lines + (14 * length inputs.now + 4 * 2 ^ bits - 5) }
+    ensures full { result ≡ Err NetFault.TooManyNets
+        → 2 ^ 20 < length builder.old.lines + (14 * length inputs.now + 4 * 2 ^ bits - 5) }
 {
     let asks = valids_of(alloc, inputs)?;
     let channel = choose_input(
@@ -154,7 +156,8 @@ fn make_multiplexer(
     ensures nets { IfOk result (λ made. AreMultiplexerNets builder.new inputs.now bits ready made) }
     ensures grows { GrowsBy (14 * length inputs.now + 4 * 2 ^ bits) builder.old builder.new }
     ensures no_more_wait { OnOk result (StillWait builder.new builder.old) }
-    ensures full { result ≡ Err NetFault.TooManyNets → 2 ^ 20 < length builder.old.lines + (14 * length inputs.now + 4 * 2 ^ bits) }
+    ensures full { result ≡ Err NetFault.TooManyNets
+        → 2 ^ 20 < length builder.old.lines + (14 * length inputs.now + 4 * 2 ^ bits) }
 {
     let turns = make_turns(builder, bits)?;
     let made = lead(alloc, builder, inputs, &turns, bits, ready)?;
@@ -164,7 +167,8 @@ fn make_multiplexer(
     Ok(made)
 }
 
-/// Makes a multiplexer from the beats of its inputs and the ready of its output, which shows channels of so many bits. After an error
+/// Makes a multiplexer from the beats of its inputs and the ready of its output, which shows channels of so many bits. After an
+/// error
 /// the builder is to be dropped.
 pub fn emit_multiplexer(
     alloc: Global,
@@ -188,7 +192,8 @@ pub fn emit_multiplexer(
     ensures multiplexes { IfOk result (λ made. MultiplexesInLonger builder.new inputs.now made ready) }
     ensures grows { GrowsBy (14 * length inputs.now + 4 * 2 ^ bits) builder.old builder.new }
     ensures no_more_wait { OnOk result (StillWait builder.new builder.old) }
-    ensures full { result ≡ Err NetFault.TooManyNets → 2 ^ 20 < length builder.old.lines + (14 * length inputs.now + 4 * 2 ^ bits) }
+    ensures full { result ≡ Err NetFault.TooManyNets
+        → 2 ^ 20 < length builder.old.lines + (14 * length inputs.now + 4 * 2 ^ bits) }
 {
     multiplexer_multiplexes();
     make_multiplexer(alloc, builder, inputs, bits, ready)

@@ -43,7 +43,8 @@ pub fn select_bit(
     requires some { 0 < length nets.now }
     requires few { length nets.now ≤ 2 ^ bits }
     ensures net { IfOk result (λ net. IsBit builder.new net) }
-    ensures value { IfOk result (λ net. Always builder.new (λ cycle. Selects (λ item. cycle.net item.number) (cycle.net index.number) bits nets.now net)) }
+    ensures value { IfOk result (λ net. Always builder.new (λ cycle. Selects (λ item. cycle.net item.number)
+        (cycle.net index.number) bits nets.now net)) }
     ensures adds { AddsNets (2 * length nets.now - 2) builder.old builder.new }
     ensures full { result ≡ Err NetFault.TooManyNets → 2 ^ 20 < length builder.old.lines + (2 * length nets.now - 2) }
 {
@@ -77,7 +78,8 @@ pub(crate) fn select_packet(
     requires few { length packets.now ≤ 2 ^ bits }
     ensures packet { IfOk result (λ made. ArePacketNets builder.new made) }
     ensures widths { IfOk result (λ made. IsLike made packets.now) }
-    ensures value { IfOk result (λ made. Always builder.new (λ cycle. Selects (shown_in cycle) (cycle.net index.number) bits packets.now made)) }
+    ensures value { IfOk result (λ made. Always builder.new (λ cycle. Selects (shown_in cycle)
+        (cycle.net index.number) bits packets.now made)) }
     ensures adds { AddsNets (6 * length packets.now - 6) builder.old builder.new }
     ensures full { result ≡ Err NetFault.TooManyNets → 2 ^ 20 < length builder.old.lines + (6 * length packets.now - 6) }
 {

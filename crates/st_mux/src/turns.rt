@@ -31,7 +31,8 @@ pub(crate) fn choose_packet(
     requires widths { HaveSameWidths one.now other.now }
     ensures packet { IfOk result (λ made. ArePacketNets builder.new made) }
     ensures widths { IfOk result (λ made. HaveSameWidths made one.now) }
-    ensures value { IfOk result (λ made. Always builder.new (λ cycle. shown_in cycle made ≡ (if cycle.net bit.number == 0 then shown_in cycle other.now else shown_in cycle one.now))) }
+    ensures value { IfOk result (λ made. Always builder.new (λ cycle. shown_in cycle made
+        ≡ (if cycle.net bit.number == 0 then shown_in cycle other.now else shown_in cycle one.now))) }
     ensures adds { AddsNets 5 builder.old builder.new }
     ensures full { result ≡ Err NetFault.TooManyNets → 2 ^ 20 < length builder.old.lines + 5 }
 {
@@ -64,7 +65,8 @@ fn behind_holder(
     requires small { bits ≤ 4 }
     requires fits { number < 2 ^ bits }
     ensures net { IfOk result (λ net. IsBit builder.new net) }
-    ensures value { IfOk result (λ net. Always builder.new (λ cycle. (cycle.net net.number == 1) ≡ ((cycle.net asks.number == 1) && nat_lt (cycle.net holder.number) number))) }
+    ensures value { IfOk result (λ net. Always builder.new (λ cycle. (cycle.net net.number == 1)
+        ≡ ((cycle.net asks.number == 1) && nat_lt (cycle.net holder.number) number))) }
     ensures adds { AddsNets 3 builder.old builder.new }
     ensures full { result ≡ Err NetFault.TooManyNets → 2 ^ 20 < length builder.old.lines + 3 }
 {
@@ -87,7 +89,8 @@ fn behind_each(
     requires some { 1 ≤ bits }
     requires small { bits ≤ 4 }
     requires few { length asks.now ≤ 2 ^ bits }
-    ensures each { IfOk result (λ nets. MakesEach builder.old builder.new (asks_behind asks.now holder) nets.items (length asks.now)) }
+    ensures each { IfOk result (λ nets. MakesEach builder.old builder.new (asks_behind asks.now holder) nets.items
+        (length asks.now)) }
     ensures adds { AddsNets (3 * length asks.now) builder.old builder.new }
     ensures full { result ≡ Err NetFault.TooManyNets → 2 ^ 20 < length builder.old.lines + 3 * length asks.now }
 {
@@ -125,7 +128,9 @@ pub(crate) fn stays_locked(
     requires ready { IsBit builder.old ready }
     requires locked { IsBit builder.old locked }
     ensures net { IfOk result (λ net. IsBit builder.new net) }
-    ensures value { IfOk result (λ net. Always builder.new (λ cycle. (cycle.net net.number == 1) ≡ (if cycle.net valid.number == 1 then not ((cycle.net ready.number == 1) && (cycle.net last.number == 1)) else cycle.net locked.number == 1))) }
+    ensures value { IfOk result (λ net. Always builder.new (λ cycle. (cycle.net net.number == 1)
+        ≡ (if cycle.net valid.number == 1 then not ((cycle.net ready.number == 1) && (cycle.net last.number == 1))
+        else cycle.net locked.number == 1))) }
     ensures adds { AddsNets 3 builder.old builder.new }
     ensures full { result ≡ Err NetFault.TooManyNets → 2 ^ 20 < length builder.old.lines + 3 }
 {
@@ -134,7 +139,8 @@ pub(crate) fn stays_locked(
     choose(builder, valid, goes_on, locked)
 }
 
-/// The number of the input that is led to the output: the holder where the choice is locked, else the first in turn behind it that asks.
+/// The number of the input that is led to the output: the holder where the choice is locked, else the first in turn behind it
+/// that asks.
 #[tactic(auto, using(net_parts::specs::Laws::growing))]
 pub(crate) fn choose_input(
     alloc: Global,
@@ -152,7 +158,8 @@ pub(crate) fn choose_input(
     requires some { 0 < length asks.now }
     requires few { length asks.now ≤ 2 ^ bits }
     ensures net { IfOk result (λ net. IsNetOfWidth builder.new net bits) }
-    ensures value { IfOk result (λ net. Always builder.new (λ cycle. IsChosen (length asks.now) (cycle.net holder.number) (is_set cycle asks.now) (cycle.net locked.number == 1) (cycle.net net.number))) }
+    ensures value { IfOk result (λ net. Always builder.new (λ cycle. IsChosen (length asks.now) (cycle.net holder.number)
+        (is_set cycle asks.now) (cycle.net locked.number == 1) (cycle.net net.number))) }
     ensures adds { AddsNets (8 * length asks.now + 1) builder.old builder.new }
     ensures full { result ≡ Err NetFault.TooManyNets → 2 ^ 20 < length builder.old.lines + (8 * length asks.now + 1) }
 {

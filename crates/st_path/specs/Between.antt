@@ -137,7 +137,16 @@ timed_bounds source = record { least = 0; most = timed_hold source; rest = 0; st
 -- behind those that change the symbols of a beat
 abbrev pub formed_bounds : Declared → Declared → Bounds
 formed_bounds source sink =
-    record { least = 0; most = formed_hold source sink; rest = sink.symbols - 1; step = 2; largest = (pace_of source).latency + source.symbols + 2 * sink.symbols }
+    record {
+      least =
+          0;
+      most =
+          formed_hold source sink;
+      rest =
+          sink.symbols - 1;
+      step = 2;
+      largest = (pace_of source).latency + source.symbols + 2 * sink.symbols;
+    }
 
 -- behind the queue
 abbrev pub queued_bounds : Declared → Declared → ℕ → Bounds
@@ -191,26 +200,32 @@ pub record LeadsFrom (source sink : Declared) (depth : ℕ) (shape : Shape) : Ty
   pub room : depth * sink.symbols ≤ shape.hold
   pub hold : shape.hold ≤ stream_lag (stream_of source sink depth)
   pub rest : shape.rest < sink.symbols
-  pub window : shape.largest + (shape.step + 1) * (shape.hold + (pace_of source).allowance * source.symbols) < stream_window (stream_of source sink depth)
+  pub window : shape.largest + (shape.step + 1) * (shape.hold + (pace_of source).allowance * source.symbols)
+      < stream_window (stream_of source sink depth)
   pub always_ready : IsTrue shape.needs_ready → TakesWhole source sink
 
 -- between these views, whatever the sink does: in each window in which the queue has room for a beat of a legal source, the
 -- source sees ready
 abbrev pub TakesIn : Declared → Declared → ℕ → EndView → EndView → Type 0
 TakesIn source sink depth up down =
-    (count : ℕ) → IsLegalSource (side_of source) up count → (start : ℕ) → start + stream_window (stream_of source sink depth) ≤ count
+    (count : ℕ) → IsLegalSource (side_of source) up count → (start : ℕ)
+    → start + stream_window (stream_of source sink depth) ≤ count
     → Throughout start (stream_window (stream_of source sink depth))
-    (λ c. beats_begun sink.symbols (undelivered (joined_test source sink) (side_of source) (at_sink source sink) up down c) + source.symbols ≤ depth)
+    (λ c. beats_begun sink.symbols (undelivered (joined_test source sink) (side_of source) (at_sink source sink) up down c)
+    + source.symbols
+    ≤ depth)
     → Sometime start (stream_window (stream_of source sink depth)) (λ c. IsTrue (is_high up.ready c))
 
 -- in each endless run of each longer netlist
 abbrev pub TakesInLonger : Declared → Declared → ℕ → Netlist → BeatNets → StreamNets → NetValue → Type 0
 TakesInLonger source sink depth netlist from made ready =
-    (longer : Netlist) → Extends netlist longer → (run : Run) → IsEndlessRun longer run → TakesIn source sink depth (view_of run from made.ready) (view_of run made.beat ready)
+    (longer : Netlist) → Extends netlist longer → (run : Run) → IsEndlessRun longer run
+    → TakesIn source sink depth (view_of run from made.ready) (view_of run made.beat ready)
 
 -- the nets are those of a stage that leads from the source to the sink, and whose beat doesn't depend on the ready of the same
 -- cycle; before a sink that takes whole beats it passes ready on, and where it needs no such sink its queue takes beats in
-pub record CarriesStream (source sink : Declared) (depth : ℕ) (netlist : Netlist) (from : BeatNets) (made : StreamNets) (ready : NetValue) : Type 0 where
+pub record CarriesStream (source sink : Declared) (depth : ℕ) (netlist : Netlist) (from : BeatNets) (made : StreamNets)
+    (ready : NetValue) : Type 0 where
   pub shape : Shape
   pub leads : LeadsFrom source sink depth shape
   pub keeps : KeepsInLonger shape netlist from made.ready made.beat ready
@@ -228,4 +243,6 @@ pub record AreStageNets (netlist : Netlist) (source sink : Declared) (made : Str
 abbrev pub ShowsUnreached : Declared → Declared → Netlist → BeatNets → NetValue → NetValue → Type 0
 ShowsUnreached source sink netlist from ready dropped =
     Always netlist (λ cycle. (IsTrue (cycle.net from.valid.number == 1) → cycle.net from.channel.number ≤ source.max_channel)
-    → (cycle.net dropped.number == 1) ≡ (((cycle.net from.valid.number == 1) && (nat_lt 0 (pace_of source).latency || (cycle.net ready.number == 1))) && nat_lt sink.max_channel (cycle.net from.channel.number)))
+    → (cycle.net dropped.number == 1)
+    ≡ (((cycle.net from.valid.number == 1) && (nat_lt 0 (pace_of source).latency || (cycle.net ready.number == 1)))
+    && nat_lt sink.max_channel (cycle.net from.channel.number)))

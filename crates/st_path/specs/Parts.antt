@@ -25,7 +25,9 @@ IsErrorTieOf bits wanted None = 0 < wanted → 0 < bits
 
 -- the symbols are turned where the first stands in the high-order bits, and at the sink in the low-order ones
 abbrev pub IsTurnBack : Declared → Declared → Option Reorder → Type 0
-IsTurnBack source sink (Some turn) = IsTrue (puts_first_high source sink) × IsFalse sink.first_high × (turn.symbols ≡ sink.symbols) × (turn.bits ≡ sink.symbol_bits)
+IsTurnBack source sink (Some turn) =
+    IsTrue (puts_first_high source sink) × IsFalse sink.first_high × (turn.symbols ≡ sink.symbols)
+    × (turn.bits ≡ sink.symbol_bits)
 IsTurnBack source sink None = puts_first_high source sink ≡ sink.first_high
 
 -- ---- how far the stages lead
@@ -39,7 +41,14 @@ pub record Reach : Type 0 where
 
 -- to ready latency 0
 abbrev pub timed_reach : Joint → Reach
-timed_reach joint = record { side = timed (source_of joint) (sink_of joint); bounds = timed_bounds (source_of joint); nets = 300; memories = most_front_memories }
+timed_reach joint =
+    record {
+      side =
+          timed (source_of joint) (sink_of joint);
+      bounds = timed_bounds (source_of joint);
+      nets = 300;
+      memories = most_front_memories;
+    }
 
 -- to the sink's errors
 abbrev pub errors_reach : Joint → Reach
@@ -47,7 +56,15 @@ errors_reach joint = record (timed_reach joint) { side = with_errors (source_of 
 
 -- to its symbols
 abbrev pub formed_reach : Joint → Reach
-formed_reach joint = record { side = formed (source_of joint) (sink_of joint); bounds = formed_bounds (source_of joint) (sink_of joint); nets = 3560; memories = most_front_memories }
+formed_reach joint =
+    record {
+      side =
+          formed (source_of joint) (sink_of joint);
+      bounds =
+          formed_bounds (source_of joint) (sink_of joint);
+      nets = 3560;
+      memories = most_front_memories;
+    }
 
 -- from behind the queue to the sink
 abbrev pub rear_reach : Joint → Reach
@@ -55,15 +72,21 @@ rear_reach joint = record { side = at_sink (source_of joint) (sink_of joint); bo
 
 -- stages of such shapes, which take and give such nets and make so many, and so many memories, lead from a side, where beats
 -- have the channel of this end, so far
-pub record ReachesFrom (joint : Joint) (up : Side) (end : Declared) (reach : Joint → Reach) (has passing : Shape → Type 0) (takes : Widths → Type 0) (gives : Widths → Widths) (made memories : ℕ) : Type 0 where
+pub record ReachesFrom (joint : Joint) (up : Side) (end : Declared) (reach : Joint → Reach) (has passing : Shape → Type 0)
+    (takes : Widths → Type 0) (gives : Widths → Widths) (made memories : ℕ) : Type 0 where
   pub leads : LeadsOn (source_of joint) (sink_of joint) up (reach joint).side (reach joint).bounds has passing
-  pub nets : (widths : Widths) → FitSide up end widths → GivesNets (reach joint).side (sink_of joint) (reach joint).nets (takes widths) (gives widths) made
+  pub nets : (widths : Widths) → FitSide up end widths
+      → GivesNets (reach joint).side (sink_of joint) (reach joint).nets (takes widths) (gives widths) made
   pub few_memories : memories ≤ (reach joint).memories
 
 -- they lead from the source
-abbrev pub Reaches : Joint → (Joint → Reach) → (Shape → Type 0) → (Shape → Type 0) → (Widths → Type 0) → (Widths → Widths) → ℕ → ℕ → Type 0
-Reaches joint reach has passing takes gives made memories = ReachesFrom joint (side_of (source_of joint)) (source_of joint) reach has passing takes gives made memories
+abbrev pub Reaches : Joint → (Joint → Reach) → (Shape → Type 0) → (Shape → Type 0) → (Widths → Type 0) → (Widths → Widths) → ℕ → ℕ
+    → Type 0
+Reaches joint reach has passing takes gives made memories =
+    ReachesFrom joint (side_of (source_of joint)) (source_of joint) reach has passing takes gives made memories
 
 -- they lead from behind the queue
-abbrev pub ReachesBehind : Joint → (Joint → Reach) → (Shape → Type 0) → (Shape → Type 0) → (Widths → Type 0) → (Widths → Widths) → ℕ → ℕ → Type 0
-ReachesBehind joint reach has passing takes gives made memories = ReachesFrom joint (formed (source_of joint) (sink_of joint)) (sink_of joint) reach has passing takes gives made memories
+abbrev pub ReachesBehind : Joint → (Joint → Reach) → (Shape → Type 0) → (Shape → Type 0) → (Widths → Type 0) → (Widths → Widths)
+    → ℕ → ℕ → Type 0
+ReachesBehind joint reach has passing takes gives made memories =
+    ReachesFrom joint (formed (source_of joint) (sink_of joint)) (sink_of joint) reach has passing takes gives made memories

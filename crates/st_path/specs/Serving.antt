@@ -25,7 +25,8 @@ abbrev pub ServesInLonger : Declared → Declared → ℕ → SourceNets → Opt
 ServesInLonger source sink depth from ready made netlist =
     (longer : Netlist) → Extends netlist longer → (run : Run) (cycles : ℕ) → IsRun longer run cycles
     → IsLegalSource (side_of source) (view_of (source_signals source from made run)) cycles
-    → IsServedAwake (stream_of source sink depth) (run_of (source_signals source from made run) (sink_signals sink ready made run) (signal_on run made.dropped)) cycles
+    → IsServedAwake (stream_of source sink depth)
+    (run_of (source_signals source from made run) (sink_signals sink ready made run) (signal_on run made.dropped)) cycles
 
 -- the net is the same in both cycles
 abbrev pub IsSameNet : Cycle → Cycle → NetValue → Type 0
@@ -45,5 +46,6 @@ pub record SendsSame (from : SourceNets) (one other : Cycle) : Type 0 where
 -- ready does
 abbrev pub IgnoresReady : SourceNets → PathNets → Netlist → Type 0
 IgnoresReady from made netlist =
-    (longer : Netlist) → Extends netlist longer → (one other : Cycle) → IsValuation longer one → IsValuation longer other → SameState longer one other
+    (longer : Netlist) → Extends netlist longer → (one other : Cycle) → IsValuation longer one → IsValuation longer other
+    → SameState longer one other
     → SendsSame from one other → ShowSame made.beat one other

@@ -83,7 +83,8 @@ fn fit_empty(builder: &mut Builder, empty: Net, bits: u8) -> Result<Net, NetFaul
     requires empty { IsNet builder.old empty }
     requires few { bits ≤ 8 }
     ensures net { IfOk result (λ net. IsNetWhere (nat_lt 0 bits) bits builder.new net) }
-    ensures value { IfOk result (λ net. 0 < bits → Always builder.new (λ cycle. cycle.net net.number ≡ cycle.net empty.number % 2 ^ bits)) }
+    ensures value { IfOk result (λ net. 0 < bits
+        → Always builder.new (λ cycle. cycle.net net.number ≡ cycle.net empty.number % 2 ^ bits)) }
     ensures none { IfOk result (λ net. bits ≡ 0 → net ≡ empty) }
     ensures adds { AddsNets (if (bits == 0) || (empty.width == bits) then 0 else 2) builder.old builder.new }
     ensures full { result ≡ Err NetFault.TooManyNets → 2 ^ 20 < length builder.old.lines + 2 }
@@ -102,7 +103,8 @@ fn fit_beat(builder: &mut Builder, beat: &BeatNets, bits: u8) -> Result<BeatNets
     requires few { bits ≤ 8 }
     ensures others { IfOk result (λ fitted. fitted ≡ record beat.now { empty = fitted.empty }) }
     ensures net { IfOk result (λ fitted. IsNetWhere (nat_lt 0 bits) bits builder.new fitted.empty) }
-    ensures value { IfOk result (λ fitted. 0 < bits → Always builder.new (λ cycle. cycle.net fitted.empty.number ≡ cycle.net beat.now.empty.number % 2 ^ bits)) }
+    ensures value { IfOk result (λ fitted. 0 < bits
+        → Always builder.new (λ cycle. cycle.net fitted.empty.number ≡ cycle.net beat.now.empty.number % 2 ^ bits)) }
     ensures none { IfOk result (λ fitted. bits ≡ 0 → fitted.empty ≡ beat.now.empty) }
     ensures adds { AddsNets (if (bits == 0) || (beat.now.empty.width == bits) then 0 else 2) builder.old builder.new }
     ensures full { result ≡ Err NetFault.TooManyNets → 2 ^ 20 < length builder.old.lines + 2 }
@@ -132,21 +134,24 @@ pub fn emit_path(
     ensures nets { IfOk result (λ made. ArePathNets builder.new (declared sink.now) made) }
 
     // In each run of each longer netlist, as long as the source is legal, the stream is served and never idles.
-    ensures serves { IfOk result (λ made. ServesInLonger (declared source.now) (declared sink.now) depth from.now ready made builder.new) }
+    ensures serves { IfOk result (λ made. ServesInLonger (declared source.now)
+        (declared sink.now) depth from.now ready made builder.new) }
 
     // What the sink is shown doesn't depend on the ready of the same cycle.
     ensures ignores_ready { IfOk result (λ made. IgnoresReady from.now made builder.new) }
     ensures grows { GrowsInMemory most_nets most_memories builder.old builder.new }
 
     // Where a delay of ready is enough, nothing else is made.
-    ensures few { IsDelayEnough (declared source.now) (declared sink.now) depth → GrowsBy (most_delay_nets + 2) builder.old builder.new }
+    ensures few { IsDelayEnough (declared source.now) (declared sink.now) depth
+        → GrowsBy (most_delay_nets + 2) builder.old builder.new }
     ensures waits { StillWait builder.old builder.new }
     ensures no_more_wait { OnOk result (StillWait builder.new builder.old) }
     ensures still_wait_for_write { OnOk result (StillWaitForWrite builder.old builder.new) }
     ensures no_more_write { OnOk result (StillWaitForWrite builder.new builder.old) }
 
     // With room for its memories. Memory may run out at any net.
-    ensures full { length builder.old.memories + most_memories ≤ 2 ^ 16 → result ≡ Err NetFault.TooManyNets → 2 ^ 20 < length builder.old.lines + most_nets }
+    ensures full { length builder.old.memories + most_memories ≤ 2 ^ 16 → result ≡ Err NetFault.TooManyNets
+        → 2 ^ 20 < length builder.old.lines + most_nets }
 {
     goes_on();
     same_beginnings();

@@ -67,8 +67,11 @@ pub(crate) fn filter_of(source: &SourcePort, sink: &SinkPort) -> ChannelFilter
     ensures source_largest { result.source.largest ≡ source.now.max_channel }
     ensures sink_bits { result.sink.bits ≡ max sink.now.channel_bits 1 }
     ensures sink_largest { result.sink.largest ≡ joined_channel (declared source.now) (declared sink.now) }
-    ensures leads { (side : Side) → side.pace.latency ≡ (pace_of (declared source.now)).latency → side.max_channel ≤ source.now.max_channel → 0 < side.symbols
-        → IsFilterShape result (wire_shape (joined_test (declared source.now) (declared sink.now)) side (record side { max_channel = joined_channel (declared source.now) (declared sink.now) }) side.pace.latency false) }
+    ensures leads { (side : Side) → side.pace.latency ≡ (pace_of (declared source.now)).latency
+        → side.max_channel ≤ source.now.max_channel → 0 < side.symbols
+        → IsFilterShape result
+        (wire_shape (joined_test (declared source.now) (declared sink.now)) side
+        (record side { max_channel = joined_channel (declared source.now) (declared sink.now) }) side.pace.latency false) }
 {
     let max_channel = source.max_channel.min(sink.max_channel);
     ChannelFilter::new(
@@ -122,7 +125,8 @@ fn timed(joint: &Joint) -> Chain<ChannelFilter, Timing>
 /// Adds the error where the source has none.
 fn with_errors<S: Stage>(joint: &Joint, front: S) -> Chain<S, Maybe<ErrorTie>>
     requires joined { CanJoin (source_of joint.now) (sink_of joint.now) }
-    requires front { Reaches joint.now timed_reach (S.has_shape front) (S.passes_ready front) (S.takes front) (S.gives front) (S.forward_nets front + S.backward_nets front) (S.memories front) }
+    requires front { Reaches joint.now timed_reach (S.has_shape front) (S.passes_ready front) (S.takes front) (S.gives front)
+        (S.forward_nets front + S.backward_nets front) (S.memories front) }
     ensures { let stage = ⟦<Chain<S, Maybe<ErrorTie>> as Stage>⟧ in
         Reaches joint.now errors_reach (stage.has_shape result) (stage.passes_ready result) (stage.takes result) (stage.gives result) (stage.forward_nets result + stage.backward_nets result) (stage.memories result) }
 {
@@ -135,7 +139,8 @@ fn with_errors<S: Stage>(joint: &Joint, front: S) -> Chain<S, Maybe<ErrorTie>>
 /// Adds what brings beats to the sink's symbols: what holds nothing first, so that it adds nothing to what stands behind it.
 fn with_format<S: Stage>(joint: &Joint, front: S) -> Chain<Chain<S, Order>, Resize>
     requires joined { CanJoin (source_of joint.now) (sink_of joint.now) }
-    requires front { Reaches joint.now errors_reach (S.has_shape front) (S.passes_ready front) (S.takes front) (S.gives front) (S.forward_nets front + S.backward_nets front) (S.memories front) }
+    requires front { Reaches joint.now errors_reach (S.has_shape front) (S.passes_ready front) (S.takes front) (S.gives front)
+        (S.forward_nets front + S.backward_nets front) (S.memories front) }
     ensures { let stage = ⟦<Chain<Chain<S, Order>, Resize> as Stage>⟧ in
         Reaches joint.now formed_reach (stage.has_shape result) (stage.passes_ready result) (stage.takes result) (stage.gives result) (stage.forward_nets result + stage.backward_nets result) (stage.memories result) }
 {
@@ -172,18 +177,21 @@ fn emit_formed<S: Stage + Drop>(
 ) -> Result<StreamNets, NetFault>
     requires joined { CanJoin (source_of joint.now) (sink_of joint.now) }
     requires shallow { joint.now.depth ≤ 64 }
-    requires front { Reaches joint.now formed_reach (S.has_shape front) (S.passes_ready front) (S.takes front) (S.gives front) (S.forward_nets front + S.backward_nets front) (S.memories front) }
+    requires front { Reaches joint.now formed_reach (S.has_shape front) (S.passes_ready front) (S.takes front) (S.gives front)
+        (S.forward_nets front + S.backward_nets front) (S.memories front) }
     requires widths { FitSide (side_of (source_of joint.now)) (source_of joint.now) (widths_of from) }
     requires from { AreBeatNets builder.old from }
     requires ready { IsBit builder.old ready }
     ensures nets { IfOk result (λ made. AreStageNets builder.new (source_of joint.now) (sink_of joint.now) made) }
-    ensures carries { IfOk result (λ made. CarriesStream (source_of joint.now) (sink_of joint.now) joint.now.depth builder.new from made ready) }
+    ensures carries { IfOk result (λ made. CarriesStream (source_of joint.now)
+        (sink_of joint.now) joint.now.depth builder.new from made ready) }
     ensures grows { GrowsInMemory most_stage_nets most_stage_memories builder.old builder.new }
     ensures waits { StillWait builder.old builder.new }
     ensures no_more_wait { OnOk result (StillWait builder.new builder.old) }
     ensures still_wait_for_write { OnOk result (StillWaitForWrite builder.old builder.new) }
     ensures no_more_write { OnOk result (StillWaitForWrite builder.new builder.old) }
-    ensures full { length builder.old.memories + most_stage_memories ≤ 2 ^ 16 → result ≡ Err NetFault.TooManyNets → 2 ^ 20 < length builder.old.lines + most_stage_nets }
+    ensures full { length builder.old.memories + most_stage_memories ≤ 2 ^ 16 → result ≡ Err NetFault.TooManyNets
+        → 2 ^ 20 < length builder.old.lines + most_stage_nets }
 {
     queue_takes_in();
     let queued = Chain {
@@ -208,18 +216,21 @@ fn emit_tied<S: Stage + Drop>(
 ) -> Result<StreamNets, NetFault>
     requires joined { CanJoin (source_of joint.now) (sink_of joint.now) }
     requires shallow { joint.now.depth ≤ 64 }
-    requires front { Reaches joint.now errors_reach (S.has_shape front) (S.passes_ready front) (S.takes front) (S.gives front) (S.forward_nets front + S.backward_nets front) (S.memories front) }
+    requires front { Reaches joint.now errors_reach (S.has_shape front) (S.passes_ready front) (S.takes front) (S.gives front)
+        (S.forward_nets front + S.backward_nets front) (S.memories front) }
     requires widths { FitSide (side_of (source_of joint.now)) (source_of joint.now) (widths_of from) }
     requires from { AreBeatNets builder.old from }
     requires ready { IsBit builder.old ready }
     ensures nets { IfOk result (λ made. AreStageNets builder.new (source_of joint.now) (sink_of joint.now) made) }
-    ensures carries { IfOk result (λ made. CarriesStream (source_of joint.now) (sink_of joint.now) joint.now.depth builder.new from made ready) }
+    ensures carries { IfOk result (λ made. CarriesStream (source_of joint.now)
+        (sink_of joint.now) joint.now.depth builder.new from made ready) }
     ensures grows { GrowsInMemory most_stage_nets most_stage_memories builder.old builder.new }
     ensures waits { StillWait builder.old builder.new }
     ensures no_more_wait { OnOk result (StillWait builder.new builder.old) }
     ensures still_wait_for_write { OnOk result (StillWaitForWrite builder.old builder.new) }
     ensures no_more_write { OnOk result (StillWaitForWrite builder.new builder.old) }
-    ensures full { length builder.old.memories + most_stage_memories ≤ 2 ^ 16 → result ≡ Err NetFault.TooManyNets → 2 ^ 20 < length builder.old.lines + most_stage_nets }
+    ensures full { length builder.old.memories + most_stage_memories ≤ 2 ^ 16 → result ≡ Err NetFault.TooManyNets
+        → 2 ^ 20 < length builder.old.lines + most_stage_nets }
 {
     let formed = with_format(joint, front);
     emit_formed(joint, formed, builder, from, ready)
@@ -238,13 +249,15 @@ fn emit_chain(
     requires from { AreBeatNets builder.old from }
     requires ready { IsBit builder.old ready }
     ensures nets { IfOk result (λ made. AreStageNets builder.new (source_of joint.now) (sink_of joint.now) made) }
-    ensures carries { IfOk result (λ made. CarriesStream (source_of joint.now) (sink_of joint.now) joint.now.depth builder.new from made ready) }
+    ensures carries { IfOk result (λ made. CarriesStream (source_of joint.now)
+        (sink_of joint.now) joint.now.depth builder.new from made ready) }
     ensures grows { GrowsInMemory most_stage_nets most_stage_memories builder.old builder.new }
     ensures waits { StillWait builder.old builder.new }
     ensures no_more_wait { OnOk result (StillWait builder.new builder.old) }
     ensures still_wait_for_write { OnOk result (StillWaitForWrite builder.old builder.new) }
     ensures no_more_write { OnOk result (StillWaitForWrite builder.new builder.old) }
-    ensures full { length builder.old.memories + most_stage_memories ≤ 2 ^ 16 → result ≡ Err NetFault.TooManyNets → 2 ^ 20 < length builder.old.lines + most_stage_nets }
+    ensures full { length builder.old.memories + most_stage_memories ≤ 2 ^ 16 → result ≡ Err NetFault.TooManyNets
+        → 2 ^ 20 < length builder.old.lines + most_stage_nets }
 {
     let timed = timed(joint);
     let with_errors = with_errors(joint, timed);
@@ -265,7 +278,8 @@ fn emit_delay(
     requires from { AreBeatNets builder.old from }
     requires ready { IsBit builder.old ready }
     ensures nets { IfOk result (λ made. AreStageNets builder.new (source_of joint.now) (sink_of joint.now) made) }
-    ensures carries { IfOk result (λ made. CarriesStream (source_of joint.now) (sink_of joint.now) joint.now.depth builder.new from made ready) }
+    ensures carries { IfOk result (λ made. CarriesStream (source_of joint.now)
+        (sink_of joint.now) joint.now.depth builder.new from made ready) }
     ensures grows { GrowsBy most_delay_nets builder.old builder.new }
     ensures waits { StillWait builder.old builder.new }
     ensures no_more_wait { OnOk result (StillWait builder.new builder.old) }
@@ -293,15 +307,19 @@ pub(crate) fn emit_stages(
     requires from { AreBeatNets builder.old from }
     requires ready { IsBit builder.old ready }
     ensures nets { IfOk result (λ made. AreStageNets builder.new (source_of joint.now) (sink_of joint.now) made) }
-    ensures carries { IfOk result (λ made. CarriesStream (source_of joint.now) (sink_of joint.now) joint.now.depth builder.new from made ready) }
+    ensures carries { IfOk result (λ made. CarriesStream (source_of joint.now)
+        (sink_of joint.now) joint.now.depth builder.new from made ready) }
     ensures grows { GrowsInMemory most_stage_nets most_stage_memories builder.old builder.new }
     ensures waits { StillWait builder.old builder.new }
     ensures no_more_wait { OnOk result (StillWait builder.new builder.old) }
     ensures still_wait_for_write { OnOk result (StillWaitForWrite builder.old builder.new) }
     ensures no_more_write { OnOk result (StillWaitForWrite builder.new builder.old) }
-    ensures full { length builder.old.memories + most_stage_memories ≤ 2 ^ 16 → result ≡ Err NetFault.TooManyNets → 2 ^ 20 < length builder.old.lines + most_stage_nets }
-    ensures few { IsDelayEnough (source_of joint.now) (sink_of joint.now) joint.now.depth → GrowsBy most_delay_nets builder.old builder.new }
-    ensures same_widths { IsDelayEnough (source_of joint.now) (sink_of joint.now) joint.now.depth → IfOk result (λ made. widths_of made.beat ≡ widths_of from) }
+    ensures full { length builder.old.memories + most_stage_memories ≤ 2 ^ 16 → result ≡ Err NetFault.TooManyNets
+        → 2 ^ 20 < length builder.old.lines + most_stage_nets }
+    ensures few { IsDelayEnough (source_of joint.now) (sink_of joint.now) joint.now.depth
+        → GrowsBy most_delay_nets builder.old builder.new }
+    ensures same_widths { IsDelayEnough (source_of joint.now) (sink_of joint.now) joint.now.depth
+        → IfOk result (λ made. widths_of made.beat ≡ widths_of from) }
 {
     let one_form = has_one_form(&joint.source, &joint.sink);
     let strict = is_strict(&joint.source);

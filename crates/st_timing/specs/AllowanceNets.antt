@@ -37,18 +37,31 @@ pub record AllowanceForward (from to : BeatNets) (kept : AllowanceKept) (allowan
 pub record AllowanceBackward (kept : AllowanceKept) (ready up : NetValue) (netlist : Netlist) : Type 0 where
   pub goes : NetValue
   pub asks : Always netlist (λ cycle. (cycle.net up.number == 1) ≡ nat_lt (cycle.net kept.stored.queue.count.number) 2)
-  pub gives : Always netlist (λ cycle. (cycle.net goes.number == 1) ≡ ((cycle.net kept.stored.shown.number == 1) && (cycle.net ready.number == 1)))
+  pub gives : Always netlist (λ cycle. (cycle.net goes.number == 1)
+      ≡ ((cycle.net kept.stored.shown.number == 1) && (cycle.net ready.number == 1)))
   pub steps : StepsQueue netlist kept.stored.queue (place_nets kept.stored.from).item kept.stored.from.valid goes
 
 -- ---- what stands lasts. No contract reads these proofs; the law of the buffer cites them
 
-pub keeps_lasts : (kept : AllowanceKept) (allowance : ℕ) (old new : Netlist) → AllowanceKeeps kept allowance old → Extends old new → ((n : ℕ) → owns kept.stored.queue n → IsWaiting old n → IsWaiting new n) → ((m : ℕ) → owns_memories kept.stored.queue m → WaitsForWrite old m → WaitsForWrite new m) → AllowanceKeeps kept allowance new
-keeps_lasts kept allowance old new h e w v = record { allowance_is = h.allowance_is; stored = stored_keeps_lasts kept.stored (kept.buffer.allowance + 2) old new h.stored e w v }
+pub keeps_lasts : (kept : AllowanceKept) (allowance : ℕ) (old new : Netlist) → AllowanceKeeps kept allowance old → Extends old new
+    → ((n : ℕ) → owns kept.stored.queue n → IsWaiting old n → IsWaiting new n)
+    → ((m : ℕ) → owns_memories kept.stored.queue m → WaitsForWrite old m → WaitsForWrite new m)
+    → AllowanceKeeps kept allowance new
+keeps_lasts kept allowance old new h e w v =
+    record
+    { allowance_is = h.allowance_is; stored = stored_keeps_lasts kept.stored (kept.buffer.allowance + 2) old new h.stored e w v }
 
-pub forward_lasts : (from to : BeatNets) (kept : AllowanceKept) (allowance : ℕ) (old new : Netlist) → AllowanceForward from to kept allowance old → Extends old new → AllowanceForward from to kept allowance new
-forward_lasts from to kept allowance old new h e = record { allowance_is = h.allowance_is; stored = stored_forward_lasts from to kept.stored (kept.buffer.allowance + 2) old new h.stored e }
+pub forward_lasts : (from to : BeatNets) (kept : AllowanceKept) (allowance : ℕ) (old new : Netlist)
+    → AllowanceForward from to kept allowance old → Extends old new → AllowanceForward from to kept allowance new
+forward_lasts from to kept allowance old new h e =
+    record {
+      allowance_is =
+          h.allowance_is;
+      stored = stored_forward_lasts from to kept.stored (kept.buffer.allowance + 2) old new h.stored e;
+    }
 
-pub backward_lasts : (kept : AllowanceKept) (ready up : NetValue) (old new : Netlist) → AllowanceBackward kept ready up old → Extends old new → AllowanceBackward kept ready up new
+pub backward_lasts : (kept : AllowanceKept) (ready up : NetValue) (old new : Netlist) → AllowanceBackward kept ready up old
+    → Extends old new → AllowanceBackward kept ready up new
 backward_lasts kept ready up old new h e = record {
   goes = h.goes;
   asks = λ cycle v. h.asks cycle (e.valuations cycle v);

@@ -57,13 +57,16 @@ pub record BufferForward (from to : BeatNets) (kept : BufferKept) (latency : ℕ
 pub record BufferBackward (kept : BufferKept) (ready up : NetValue) (netlist : Netlist) : Type 0 where
   pub goes : NetValue
   pub asks : Always netlist (λ cycle. (cycle.net up.number == 1) ≡ nat_lt 0 (cycle.net kept.promises.free.number))
-  pub gives : Always netlist (λ cycle. (cycle.net goes.number == 1) ≡ ((cycle.net kept.stored.shown.number == 1) && (cycle.net ready.number == 1)))
+  pub gives : Always netlist (λ cycle. (cycle.net goes.number == 1)
+      ≡ ((cycle.net kept.stored.shown.number == 1) && (cycle.net ready.number == 1)))
   pub promises : PromisesGoOn netlist kept.latency kept.promises up kept.stored.from.valid goes
   pub steps : StepsQueue netlist kept.stored.queue (place_nets kept.stored.from).item kept.stored.from.valid goes
 
 -- ---- what stands lasts. No contract reads these proofs; the law of the buffer cites them
 
-pub keeps_lasts : (kept : BufferKept) (latency : ℕ) (old new : Netlist) → BufferKeeps kept latency old → Extends old new → ((n : ℕ) → buffer_owns kept n → IsWaiting old n → IsWaiting new n) → ((m : ℕ) → buffer_owns_memories kept m → WaitsForWrite old m → WaitsForWrite new m) → BufferKeeps kept latency new
+pub keeps_lasts : (kept : BufferKept) (latency : ℕ) (old new : Netlist) → BufferKeeps kept latency old → Extends old new
+    → ((n : ℕ) → buffer_owns kept n → IsWaiting old n → IsWaiting new n)
+    → ((m : ℕ) → buffer_owns_memories kept m → WaitsForWrite old m → WaitsForWrite new m) → BufferKeeps kept latency new
 keeps_lasts kept latency old new h e w v = record {
   latency_is = h.latency_is;
   stored = stored_keeps_lasts kept.stored (kept.latency + 1) old new h.stored e (λ n o. w n (inl o)) v;
@@ -71,7 +74,8 @@ keeps_lasts kept latency old new h e w v = record {
   apart = h.apart;
 }
 
-pub forward_lasts : (from to : BeatNets) (kept : BufferKept) (latency : ℕ) (old new : Netlist) → BufferForward from to kept latency old → Extends old new → BufferForward from to kept latency new
+pub forward_lasts : (from to : BeatNets) (kept : BufferKept) (latency : ℕ) (old new : Netlist)
+    → BufferForward from to kept latency old → Extends old new → BufferForward from to kept latency new
 forward_lasts from to kept latency old new h e = record {
   latency_is = h.latency_is;
   stored = stored_forward_lasts from to kept.stored (kept.latency + 1) old new h.stored e;
@@ -80,7 +84,8 @@ forward_lasts from to kept latency old new h e = record {
   cycles = h.cycles;
 }
 
-pub backward_lasts : (kept : BufferKept) (ready up : NetValue) (old new : Netlist) → BufferBackward kept ready up old → Extends old new → BufferBackward kept ready up new
+pub backward_lasts : (kept : BufferKept) (ready up : NetValue) (old new : Netlist) → BufferBackward kept ready up old
+    → Extends old new → BufferBackward kept ready up new
 backward_lasts kept ready up old new h e = record {
   goes = h.goes;
   asks = λ cycle v. h.asks cycle (e.valuations cycle v);

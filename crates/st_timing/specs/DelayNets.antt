@@ -49,7 +49,8 @@ pub record GatesBeat (latency cycles : ℕ) (from to : BeatNets) (history ready 
   pub width : history.width ≡ cycles
   pub starts : StartsLow netlist history
   pub ready_is : Always netlist (λ cycle. cycle.net ready.number ≡ bit_at (cycle.net history.number) (cycles - 1))
-  pub valid : Always netlist (λ cycle. cycle.net to.valid.number ≡ moving latency (cycle.net from.valid.number) (cycle.net ready.number))
+  pub valid : Always netlist (λ cycle. cycle.net to.valid.number
+      ≡ moving latency (cycle.net from.valid.number) (cycle.net ready.number))
   pub beat : Always netlist (λ cycle. beat_in cycle to ≡ beat_in cycle from)
 
 -- after the first call
@@ -70,7 +71,8 @@ DelayBackward cycles (Register history shown) ready up netlist = SetsRegister cy
 
 -- ---- what stands lasts. No contract reads these proofs; the law of the delay cites them
 
-pub keeps_lasts : (cycles : ℕ) (kept : DelayKept) (old new : Netlist) → DelayKeeps cycles kept old → Extends old new → ((n : ℕ) → delay_owns kept n → IsWaiting old n → IsWaiting new n) → DelayKeeps cycles kept new
+pub keeps_lasts : (cycles : ℕ) (kept : DelayKept) (old new : Netlist) → DelayKeeps cycles kept old → Extends old new
+    → ((n : ℕ) → delay_owns kept n → IsWaiting old n → IsWaiting new n) → DelayKeeps cycles kept new
 keeps_lasts cycles Wire old new h e w = tt
 keeps_lasts cycles (Register history ready) old new h e w = record {
   some = h.some;
@@ -78,7 +80,8 @@ keeps_lasts cycles (Register history ready) old new h e w = record {
   shown = net_lasts old new ready 1 e h.shown;
 }
 
-pub forward_lasts : (latency cycles : ℕ) (from to : BeatNets) (kept : DelayKept) (old new : Netlist) → DelayForward latency cycles from to kept old → Extends old new → DelayForward latency cycles from to kept new
+pub forward_lasts : (latency cycles : ℕ) (from to : BeatNets) (kept : DelayKept) (old new : Netlist)
+    → DelayForward latency cycles from to kept old → Extends old new → DelayForward latency cycles from to kept new
 forward_lasts latency cycles from to Wire old new h e = h
 forward_lasts latency cycles from to (Register history ready) old new h e = record {
   some = h.some;
@@ -89,6 +92,8 @@ forward_lasts latency cycles from to (Register history ready) old new h e = reco
   beat = λ cycle v. h.beat cycle (e.valuations cycle v);
 }
 
-pub backward_lasts : (cycles : ℕ) (kept : DelayKept) (ready up : NetValue) (old new : Netlist) → DelayBackward cycles kept ready up old → Extends old new → DelayBackward cycles kept ready up new
+pub backward_lasts : (cycles : ℕ) (kept : DelayKept) (ready up : NetValue) (old new : Netlist)
+    → DelayBackward cycles kept ready up old → Extends old new → DelayBackward cycles kept ready up new
 backward_lasts cycles Wire ready up old new h e = h
-backward_lasts cycles (Register history shown) ready up old new h e = record { some = h.some; up_is = h.up_is; takes = takes_lasts old new history ready e h.takes }
+backward_lasts cycles (Register history shown) ready up old new h e =
+    record { some = h.some; up_is = h.up_is; takes = takes_lasts old new history ready e h.takes }

@@ -115,21 +115,26 @@ TimingBackward Straight ready up netlist = up ≡ ready
 
 -- ---- what stands lasts. No contract reads these proofs; the law of the timing cites them
 
-pub timing_keeps_lasts : (timing : Timing) (kept : TimingKept) (old new : Netlist) → TimingKeeps timing kept old → Extends old new → ((n : ℕ) → timing_owns kept n → IsWaiting old n → IsWaiting new n) → ((m : ℕ) → timing_owns_memories kept m → WaitsForWrite old m → WaitsForWrite new m) → TimingKeeps timing kept new
+pub timing_keeps_lasts : (timing : Timing) (kept : TimingKept) (old new : Netlist) → TimingKeeps timing kept old → Extends old new
+    → ((n : ℕ) → timing_owns kept n → IsWaiting old n → IsWaiting new n)
+    → ((m : ℕ) → timing_owns_memories kept m → WaitsForWrite old m → WaitsForWrite new m) → TimingKeeps timing kept new
 timing_keeps_lasts (Tie stage) Tied old new h e w v = h
 timing_keeps_lasts (Buffer stage) (Buffered kept) old new h e w v = keeps_lasts kept stage.latency old new h e w v
 timing_keeps_lasts (Allowance stage) (Allowed kept) old new h e w v = allowance_keeps_lasts kept stage.allowance old new h e w v
 timing_keeps_lasts (Wire stage) Straight old new h e w v = h
 timing_keeps_lasts _ _ old new h e w v = absurd h
 
-pub timing_forward_lasts : (timing : Timing) (from to : BeatNets) (kept : TimingKept) (old new : Netlist) → TimingForward timing from to kept old → Extends old new → TimingForward timing from to kept new
+pub timing_forward_lasts : (timing : Timing) (from to : BeatNets) (kept : TimingKept) (old new : Netlist)
+    → TimingForward timing from to kept old → Extends old new → TimingForward timing from to kept new
 timing_forward_lasts (Tie stage) from to Tied old new h e = h
 timing_forward_lasts (Buffer stage) from to (Buffered kept) old new h e = forward_lasts from to kept stage.latency old new h e
-timing_forward_lasts (Allowance stage) from to (Allowed kept) old new h e = allowance_forward_lasts from to kept stage.allowance old new h e
+timing_forward_lasts (Allowance stage) from to (Allowed kept) old new h e =
+    allowance_forward_lasts from to kept stage.allowance old new h e
 timing_forward_lasts (Wire stage) from to Straight old new h e = h
 timing_forward_lasts _ from to _ old new h e = absurd h
 
-pub timing_backward_lasts : (kept : TimingKept) (ready up : NetValue) (old new : Netlist) → TimingBackward kept ready up old → Extends old new → TimingBackward kept ready up new
+pub timing_backward_lasts : (kept : TimingKept) (ready up : NetValue) (old new : Netlist) → TimingBackward kept ready up old
+    → Extends old new → TimingBackward kept ready up new
 timing_backward_lasts Tied ready up old new h e = λ cycle v. h cycle (e.valuations cycle v)
 timing_backward_lasts (Buffered kept) ready up old new h e = backward_lasts kept ready up old new h e
 timing_backward_lasts (Allowed kept) ready up old new h e = allowance_backward_lasts kept ready up old new h e

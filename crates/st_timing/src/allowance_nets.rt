@@ -23,7 +23,8 @@ fn is_below_two(builder: &mut Builder, count: Net) -> Result<Net, NetFault>
     requires count { IsNet builder.old count }
     requires wide { 2 < 2 ^ count.width }
     ensures net { IfOk result (λ below. IsBit builder.new below) }
-    ensures value { IfOk result (λ below. Always builder.new (λ cycle. (cycle.net below.number == 1) ≡ nat_lt (cycle.net count.number) 2)) }
+    ensures value { IfOk result (λ below. Always builder.new (λ cycle. (cycle.net below.number == 1)
+        ≡ nat_lt (cycle.net count.number) 2)) }
     ensures adds { AddsNets 2 builder.old builder.new }
     ensures full { result ≡ Err NetFault.TooManyNets → 2 ^ 20 < length builder.old.lines + 2 }
 {

@@ -12,7 +12,8 @@ use crate::buffer::ReadyBuffer;
 use item_queues::stored_queue_keeps_few_bits;
 use stage_core::Stage;
 
-/// A buffer of four places and more keeps at most 36 bits in registers, whatever its latency and however wide its beats are: 24 in
+/// A buffer of four places and more keeps at most 36 bits in registers, whatever its latency and however wide its beats are: 24
+/// in
 /// its queue, 4 for the free places and 8 of ready. So it is in the netlist between its two calls, and in each longer one.
 pub fn buffer_keeps_few_bits(buffer: ReadyBuffer)
     ensures { let stage = ⟦<ReadyBuffer as Stage>⟧ in
@@ -22,7 +23,8 @@ pub fn buffer_keeps_few_bits(buffer: ReadyBuffer)
     stored_queue_keeps_few_bits();
 }
 
-/// A buffer behind a ready allowance keeps at most 24 bits in registers, whatever its allowance and however wide its beats are. So it is
+/// A buffer behind a ready allowance keeps at most 24 bits in registers, whatever its allowance and however wide its beats are.
+/// So it is
 /// in the netlist between its two calls, and in each longer one.
 pub fn allowance_buffer_keeps_few_bits(buffer: AllowanceBuffer)
     ensures { let stage = ⟦<AllowanceBuffer as Stage>⟧ in

@@ -64,7 +64,8 @@ pub(crate) fn hold_promises(builder: &mut Builder, latency: u8) -> Result<Promis
 pub(crate) fn has_free(builder: &mut Builder, promises: &Promises) -> Result<Net, NetFault>
     requires { IsNet builder.old promises.now.free }
     ensures net { IfOk result (λ ready. IsBit builder.new ready) }
-    ensures value { IfOk result (λ ready. Always builder.new (λ cycle. (cycle.net ready.number == 1) ≡ nat_lt 0 (cycle.net promises.now.free.number))) }
+    ensures value { IfOk result (λ ready. Always builder.new (λ cycle. (cycle.net ready.number == 1)
+        ≡ nat_lt 0 (cycle.net promises.now.free.number))) }
     ensures adds { AddsNets 1 builder.old builder.new }
     ensures full { result ≡ Err NetFault.TooManyNets → 2 ^ 20 < length builder.old.lines + 1 }
 {
@@ -77,7 +78,8 @@ fn one_more(builder: &mut Builder, count: Net, bit: Net) -> Result<Net, NetFault
     requires count { IsNet builder.old count }
     requires bit { IsBit builder.old bit }
     ensures net { IfOk result (λ more. IsNetOfWidth builder.new more count.width) }
-    ensures value { IfOk result (λ more. Always builder.new (λ cycle. cycle.net count.number + one_if (cycle.net bit.number == 1) < 2 ^ count.width
+    ensures value { IfOk result (λ more. Always builder.new (λ cycle. cycle.net count.number + one_if (cycle.net bit.number == 1)
+        < 2 ^ count.width
         → cycle.net more.number ≡ cycle.net count.number + one_if (cycle.net bit.number == 1))) }
     ensures adds { AddsNets 3 builder.old builder.new }
     ensures full { result ≡ Err NetFault.TooManyNets → 2 ^ 20 < length builder.old.lines + 3 }
@@ -117,7 +119,9 @@ fn later_free(
     requires unused { IsBit builder.old unused }
     requires goes { IsBit builder.old goes }
     ensures net { IfOk result (λ later. IsNetOfWidth builder.new later free.width) }
-    ensures value { IfOk result (λ later. Always builder.new (λ cycle. IsNextFree free.width (cycle.net free.number) (cycle.net promised.number == 1) (cycle.net unused.number == 1) (cycle.net goes.number == 1) (cycle.net later.number))) }
+    ensures value { IfOk result (λ later. Always builder.new (λ cycle. IsNextFree free.width (cycle.net free.number)
+        (cycle.net promised.number == 1) (cycle.net unused.number == 1) (cycle.net goes.number == 1)
+        (cycle.net later.number))) }
     ensures adds { AddsNets 9 builder.old builder.new }
     ensures full { result ≡ Err NetFault.TooManyNets → 2 ^ 20 < length builder.old.lines + 9 }
 {
@@ -132,7 +136,8 @@ fn comes_unused(builder: &mut Builder, due: Net, comes: Net) -> Result<Net, NetF
     requires due { IsBit builder.old due }
     requires comes { IsBit builder.old comes }
     ensures net { IfOk result (λ unused. IsBit builder.new unused) }
-    ensures value { IfOk result (λ unused. Always builder.new (λ cycle. (cycle.net unused.number == 1) ≡ ((cycle.net due.number == 1) && not (cycle.net comes.number == 1)))) }
+    ensures value { IfOk result (λ unused. Always builder.new (λ cycle. (cycle.net unused.number == 1)
+        ≡ ((cycle.net due.number == 1) && not (cycle.net comes.number == 1)))) }
     ensures adds { AddsNets 2 builder.old builder.new }
     ensures full { result ≡ Err NetFault.TooManyNets → 2 ^ 20 < length builder.old.lines + 2 }
 {
@@ -156,7 +161,10 @@ fn next_free(
     requires comes { IsBit builder.old comes }
     requires goes { IsBit builder.old goes }
     ensures net { IfOk result (λ next. IsNetOfWidth builder.new next promises.now.free.width) }
-    ensures value { IfOk result (λ next. Always builder.new (λ cycle. IsNextFree promises.now.free.width (cycle.net promises.now.free.number) (cycle.net promised.number == 1) (is_unused latency (cycle.net promises.now.history.number) (cycle.net comes.number)) (cycle.net goes.number == 1) (cycle.net next.number))) }
+    ensures value { IfOk result (λ next. Always builder.new (λ cycle. IsNextFree promises.now.free.width
+        (cycle.net promises.now.free.number) (cycle.net promised.number == 1)
+        (is_unused latency (cycle.net promises.now.history.number) (cycle.net comes.number)) (cycle.net goes.number == 1)
+        (cycle.net next.number))) }
     ensures adds { AddsNets 12 builder.old builder.new }
     ensures full { result ≡ Err NetFault.TooManyNets → 2 ^ 20 < length builder.old.lines + 12 }
 {

@@ -19,7 +19,8 @@ pub(crate) fn transfers(
     requires valid { IsBit builder.old valid }
     requires ready { IsBit builder.old ready }
     ensures net { IfOk result (λ moves. IsBit builder.new moves) }
-    ensures value { IfOk result (λ moves. Always builder.new (λ cycle. cycle.net moves.number ≡ moving latency (cycle.net valid.number) (cycle.net ready.number))) }
+    ensures value { IfOk result (λ moves. Always builder.new (λ cycle. cycle.net moves.number
+        ≡ moving latency (cycle.net valid.number) (cycle.net ready.number))) }
     ensures adds { AddsNets 1 builder.old builder.new }
     ensures full { result ≡ Err NetFault.TooManyNets → 2 ^ 20 < length builder.old.lines + 1 }
 {

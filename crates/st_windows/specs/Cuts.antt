@@ -17,7 +17,8 @@ cut_of bits size skipped wanted word =
 -- so many symbols of a word that is held, and behind them those of the word that comes, as many as fit
 abbrev pub front_at : ℕ → ℕ → ℕ → ℕ → ℕ → ℕ → ℕ → ℕ
 front_at bits from into held word coming k =
-    if k == 0 then cut_of bits from 0 into coming else cut_of bits held 0 k word * 2 ^ (bits * (into - k)) + cut_of bits from 0 (into - k) coming
+    if k == 0 then cut_of bits from 0 into coming
+    else cut_of bits held 0 k word * 2 ^ (bits * (into - k)) + cut_of bits from 0 (into - k) coming
 
 -- what is left of the word that comes, behind those
 abbrev pub rest_at : ℕ → ℕ → ℕ → ℕ → ℕ → ℕ → ℕ

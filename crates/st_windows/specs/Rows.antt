@@ -6,7 +6,11 @@ use Rattle.st_windows.specs.Cuts.{cut_of, front_at, rest_at, chosen_at, chosen_b
 
 -- so many held and those of the beat that comes
 abbrev pub joined_count : WindowSizes → ℕ → Shown → ℕ
-joined_count sizes held from = (held + (sizes.from + (2 ^ sizes.count - (if from.beat.last == 1 then from.beat.empty % 2 ^ sizes.count else 0))) % 2 ^ sizes.count) % 2 ^ sizes.count
+joined_count sizes held from =
+    (held
+    + (sizes.from
+    + (2 ^ sizes.count
+    - (if from.beat.last == 1 then from.beat.empty % 2 ^ sizes.count else 0))) % 2 ^ sizes.count) % 2 ^ sizes.count
 
 -- what is held makes a beat by itself
 abbrev pub is_alone : WindowSizes → Shown → Bool
@@ -14,13 +18,17 @@ is_alone sizes held = nat_lt (sizes.into - 1) held.beat.empty || (held.beat.last
 
 -- the symbols of a beat: those that are held, and behind them those of this word
 abbrev pub front_of : WindowSizes → Shown → ℕ → ℕ
-front_of sizes held coming = chosen_below held.beat.empty (front_at sizes.bits sizes.from sizes.into sizes.held held.beat.word coming) (cut_of sizes.bits sizes.held 0 sizes.into held.beat.word) sizes.into
+front_of sizes held coming =
+    chosen_below held.beat.empty (front_at sizes.bits sizes.from sizes.into sizes.held held.beat.word coming)
+    (cut_of sizes.bits sizes.held 0 sizes.into held.beat.word) sizes.into
 
 -- what is held and behind it what comes, valid where it makes a beat, with this word
 abbrev pub joined_with : WindowSizes → Shown → Shown → ℕ → Shown
 joined_with sizes held from word =
     record {
-      valid = if (from.valid == 1) && (nat_lt (sizes.into - 1) (joined_count sizes held.beat.empty from) || (from.beat.last == 1)) then 1 else 0;
+      valid =
+          if (from.valid == 1) && (nat_lt (sizes.into - 1) (joined_count sizes held.beat.empty from) || (from.beat.last == 1))
+          then 1 else 0;
       beat = record {
         word = word;
         channel = from.beat.channel;
@@ -69,7 +77,8 @@ shown_left sizes row word error =
         error = if nat_lt sizes.into row.beat.empty then error else 0;
         first = 0;
         last = if nat_lt sizes.into row.beat.empty then row.beat.last else 0;
-        empty = if nat_lt sizes.into row.beat.empty then (row.beat.empty + (2 ^ sizes.count - sizes.into)) % 2 ^ sizes.count else 0;
+        empty =
+            if nat_lt sizes.into row.beat.empty then (row.beat.empty + (2 ^ sizes.count - sizes.into)) % 2 ^ sizes.count else 0;
       };
     }
 
@@ -81,7 +90,8 @@ held_few sizes x = record { valid = x.valid; beat = record x.beat { empty = x.be
 abbrev pub row_behind : WindowSizes → Shown → Shown → Shown
 row_behind sizes held from =
     shown_left sizes (row_next sizes held from)
-    (if is_alone sizes held then cut_of sizes.bits sizes.held sizes.into sizes.held held.beat.word else chosen_at held.beat.empty (rest_at sizes.bits sizes.from sizes.into sizes.held from.beat.word) (sizes.into - 1))
+    (if is_alone sizes held then cut_of sizes.bits sizes.held sizes.into sizes.held held.beat.word
+    else chosen_at held.beat.empty (rest_at sizes.bits sizes.from sizes.into sizes.held from.beat.word) (sizes.into - 1))
     (if is_alone sizes held then held.beat.error else from.beat.error)
 
 -- what is held then
@@ -90,4 +100,6 @@ row_left sizes held from = held_few sizes (row_behind sizes held from)
 
 -- and once one has come while none goes
 abbrev pub row_gathered : WindowSizes → Shown → Shown
-row_gathered sizes row = held_few sizes (record { valid = 0; beat = record row.beat { word = cut_of sizes.bits sizes.into 0 sizes.held row.beat.word } })
+row_gathered sizes row =
+    held_few sizes
+    (record { valid = 0; beat = record row.beat { word = cut_of sizes.bits sizes.into 0 sizes.held row.beat.word } })

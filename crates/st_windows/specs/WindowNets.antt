@@ -49,20 +49,28 @@ pub record WindowForward (sizes : WindowSizes) (from to : BeatNets) (kept : Wind
   pub starts : StartsEmpty netlist kept.held
   pub count_fits : Always netlist (λ cycle. cycle.net kept.held.empty.number < 2 ^ sizes.count)
   pub alone_is : Always netlist (λ cycle. (cycle.net kept.alone.number == 1) ≡ is_alone sizes (shown_in cycle kept.held))
-  pub shows : Always netlist (λ cycle. shown_in cycle to ≡ shown_front sizes (row_next sizes (shown_in cycle kept.held) (shown_in cycle from)))
-  pub leaves : Always netlist (λ cycle. shown_in cycle kept.rest ≡ row_left sizes (shown_in cycle kept.held) (shown_in cycle from))
-  pub gathers : Always netlist (λ cycle. shown_in cycle kept.gathered ≡ row_gathered sizes (row_next sizes (shown_in cycle kept.held) (shown_in cycle from)))
+  pub shows : Always netlist (λ cycle. shown_in cycle to
+      ≡ shown_front sizes (row_next sizes (shown_in cycle kept.held) (shown_in cycle from)))
+  pub leaves : Always netlist (λ cycle. shown_in cycle kept.rest
+      ≡ row_left sizes (shown_in cycle kept.held) (shown_in cycle from))
+  pub gathers : Always netlist (λ cycle. shown_in cycle kept.gathered
+      ≡ row_gathered sizes (row_next sizes (shown_in cycle kept.held) (shown_in cycle from)))
 
 -- after the second call: ready is shown where no beat is held that goes by itself, and no beat is shown or with ready. What is
 -- held changes where a beat goes or comes
 pub record WindowBackward (kept : WindowKept) (ready up : NetValue) (netlist : Netlist) : Type 0 where
-  pub asks : Always netlist (λ cycle. (cycle.net up.number == 1) ≡ (not (cycle.net kept.alone.number == 1) && (not (cycle.net kept.full.number == 1) || (cycle.net ready.number == 1))))
+  pub asks : Always netlist (λ cycle. (cycle.net up.number == 1)
+      ≡ (not (cycle.net kept.alone.number == 1) && (not (cycle.net kept.full.number == 1) || (cycle.net ready.number == 1))))
   pub moves : (run : Run) (cycles : ℕ) → IsRun netlist run cycles → (c : ℕ) → c + 1 < cycles
-      → shown_in (cycle_of run (c + 1)) kept.held ≡ (if (run.net c kept.full.number == 1) && (run.net c ready.number == 1) then shown_in (cycle_of run c) kept.rest else (if (run.net c kept.coming.number == 1) && (run.net c up.number == 1) then shown_in (cycle_of run c) kept.gathered else shown_in (cycle_of run c) kept.held))
+      → shown_in (cycle_of run (c + 1)) kept.held
+      ≡ (if (run.net c kept.full.number == 1) && (run.net c ready.number == 1) then shown_in (cycle_of run c) kept.rest
+      else (if (run.net c kept.coming.number == 1) && (run.net c up.number == 1) then shown_in (cycle_of run c) kept.gathered
+      else shown_in (cycle_of run c) kept.held))
 
 -- ---- what stands lasts. No contract reads these proofs; the law of the stage cites them
 
-pub keeps_lasts : (kept : WindowKept) (old new : Netlist) → WindowKeeps kept old → Extends old new → ((n : ℕ) → IsOfBeat kept.held n → IsWaiting old n → IsWaiting new n) → WindowKeeps kept new
+pub keeps_lasts : (kept : WindowKept) (old new : Netlist) → WindowKeeps kept old → Extends old new
+    → ((n : ℕ) → IsOfBeat kept.held n → IsWaiting old n → IsWaiting new n) → WindowKeeps kept new
 keeps_lasts kept old new h e w = record {
   held = beat_lasts old new kept.held e h.held;
   rest = beat_lasts old new kept.rest e h.rest;
@@ -75,7 +83,8 @@ keeps_lasts kept old new h e w = record {
   full = net_lasts old new kept.full 1 e h.full;
 }
 
-pub forward_lasts : (sizes : WindowSizes) (from to : BeatNets) (kept : WindowKept) (old new : Netlist) → WindowForward sizes from to kept old → Extends old new → WindowForward sizes from to kept new
+pub forward_lasts : (sizes : WindowSizes) (from to : BeatNets) (kept : WindowKept) (old new : Netlist)
+    → WindowForward sizes from to kept old → Extends old new → WindowForward sizes from to kept new
 forward_lasts sizes from to kept old new h e = record {
   coming_is = h.coming_is;
   full_is = h.full_is;
@@ -88,7 +97,8 @@ forward_lasts sizes from to kept old new h e = record {
   gathers = λ cycle v. h.gathers cycle (e.valuations cycle v);
 }
 
-pub backward_lasts : (kept : WindowKept) (ready up : NetValue) (old new : Netlist) → WindowBackward kept ready up old → Extends old new → WindowBackward kept ready up new
+pub backward_lasts : (kept : WindowKept) (ready up : NetValue) (old new : Netlist) → WindowBackward kept ready up old
+    → Extends old new → WindowBackward kept ready up new
 backward_lasts kept ready up old new h e = record {
   asks = λ cycle v. h.asks cycle (e.valuations cycle v);
   moves = λ run cycles r. h.moves run cycles (e.runs run cycles r);

@@ -19,7 +19,8 @@ use stage_core::BeatNets;
 fn fit_empty(builder: &mut Builder, sizes: &WindowSizes, empty: Net) -> Result<Net, NetFault>
     requires empty { IsNet builder.old empty }
     ensures net { IfOk result (λ n. IsNetOfWidth builder.new n sizes.now.count) }
-    ensures value { IfOk result (λ n. Always builder.new (λ cycle. cycle.net n.number ≡ cycle.net empty.number % 2 ^ sizes.now.count)) }
+    ensures value { IfOk result (λ n. Always builder.new (λ cycle. cycle.net n.number
+        ≡ cycle.net empty.number % 2 ^ sizes.now.count)) }
     ensures adds { AddsNets 2 builder.old builder.new }
     ensures full { result ≡ Err NetFault.TooManyNets → 2 ^ 20 < length builder.old.lines + 2 }
 {
@@ -38,7 +39,8 @@ pub(crate) fn count_joined(
     requires held { IsNetOfWidth builder.old held sizes.now.count }
     requires from { AreBeatNets builder.old from.now }
     ensures net { IfOk result (λ count. IsNetOfWidth builder.new count sizes.now.count) }
-    ensures value { IfOk result (λ count. Always builder.new (λ cycle. cycle.net count.number ≡ joined_count sizes.now (cycle.net held.number) (shown_in cycle from.now))) }
+    ensures value { IfOk result (λ count. Always builder.new (λ cycle. cycle.net count.number
+        ≡ joined_count sizes.now (cycle.net held.number) (shown_in cycle from.now))) }
     ensures adds { AddsNets 7 builder.old builder.new }
     ensures full { result ≡ Err NetFault.TooManyNets → 2 ^ 20 < length builder.old.lines + 7 }
 {
@@ -61,7 +63,8 @@ pub(crate) fn makes_beat(
     requires count { IsNetOfWidth builder.old count sizes.now.count }
     requires last { IsBit builder.old last }
     ensures net { IfOk result (λ whole. IsBit builder.new whole) }
-    ensures value { IfOk result (λ whole. Always builder.new (λ cycle. (cycle.net whole.number == 1) ≡ (nat_lt (sizes.now.into - 1) (cycle.net count.number) || (cycle.net last.number == 1)))) }
+    ensures value { IfOk result (λ whole. Always builder.new (λ cycle. (cycle.net whole.number == 1)
+        ≡ (nat_lt (sizes.now.into - 1) (cycle.net count.number) || (cycle.net last.number == 1)))) }
     ensures adds { AddsNets 3 builder.old builder.new }
     ensures full { result ≡ Err NetFault.TooManyNets → 2 ^ 20 < length builder.old.lines + 3 }
 {

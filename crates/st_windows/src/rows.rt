@@ -32,7 +32,8 @@ fn mask_word(
     requires coming { IsNetOfWidth builder.old coming (sizes.now.bits * sizes.now.from) }
     requires alone { IsBit builder.old alone }
     ensures net { IfOk result (λ word. IsNetOfWidth builder.new word (sizes.now.bits * sizes.now.from)) }
-    ensures value { IfOk result (λ word. Always builder.new (λ cycle. cycle.net word.number ≡ (if cycle.net alone.number == 1 then 0 else cycle.net coming.number))) }
+    ensures value { IfOk result (λ word. Always builder.new (λ cycle. cycle.net word.number
+        ≡ (if cycle.net alone.number == 1 then 0 else cycle.net coming.number))) }
     ensures adds { AddsNets 2 builder.old builder.new }
     ensures full { result ≡ Err NetFault.TooManyNets → 2 ^ 20 < length builder.old.lines + 2 }
 {
@@ -55,7 +56,9 @@ fn next_word(
     requires comes { ComesTo sizes.now from.now }
     requires alone { IsBit builder.old alone }
     ensures net { IfOk result (λ word. IsNetOfWidth builder.new word (sizes.now.bits * sizes.now.into)) }
-    ensures value { IfOk result (λ word. Always builder.new (λ cycle. cycle.net word.number ≡ front_of sizes.now (shown_in cycle held.now) (if cycle.net alone.number == 1 then 0 else cycle.net from.now.word.number))) }
+    ensures value { IfOk result (λ word. Always builder.new (λ cycle. cycle.net word.number
+        ≡ front_of sizes.now (shown_in cycle held.now)
+        (if cycle.net alone.number == 1 then 0 else cycle.net from.now.word.number))) }
     ensures adds { AddsNets (10 * sizes.now.into + 5) builder.old builder.new }
     ensures full { result ≡ Err NetFault.TooManyNets → 2 ^ 20 < length builder.old.lines + (10 * sizes.now.into + 5) }
 {
@@ -78,7 +81,8 @@ fn join_row(
     requires word { IsNetOfWidth builder.old word (sizes.now.bits * sizes.now.into) }
     ensures row { IfOk result (λ made. AreBeatNets builder.new made) }
     ensures widths { IfOk result (λ made. HaveRowWidths sizes.now sizes.now.into from.now made) }
-    ensures value { IfOk result (λ made. Always builder.new (λ cycle. shown_in cycle made ≡ joined_with sizes.now (shown_in cycle held.now) (shown_in cycle from.now) (cycle.net word.number))) }
+    ensures value { IfOk result (λ made. Always builder.new (λ cycle. shown_in cycle made
+        ≡ joined_with sizes.now (shown_in cycle held.now) (shown_in cycle from.now) (cycle.net word.number))) }
     ensures adds { AddsNets 15 builder.old builder.new }
     ensures full { result ≡ Err NetFault.TooManyNets → 2 ^ 20 < length builder.old.lines + 15 }
 {
@@ -112,7 +116,8 @@ fn lone_row(
     requires word { IsNetOfWidth builder.old word (sizes.now.bits * sizes.now.into) }
     ensures row { IfOk result (λ made. AreBeatNets builder.new made) }
     ensures widths { IfOk result (λ made. HaveRowWidths sizes.now sizes.now.into held.now made) }
-    ensures value { IfOk result (λ made. Always builder.new (λ cycle. shown_in cycle made ≡ alone_with (shown_in cycle held.now) (cycle.net word.number))) }
+    ensures value { IfOk result (λ made. Always builder.new (λ cycle. shown_in cycle made
+        ≡ alone_with (shown_in cycle held.now) (cycle.net word.number))) }
     ensures adds { AddsNets 1 builder.old builder.new }
     ensures full { result ≡ Err NetFault.TooManyNets → 2 ^ 20 < length builder.old.lines + 1 }
 {
@@ -138,10 +143,12 @@ pub(crate) fn next_row(
     requires held_widths { HaveRowWidths sizes.now sizes.now.held from.now held.now }
     requires comes { ComesTo sizes.now from.now }
     requires alone { IsBit builder.old alone }
-    requires is_alone { Always builder.old (λ cycle. (cycle.net alone.number == 1) ≡ is_alone sizes.now (shown_in cycle held.now)) }
+    requires is_alone { Always builder.old (λ cycle. (cycle.net alone.number == 1)
+        ≡ is_alone sizes.now (shown_in cycle held.now)) }
     ensures row { IfOk result (λ made. AreBeatNets builder.new made) }
     ensures widths { IfOk result (λ made. HaveRowWidths sizes.now sizes.now.into from.now made) }
-    ensures value { IfOk result (λ made. Always builder.new (λ cycle. shown_in cycle made ≡ row_next sizes.now (shown_in cycle held.now) (shown_in cycle from.now))) }
+    ensures value { IfOk result (λ made. Always builder.new (λ cycle. shown_in cycle made
+        ≡ row_next sizes.now (shown_in cycle held.now) (shown_in cycle from.now))) }
     ensures adds { AddsNets (10 * sizes.now.into + 28) builder.old builder.new }
     ensures full { result ≡ Err NetFault.TooManyNets → 2 ^ 20 < length builder.old.lines + (10 * sizes.now.into + 28) }
 {
@@ -167,10 +174,12 @@ pub(crate) fn show_row(
     requires row { AreBeatNets builder.old row.now }
     requires empty { row.now.empty.width ≡ sizes.now.count }
     requires more { IsBit builder.old more }
-    requires is_more { Always builder.old (λ cycle. cycle.net more.number ≡ (if nat_lt sizes.now.into (cycle.net row.now.empty.number) then 1 else 0)) }
+    requires is_more { Always builder.old (λ cycle. cycle.net more.number
+        ≡ (if nat_lt sizes.now.into (cycle.net row.now.empty.number) then 1 else 0)) }
     ensures beat { IfOk result (λ made. AreBeatNets builder.new made) }
     ensures widths { IfOk result (λ made. HaveSameWidths made row.now) }
-    ensures value { IfOk result (λ made. Always builder.new (λ cycle. shown_in cycle made ≡ shown_front sizes.now (shown_in cycle row.now))) }
+    ensures value { IfOk result (λ made. Always builder.new (λ cycle. shown_in cycle made
+        ≡ shown_front sizes.now (shown_in cycle row.now))) }
     ensures adds { AddsNets 4 builder.old builder.new }
     ensures full { result ≡ Err NetFault.TooManyNets → 2 ^ 20 < length builder.old.lines + 4 }
 {
@@ -198,12 +207,14 @@ fn drop_front(
     requires row { AreBeatNets builder.old row.now }
     requires empty { row.now.empty.width ≡ sizes.now.count }
     requires more { IsBit builder.old more }
-    requires is_more { Always builder.old (λ cycle. cycle.net more.number ≡ (if nat_lt sizes.now.into (cycle.net row.now.empty.number) then 1 else 0)) }
+    requires is_more { Always builder.old (λ cycle. cycle.net more.number
+        ≡ (if nat_lt sizes.now.into (cycle.net row.now.empty.number) then 1 else 0)) }
     requires word { IsNetOfWidth builder.old word (sizes.now.bits * sizes.now.held) }
     requires error { IsNetOfWidth builder.old error row.now.error.width }
     ensures rest { IfOk result (λ made. AreBeatNets builder.new made) }
     ensures widths { IfOk result (λ made. HaveRowWidths sizes.now sizes.now.held row.now made) }
-    ensures value { IfOk result (λ made. Always builder.new (λ cycle. shown_in cycle made ≡ shown_left sizes.now (shown_in cycle row.now) (cycle.net word.number) (cycle.net error.number))) }
+    ensures value { IfOk result (λ made. Always builder.new (λ cycle. shown_in cycle made
+        ≡ shown_left sizes.now (shown_in cycle row.now) (cycle.net word.number) (cycle.net error.number))) }
     ensures adds { AddsNets 8 builder.old builder.new }
     ensures full { result ≡ Err NetFault.TooManyNets → 2 ^ 20 < length builder.old.lines + 8 }
 {
@@ -242,7 +253,12 @@ fn left_word(
     requires alone { IsBit builder.old alone }
     requires count { IsNetOfWidth builder.old count sizes.now.count }
     ensures net { IfOk result (λ word. IsNetOfWidth builder.new word (sizes.now.bits * sizes.now.held)) }
-    ensures value { IfOk result (λ word. Always builder.new (λ cycle. cycle.net word.number ≡ (if cycle.net alone.number == 1 then cut_of sizes.now.bits sizes.now.held sizes.now.into sizes.now.held (cycle.net held.number) else chosen_at (cycle.net count.number) (rest_at sizes.now.bits sizes.now.from sizes.now.into sizes.now.held (cycle.net coming.number)) (sizes.now.into - 1)))) }
+    ensures value { IfOk result (λ word. Always builder.new (λ cycle. cycle.net word.number
+        ≡ (if cycle.net alone.number == 1
+        then cut_of sizes.now.bits sizes.now.held sizes.now.into sizes.now.held (cycle.net held.number)
+        else chosen_at (cycle.net count.number)
+        (rest_at sizes.now.bits sizes.now.from sizes.now.into sizes.now.held (cycle.net coming.number))
+        (sizes.now.into - 1)))) }
     ensures adds { AddsNets (6 * sizes.now.into + 6) builder.old builder.new }
     ensures full { result ≡ Err NetFault.TooManyNets → 2 ^ 20 < length builder.old.lines + (6 * sizes.now.into + 6) }
 {
@@ -268,7 +284,8 @@ fn hold_few(
     requires widths { HaveRowWidths sizes.now sizes.now.held row.now row.now }
     ensures held { IfOk result (λ made. AreBeatNets builder.new made) }
     ensures widths { IfOk result (λ made. HaveRowWidths sizes.now sizes.now.held row.now made) }
-    ensures value { IfOk result (λ made. Always builder.new (λ cycle. shown_in cycle made ≡ held_few sizes.now (shown_in cycle row.now))) }
+    ensures value { IfOk result (λ made. Always builder.new (λ cycle. shown_in cycle made
+        ≡ held_few sizes.now (shown_in cycle row.now))) }
     ensures adds { AddsNets 4 builder.old builder.new }
     ensures full { result ≡ Err NetFault.TooManyNets → 2 ^ 20 < length builder.old.lines + 4 }
 {
@@ -299,11 +316,17 @@ fn leave_behind(
     requires row { AreBeatNets builder.old row.now }
     requires widths { HaveRowWidths sizes.now sizes.now.into from.now row.now }
     requires more { IsBit builder.old more }
-    requires is_more { Always builder.old (λ cycle. cycle.net more.number ≡ (if nat_lt sizes.now.into (cycle.net row.now.empty.number) then 1 else 0)) }
+    requires is_more { Always builder.old (λ cycle. cycle.net more.number
+        ≡ (if nat_lt sizes.now.into (cycle.net row.now.empty.number) then 1 else 0)) }
     ensures rest { IfOk result (λ made. AreBeatNets builder.new made) }
     ensures widths { IfOk result (λ made. HaveRowWidths sizes.now sizes.now.held row.now made) }
-    ensures value { IfOk result (λ made. Always builder.new (λ cycle. shown_in cycle made ≡ shown_left sizes.now (shown_in cycle row.now)
-        (if cycle.net alone.number == 1 then cut_of sizes.now.bits sizes.now.held sizes.now.into sizes.now.held (cycle.net held.now.word.number) else chosen_at (cycle.net held.now.empty.number) (rest_at sizes.now.bits sizes.now.from sizes.now.into sizes.now.held (cycle.net from.now.word.number)) (sizes.now.into - 1))
+    ensures value { IfOk result (λ made. Always builder.new (λ cycle. shown_in cycle made
+        ≡ shown_left sizes.now (shown_in cycle row.now)
+        (if cycle.net alone.number == 1
+        then cut_of sizes.now.bits sizes.now.held sizes.now.into sizes.now.held (cycle.net held.now.word.number)
+        else chosen_at (cycle.net held.now.empty.number)
+        (rest_at sizes.now.bits sizes.now.from sizes.now.into sizes.now.held (cycle.net from.now.word.number))
+        (sizes.now.into - 1))
         (if cycle.net alone.number == 1 then cycle.net held.now.error.number else cycle.net from.now.error.number))) }
     ensures adds { AddsNets (6 * sizes.now.into + 15) builder.old builder.new }
     ensures full { result ≡ Err NetFault.TooManyNets → 2 ^ 20 < length builder.old.lines + (6 * sizes.now.into + 15) }
@@ -332,11 +355,17 @@ pub(crate) fn leave_row(
     requires row { AreBeatNets builder.old row.now }
     requires widths { HaveRowWidths sizes.now sizes.now.into from.now row.now }
     requires more { IsBit builder.old more }
-    requires is_more { Always builder.old (λ cycle. cycle.net more.number ≡ (if nat_lt sizes.now.into (cycle.net row.now.empty.number) then 1 else 0)) }
+    requires is_more { Always builder.old (λ cycle. cycle.net more.number
+        ≡ (if nat_lt sizes.now.into (cycle.net row.now.empty.number) then 1 else 0)) }
     ensures rest { IfOk result (λ made. AreBeatNets builder.new made) }
     ensures widths { IfOk result (λ made. HaveRowWidths sizes.now sizes.now.held row.now made) }
-    ensures value { IfOk result (λ made. Always builder.new (λ cycle. shown_in cycle made ≡ held_few sizes.now (shown_left sizes.now (shown_in cycle row.now)
-        (if cycle.net alone.number == 1 then cut_of sizes.now.bits sizes.now.held sizes.now.into sizes.now.held (cycle.net held.now.word.number) else chosen_at (cycle.net held.now.empty.number) (rest_at sizes.now.bits sizes.now.from sizes.now.into sizes.now.held (cycle.net from.now.word.number)) (sizes.now.into - 1))
+    ensures value { IfOk result (λ made. Always builder.new (λ cycle. shown_in cycle made
+        ≡ held_few sizes.now (shown_left sizes.now (shown_in cycle row.now)
+        (if cycle.net alone.number == 1
+        then cut_of sizes.now.bits sizes.now.held sizes.now.into sizes.now.held (cycle.net held.now.word.number)
+        else chosen_at (cycle.net held.now.empty.number)
+        (rest_at sizes.now.bits sizes.now.from sizes.now.into sizes.now.held (cycle.net from.now.word.number))
+        (sizes.now.into - 1))
         (if cycle.net alone.number == 1 then cycle.net held.now.error.number else cycle.net from.now.error.number)))) }
     ensures adds { AddsNets (6 * sizes.now.into + 19) builder.old builder.new }
     ensures full { result ≡ Err NetFault.TooManyNets → 2 ^ 20 < length builder.old.lines + (6 * sizes.now.into + 19) }
@@ -357,7 +386,8 @@ pub(crate) fn gather_row(
     requires empty { row.now.empty.width ≡ sizes.now.count }
     ensures gathered { IfOk result (λ made. AreBeatNets builder.new made) }
     ensures widths { IfOk result (λ made. HaveRowWidths sizes.now sizes.now.held row.now made) }
-    ensures value { IfOk result (λ made. Always builder.new (λ cycle. shown_in cycle made ≡ row_gathered sizes.now (shown_in cycle row.now))) }
+    ensures value { IfOk result (λ made. Always builder.new (λ cycle. shown_in cycle made
+        ≡ row_gathered sizes.now (shown_in cycle row.now))) }
     ensures adds { AddsNets 8 builder.old builder.new }
     ensures full { result ≡ Err NetFault.TooManyNets → 2 ^ 20 < length builder.old.lines + 8 }
 {

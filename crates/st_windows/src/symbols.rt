@@ -26,7 +26,8 @@ pub(crate) fn cut_symbols(
     requires small { bits * size ≤ 128 }
     requires few { bits * wanted ≤ 128 }
     ensures net { IfOk result (λ cut. IsNetOfWidth builder.new cut (bits * wanted)) }
-    ensures value { IfOk result (λ cut. Always builder.new (λ cycle. cycle.net cut.number ≡ cut_of bits size skipped wanted (cycle.net word.number))) }
+    ensures value { IfOk result (λ cut. Always builder.new (λ cycle. cycle.net cut.number
+        ≡ cut_of bits size skipped wanted (cycle.net word.number))) }
     ensures adds { AddsNets 3 builder.old builder.new }
     ensures full { result ≡ Err NetFault.TooManyNets → 2 ^ 20 < length builder.old.lines + 3 }
 {

@@ -105,10 +105,14 @@ fn window_rows(
     ensures to_widths { IfOk result (λ made. HaveRowWidths sizes.now sizes.now.into from.now made.to) }
     ensures rest_widths { IfOk result (λ made. HaveRowWidths sizes.now sizes.now.held from.now made.rest) }
     ensures gathered_widths { IfOk result (λ made. HaveRowWidths sizes.now sizes.now.held from.now made.gathered) }
-    ensures is_alone { IfOk result (λ made. Always builder.new (λ cycle. (cycle.net made.alone.number == 1) ≡ is_alone sizes.now (shown_in cycle held.now))) }
-    ensures shows { IfOk result (λ made. Always builder.new (λ cycle. shown_in cycle made.to ≡ shown_front sizes.now (row_next sizes.now (shown_in cycle held.now) (shown_in cycle from.now)))) }
-    ensures leaves { IfOk result (λ made. Always builder.new (λ cycle. shown_in cycle made.rest ≡ row_left sizes.now (shown_in cycle held.now) (shown_in cycle from.now))) }
-    ensures gathers { IfOk result (λ made. Always builder.new (λ cycle. shown_in cycle made.gathered ≡ row_gathered sizes.now (row_next sizes.now (shown_in cycle held.now) (shown_in cycle from.now)))) }
+    ensures is_alone { IfOk result (λ made. Always builder.new (λ cycle. (cycle.net made.alone.number == 1)
+        ≡ is_alone sizes.now (shown_in cycle held.now))) }
+    ensures shows { IfOk result (λ made. Always builder.new (λ cycle. shown_in cycle made.to
+        ≡ shown_front sizes.now (row_next sizes.now (shown_in cycle held.now) (shown_in cycle from.now)))) }
+    ensures leaves { IfOk result (λ made. Always builder.new (λ cycle. shown_in cycle made.rest
+        ≡ row_left sizes.now (shown_in cycle held.now) (shown_in cycle from.now))) }
+    ensures gathers { IfOk result (λ made. Always builder.new (λ cycle. shown_in cycle made.gathered
+        ≡ row_gathered sizes.now (row_next sizes.now (shown_in cycle held.now) (shown_in cycle from.now)))) }
     ensures adds { AddsNets (16 * sizes.now.into + 64) builder.old builder.new }
     ensures full { result ≡ Err NetFault.TooManyNets → 2 ^ 20 < length builder.old.lines + (16 * sizes.now.into + 64) }
 {
@@ -134,7 +138,8 @@ fn asks_for(builder: &mut Builder, alone: Net, full: Net, ready: Net) -> Result<
     requires full { IsBit builder.old full }
     requires ready { IsBit builder.old ready }
     ensures net { IfOk result (λ up. IsBit builder.new up) }
-    ensures value { IfOk result (λ up. Always builder.new (λ cycle. (cycle.net up.number == 1) ≡ (not (cycle.net alone.number == 1) && (not (cycle.net full.number == 1) || (cycle.net ready.number == 1))))) }
+    ensures value { IfOk result (λ up. Always builder.new (λ cycle. (cycle.net up.number == 1)
+        ≡ (not (cycle.net alone.number == 1) && (not (cycle.net full.number == 1) || (cycle.net ready.number == 1))))) }
     ensures adds { AddsNets 4 builder.old builder.new }
     ensures full { result ≡ Err NetFault.TooManyNets → 2 ^ 20 < length builder.old.lines + 4 }
 {

@@ -25,7 +25,9 @@ fn lay_front(
     requires coming { IsNetOfWidth builder.old coming (sizes.now.bits * sizes.now.from) }
     requires few { count < sizes.now.into }
     ensures net { IfOk result (λ front. IsNetOfWidth builder.new front (sizes.now.bits * sizes.now.into)) }
-    ensures value { IfOk result (λ front. Always builder.new (λ cycle. cycle.net front.number ≡ front_at sizes.now.bits sizes.now.from sizes.now.into sizes.now.held (cycle.net held.number) (cycle.net coming.number) count)) }
+    ensures value { IfOk result (λ front. Always builder.new (λ cycle. cycle.net front.number
+        ≡ front_at sizes.now.bits sizes.now.from sizes.now.into sizes.now.held (cycle.net held.number)
+        (cycle.net coming.number) count)) }
     ensures adds { AddsNets 7 builder.old builder.new }
     ensures full { result ≡ Err NetFault.TooManyNets → 2 ^ 20 < length builder.old.lines + 7 }
 {
@@ -53,7 +55,8 @@ fn choose_at(
     requires word { IsNet builder.old word }
     requires other { IsNetOfWidth builder.old other word.width }
     ensures net { IfOk result (λ chosen. IsNetOfWidth builder.new chosen word.width) }
-    ensures value { IfOk result (λ chosen. Always builder.new (λ cycle. cycle.net chosen.number ≡ (if cycle.net held.number == count then cycle.net word.number else cycle.net other.number))) }
+    ensures value { IfOk result (λ chosen. Always builder.new (λ cycle. cycle.net chosen.number
+        ≡ (if cycle.net held.number == count then cycle.net word.number else cycle.net other.number))) }
     ensures adds { AddsNets 3 builder.old builder.new }
     ensures full { result ≡ Err NetFault.TooManyNets → 2 ^ 20 < length builder.old.lines + 3 }
 {
@@ -75,7 +78,11 @@ pub(crate) fn front_word(
     requires coming { IsNetOfWidth builder.old coming (sizes.now.bits * sizes.now.from) }
     requires count { IsNetOfWidth builder.old count sizes.now.count }
     ensures net { IfOk result (λ front. IsNetOfWidth builder.new front (sizes.now.bits * sizes.now.into)) }
-    ensures value { IfOk result (λ front. Always builder.new (λ cycle. cycle.net front.number ≡ chosen_below (cycle.net count.number) (front_at sizes.now.bits sizes.now.from sizes.now.into sizes.now.held (cycle.net held.number) (cycle.net coming.number)) (cut_of sizes.now.bits sizes.now.held 0 sizes.now.into (cycle.net held.number)) sizes.now.into)) }
+    ensures value { IfOk result (λ front. Always builder.new (λ cycle. cycle.net front.number
+        ≡ chosen_below (cycle.net count.number)
+        (front_at sizes.now.bits sizes.now.from sizes.now.into sizes.now.held (cycle.net held.number)
+        (cycle.net coming.number))
+        (cut_of sizes.now.bits sizes.now.held 0 sizes.now.into (cycle.net held.number)) sizes.now.into)) }
     ensures adds { AddsNets (10 * sizes.now.into + 3) builder.old builder.new }
     ensures full { result ≡ Err NetFault.TooManyNets → 2 ^ 20 < length builder.old.lines + (10 * sizes.now.into + 3) }
 {
@@ -98,7 +105,10 @@ pub(crate) fn rest_word(
     requires coming { IsNetOfWidth builder.old coming (sizes.now.bits * sizes.now.from) }
     requires count { IsNetOfWidth builder.old count sizes.now.count }
     ensures net { IfOk result (λ rest. IsNetOfWidth builder.new rest (sizes.now.bits * sizes.now.held)) }
-    ensures value { IfOk result (λ rest. Always builder.new (λ cycle. cycle.net rest.number ≡ chosen_at (cycle.net count.number) (rest_at sizes.now.bits sizes.now.from sizes.now.into sizes.now.held (cycle.net coming.number)) (sizes.now.into - 1))) }
+    ensures value { IfOk result (λ rest. Always builder.new (λ cycle. cycle.net rest.number
+        ≡ chosen_at (cycle.net count.number)
+        (rest_at sizes.now.bits sizes.now.from sizes.now.into sizes.now.held (cycle.net coming.number))
+        (sizes.now.into - 1))) }
     ensures adds { AddsNets (6 * sizes.now.into) builder.old builder.new }
     ensures full { result ≡ Err NetFault.TooManyNets → 2 ^ 20 < length builder.old.lines + 6 * sizes.now.into }
 {

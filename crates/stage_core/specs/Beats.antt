@@ -19,7 +19,8 @@ pub record Widths : Type 0 where
   pub empty : ℕ
 
 abbrev pub widths_of : BeatNets → Widths
-widths_of beat = record { word = beat.word.width; channel = beat.channel.width; error = beat.error.width; empty = beat.empty.width }
+widths_of beat =
+    record { word = beat.word.width; channel = beat.channel.width; error = beat.error.width; empty = beat.empty.width }
 
 -- the nets of a beat are nets of this netlist
 pub record AreBeatNets (netlist : Netlist) (beat : BeatNets) : Type 0 where

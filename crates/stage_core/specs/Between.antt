@@ -16,22 +16,27 @@ use Rattle.net_parts.specs.Memories.{SameWords}
 
 -- ---- a stage of no nets
 
-pub pass_between : (shape : Shape) (from to : BeatNets) (ready up : NetValue) (run : Run) → IsPassShape shape → to ≡ from → up ≡ ready →
-    ((passes : ℕ → Bool) (side : Side) (view : EndView) → 0 < side.symbols → PassesAll passes side → KeepsStageLaw (pass_shape passes side) (pass_run side view)) →
+pub pass_between : (shape : Shape) (from to : BeatNets) (ready up : NetValue) (run : Run) → IsPassShape shape → to ≡ from
+    → up ≡ ready →
+    ((passes : ℕ → Bool) (side : Side) (view : EndView) → 0 < side.symbols → PassesAll passes side
+    → KeepsStageLaw (pass_shape passes side) (pass_run side view)) →
     KeepsShape shape (view_of run from up) (view_of run to ready)
 pass_between shape from to ready up run p f b law =
     subst (λ (n : BeatNets). KeepsShape shape (view_of run from up) (view_of run n ready)) (sym f)
     (subst (λ (n : NetValue). KeepsShape shape (view_of run from up) (view_of run from n)) b
     (record {
       rank = ready_cycles shape.up.pace.latency (view_of run from up);
-      keeps = subst (λ (s : Shape). KeepsStageLaw s (pass_run shape.up (view_of run from up))) (sym p.is) (law shape.passes shape.up (view_of run from up) p.some p.passes);
+      keeps =
+          subst (λ (s : Shape). KeepsStageLaw s (pass_run shape.up (view_of run from up))) (sym p.is)
+          (law shape.passes shape.up (view_of run from up) p.some p.passes);
     }))
 
 -- ---- a chain
 
 -- the two parts in a run
 fitting : (first second : Shape) (up middle down : EndView) (a b : ℕ → ℕ) → ShapesFit first second →
-    (IsTrue (nat_lt 0 second.up.pace.latency) → (c : ℕ) → up.ready c ≡ middle.ready c) → (IsTrue first.needs_ready → ReadyPasses second middle down) →
+    (IsTrue (nat_lt 0 second.up.pace.latency) → (c : ℕ) → up.ready c ≡ middle.ready c)
+    → (IsTrue first.needs_ready → ReadyPasses second middle down) →
     Fits first second (record { up = up; down = middle; rank = a }) (record { up = middle; down = down; rank = b })
 fitting first second up middle down a b fit shown always = record {
   same_side = fit.same_side;
@@ -44,31 +49,45 @@ fitting first second up middle down a b fit shown always = record {
   always_ready = always;
 }
 
-pub chain_between : (first second shape : Shape) (up middle down : EndView) → shape ≡ chain_shape first second → ShapesFit first second →
-    (IsTrue (nat_lt 0 second.up.pace.latency) → (c : ℕ) → up.ready c ≡ middle.ready c) → (IsTrue first.needs_ready → ReadyPasses second middle down) →
-    ((one two : StageRun) → Fits first second one two → KeepsStageLaw first one → KeepsStageLaw second two → KeepsStageLaw (chain_shape first second) (chain_run first second one two)) →
+pub chain_between : (first second shape : Shape) (up middle down : EndView) → shape ≡ chain_shape first second
+    → ShapesFit first second →
+    (IsTrue (nat_lt 0 second.up.pace.latency) → (c : ℕ) → up.ready c ≡ middle.ready c)
+    → (IsTrue first.needs_ready → ReadyPasses second middle down) →
+    ((one two : StageRun) → Fits first second one two → KeepsStageLaw first one → KeepsStageLaw second two
+    → KeepsStageLaw (chain_shape first second) (chain_run first second one two)) →
     KeepsShape first up middle → KeepsShape second middle down → KeepsShape shape up down
 chain_between first second shape up middle down is fit shown always law a b =
     let one : StageRun = record { up = up; down = middle; rank = a.rank } in
     let two : StageRun = record { up = middle; down = down; rank = b.rank } in
     record {
       rank = chain_rank first second one two;
-      keeps = subst (λ (s : Shape). KeepsStageLaw s (chain_run first second one two)) (sym is) (law one two (fitting first second up middle down a.rank b.rank fit shown always) a.keeps b.keeps);
+      keeps =
+          subst (λ (s : Shape). KeepsStageLaw s (chain_run first second one two)) (sym is)
+          (law one two (fitting first second up middle down a.rank b.rank fit shown always) a.keeps b.keeps);
     }
 
-pub chain_ready_between : (first second shape : Shape) (up middle down : EndView) → shape ≡ chain_shape first second → ShapesFit first second →
+pub chain_ready_between : (first second shape : Shape) (up middle down : EndView) → shape ≡ chain_shape first second
+    → ShapesFit first second →
     (IsTrue (nat_lt 0 second.up.pace.latency) → (c : ℕ) → up.ready c ≡ middle.ready c) →
-    ((one two : StageRun) → Fits first second one two → KeepsStageLaw first one → PassesReady first one → PassesReady second two → PassesReady (chain_shape first second) (chain_run first second one two)) →
+    ((one two : StageRun) → Fits first second one two → KeepsStageLaw first one → PassesReady first one → PassesReady second two
+    → PassesReady (chain_shape first second) (chain_run first second one two)) →
     KeepsShape first up middle → ReadyPasses first up middle → ReadyPasses second middle down → ReadyPasses shape up down
 chain_ready_between first second shape up middle down is fit shown law a x y =
     subst (λ (s : Shape). ReadyPasses s up down) (sym is)
-    (law (record { up = up; down = middle; rank = a.rank }) (unranked middle down) (fitting first second up middle down a.rank (λ _. 0) fit shown (λ _. y)) a.keeps x y)
+    (law (record { up = up; down = middle; rank = a.rank }) (unranked middle down)
+    (fitting first second up middle down a.rank (λ _. 0) fit shown (λ _. y)) a.keeps x y)
 
 -- ---- a stage where one is needed
 
 -- this cycle's ready, by what is kept of the part
-pub kept_ignores : {S H : Type 0} (forward_in : S → BeatNets → BeatNets → H → Netlist → Type 0) (owns memories : H → ℕ → Type 0) (stage : S) (from to : BeatNets) (kept : Option H) (netlist : Netlist) (one other : Cycle) →
-    ((held : H) → forward_in stage from to held netlist → ((n : ℕ) → owns held n → one.net n ≡ other.net n) → SameWords (memories held) netlist one other → ShowSame from one other → ShowSame to one other) →
-    forward_of forward_in (Some stage) from to kept netlist → ((n : ℕ) → IsSomeAnd kept (λ held. owns held n) → one.net n ≡ other.net n) → SameWords (λ m. IsSomeAnd kept (λ held. memories held m)) netlist one other → ShowSame from one other → ShowSame to one other
-kept_ignores forward_in owns memories stage from to (Some held) netlist one other law f state words same = law held f state words same
+pub kept_ignores : {S H : Type 0} (forward_in : S → BeatNets → BeatNets → H → Netlist → Type 0) (owns memories : H → ℕ → Type 0)
+    (stage : S) (from to : BeatNets) (kept : Option H) (netlist : Netlist) (one other : Cycle) →
+    ((held : H) → forward_in stage from to held netlist → ((n : ℕ) → owns held n → one.net n ≡ other.net n)
+    → SameWords (memories held) netlist one other → ShowSame from one other → ShowSame to one other) →
+    forward_of forward_in (Some stage) from to kept netlist
+    → ((n : ℕ) → IsSomeAnd kept (λ held. owns held n) → one.net n ≡ other.net n)
+    → SameWords (λ m. IsSomeAnd kept (λ held. memories held m)) netlist one other → ShowSame from one other
+    → ShowSame to one other
+kept_ignores forward_in owns memories stage from to (Some held) netlist one other law f state words same =
+    law held f state words same
 kept_ignores forward_in owns memories stage from to None netlist one other law f state words same = absurd f

@@ -25,7 +25,8 @@ pub record IsChainOf (firsts seconds passes_ready : Shape → Type 0) (shows_rea
   pub always_ready : IsTrue first.needs_ready → passes_ready second
 
 -- both parts are kept, and their registers and memories are apart
-pub record AreBothKept (one two : Netlist → Type 0) (ones twos one_memories two_memories : ℕ → Type 0) (netlist : Netlist) : Type 0 where
+pub record AreBothKept (one two : Netlist → Type 0) (ones twos one_memories two_memories : ℕ → Type 0)
+    (netlist : Netlist) : Type 0 where
   pub first : one netlist
   pub second : two netlist
   pub apart : (n : ℕ) → ones n → ¬ twos n

@@ -36,14 +36,18 @@ FifoBackward netlist (Stored kept) ready up = StoredBackward kept ready up netli
 
 -- ---- what stands lasts. No contract reads these proofs; the law of the queue cites them
 
-pub fifo_keeps_lasts : (kept : FifoKept) (depth : ℕ) (old new : Netlist) → FifoKeeps kept depth old → Extends old new → ((n : ℕ) → fifo_owns kept n → IsWaiting old n → IsWaiting new n) → ((m : ℕ) → fifo_owns_memories kept m → WaitsForWrite old m → WaitsForWrite new m) → FifoKeeps kept depth new
+pub fifo_keeps_lasts : (kept : FifoKept) (depth : ℕ) (old new : Netlist) → FifoKeeps kept depth old → Extends old new
+    → ((n : ℕ) → fifo_owns kept n → IsWaiting old n → IsWaiting new n)
+    → ((m : ℕ) → fifo_owns_memories kept m → WaitsForWrite old m → WaitsForWrite new m) → FifoKeeps kept depth new
 fifo_keeps_lasts Wire depth old new h e w v = h
 fifo_keeps_lasts (Stored kept) depth old new h e w v = stored_keeps_lasts kept depth old new h e w v
 
-pub fifo_forward_lasts : (from to : BeatNets) (kept : FifoKept) (depth : ℕ) (old new : Netlist) → FifoForward from to kept depth old → Extends old new → FifoForward from to kept depth new
+pub fifo_forward_lasts : (from to : BeatNets) (kept : FifoKept) (depth : ℕ) (old new : Netlist)
+    → FifoForward from to kept depth old → Extends old new → FifoForward from to kept depth new
 fifo_forward_lasts from to Wire depth old new h e = h
 fifo_forward_lasts from to (Stored kept) depth old new h e = stored_forward_lasts from to kept depth old new h e
 
-pub fifo_backward_lasts : (old new : Netlist) (kept : FifoKept) (ready up : NetValue) → FifoBackward old kept ready up → Extends old new → FifoBackward new kept ready up
+pub fifo_backward_lasts : (old new : Netlist) (kept : FifoKept) (ready up : NetValue) → FifoBackward old kept ready up
+    → Extends old new → FifoBackward new kept ready up
 fifo_backward_lasts old new Wire ready up h e = h
 fifo_backward_lasts old new (Stored kept) ready up h e = stored_backward_lasts kept ready up old new h e

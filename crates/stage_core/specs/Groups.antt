@@ -41,13 +41,15 @@ pub record AreRegisters (netlist : Netlist) (nets : BeatNets) (from : ℕ) : Typ
 
 -- in each run they begin low
 abbrev pub StartsEmpty : Netlist → BeatNets → Type 0
-StartsEmpty netlist nets = (run : Run) (cycles : ℕ) → IsRun netlist run cycles → 0 < cycles → shown_in (cycle_of run 0) nets ≡ nothing_shown
+StartsEmpty netlist nets =
+    (run : Run) (cycles : ℕ) → IsRun netlist run cycles → 0 < cycles → shown_in (cycle_of run 0) nets ≡ nothing_shown
 
 -- in each run they show what the other nets showed in the cycle before, where the bit was high, and else what they showed
 abbrev pub LoadsBeat : Netlist → BeatNets → NetValue → BeatNets → Type 0
 LoadsBeat netlist nets loads next =
     (run : Run) (cycles : ℕ) → IsRun netlist run cycles → (c : ℕ) → c + 1 < cycles
-    → shown_in (cycle_of run (c + 1)) nets ≡ (if run.net c loads.number == 1 then shown_in (cycle_of run c) next else shown_in (cycle_of run c) nets)
+    → shown_in (cycle_of run (c + 1)) nets
+    ≡ (if run.net c loads.number == 1 then shown_in (cycle_of run c) next else shown_in (cycle_of run c) nets)
 
 -- the nets show in the cycle what one beat's nets show where the bit is high, and else what the other's show
 abbrev pub Chooses : Cycle → ℕ → BeatNets → BeatNets → BeatNets → Type 0

@@ -18,5 +18,6 @@ beat_lasts a b beat e h = record {
   empty = e.nets beat.empty.number beat.empty.width h.empty;
 }
 
-pub registers_last : (a b : Netlist) (nets : BeatNets) (from : ℕ) → ((n : ℕ) → IsOfBeat nets n → IsWaiting a n → IsWaiting b n) → AreRegisters a nets from → AreRegisters b nets from
+pub registers_last : (a b : Netlist) (nets : BeatNets) (from : ℕ) → ((n : ℕ) → IsOfBeat nets n → IsWaiting a n → IsWaiting b n)
+    → AreRegisters a nets from → AreRegisters b nets from
 registers_last a b nets from wait h = record { numbers = h.numbers; wait = λ n o. wait n o (h.wait n o) }

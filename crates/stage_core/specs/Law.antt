@@ -26,12 +26,14 @@ ReadyPasses shape up down = PassesReady shape (unranked up down)
 -- with ready `ready`
 abbrev pub KeepsInLonger : Shape → Netlist → BeatNets → NetValue → BeatNets → NetValue → Type 0
 KeepsInLonger shape netlist from up to ready =
-    (longer : Netlist) → Extends netlist longer → (run : Run) → IsEndlessRun longer run → KeepsShape shape (view_of run from up) (view_of run to ready)
+    (longer : Netlist) → Extends netlist longer → (run : Run) → IsEndlessRun longer run
+    → KeepsShape shape (view_of run from up) (view_of run to ready)
 
 -- and ready is passed on
 abbrev pub PassesInLonger : Shape → Netlist → BeatNets → NetValue → BeatNets → NetValue → Type 0
 PassesInLonger shape netlist from up to ready =
-    (longer : Netlist) → Extends netlist longer → (run : Run) → IsEndlessRun longer run → ReadyPasses shape (view_of run from up) (view_of run to ready)
+    (longer : Netlist) → Extends netlist longer → (run : Run) → IsEndlessRun longer run
+    → ReadyPasses shape (view_of run from up) (view_of run to ready)
 
 -- what the two calls of a stage leave stands in the netlist, with something that was kept between them
 pub record Stands {Held : Type 0} (forward backward : Held → Netlist → Type 0) (netlist : Netlist) : Type 0 where
@@ -42,5 +44,6 @@ pub record Stands {Held : Type 0} (forward backward : Held → Netlist → Type 
 -- in two valuations of a longer netlist with one state, the beat `to` is the same where the beat `from` is
 abbrev pub IgnoresInLonger : Netlist → BeatNets → BeatNets → Type 0
 IgnoresInLonger netlist from to =
-    (longer : Netlist) → Extends netlist longer → (one other : Cycle) → IsValuation longer one → IsValuation longer other → SameState longer one other →
+    (longer : Netlist) → Extends netlist longer → (one other : Cycle) → IsValuation longer one → IsValuation longer other
+    → SameState longer one other →
     ShowSame from one other → ShowSame to one other

@@ -20,13 +20,15 @@ kept_of is_kept None (Some held) netlist = ⊥
 kept_of is_kept None None netlist = Unit {0}
 
 -- after the first call
-abbrev pub forward_of : {S H : Type 0} → (S → BeatNets → BeatNets → H → Netlist → Type 0) → Option S → BeatNets → BeatNets → Option H → Netlist → Type 0
+abbrev pub forward_of : {S H : Type 0} → (S → BeatNets → BeatNets → H → Netlist → Type 0) → Option S → BeatNets → BeatNets
+    → Option H → Netlist → Type 0
 forward_of forward_in (Some stage) from to (Some held) netlist = forward_in stage from to held netlist
 forward_of forward_in (Some stage) from to None netlist = ⊥
 forward_of forward_in None from to kept netlist = to ≡ from
 
 -- after the second call
-abbrev pub backward_of : {S H : Type 0} → (S → H → NetValue → NetValue → Netlist → Type 0) → Option S → Option H → NetValue → NetValue → Netlist → Type 0
+abbrev pub backward_of : {S H : Type 0} → (S → H → NetValue → NetValue → Netlist → Type 0) → Option S → Option H → NetValue
+    → NetValue → Netlist → Type 0
 backward_of backward_in (Some stage) (Some held) ready up netlist = backward_in stage held ready up netlist
 backward_of backward_in (Some stage) None ready up netlist = ⊥
 backward_of backward_in None kept ready up netlist = up ≡ ready
@@ -34,24 +36,32 @@ backward_of backward_in None kept ready up netlist = up ≡ ready
 -- ---- what stands lasts. No contract reads these proofs; the law of the stage cites them
 
 pub kept_lasts : {S H : Type 0} (is_kept : S → H → Netlist → Type 0) (owns memories : H → ℕ → Type 0) →
-    ((stage : S) (held : H) (old new : Netlist) → is_kept stage held old → Extends old new → ((n : ℕ) → owns held n → IsWaiting old n → IsWaiting new n) → ((m : ℕ) → memories held m → WaitsForWrite old m → WaitsForWrite new m) → is_kept stage held new) →
-    (stage : Option S) (kept : Option H) (old new : Netlist) → kept_of is_kept stage kept old → Extends old new → ((n : ℕ) → IsSomeAnd kept (λ held. owns held n) → IsWaiting old n → IsWaiting new n) →
-    ((m : ℕ) → IsSomeAnd kept (λ held. memories held m) → WaitsForWrite old m → WaitsForWrite new m) → kept_of is_kept stage kept new
+    ((stage : S) (held : H) (old new : Netlist) → is_kept stage held old → Extends old new
+    → ((n : ℕ) → owns held n → IsWaiting old n → IsWaiting new n)
+    → ((m : ℕ) → memories held m → WaitsForWrite old m → WaitsForWrite new m) → is_kept stage held new) →
+    (stage : Option S) (kept : Option H) (old new : Netlist) → kept_of is_kept stage kept old → Extends old new
+    → ((n : ℕ) → IsSomeAnd kept (λ held. owns held n) → IsWaiting old n → IsWaiting new n) →
+    ((m : ℕ) → IsSomeAnd kept (λ held. memories held m) → WaitsForWrite old m → WaitsForWrite new m)
+    → kept_of is_kept stage kept new
 kept_lasts is_kept owns memories lasts (Some stage) (Some held) old new h e w v = lasts stage held old new h e w v
 kept_lasts is_kept owns memories lasts (Some stage) None old new h e w v = h
 kept_lasts is_kept owns memories lasts None (Some held) old new h e w v = h
 kept_lasts is_kept owns memories lasts None None old new h e w v = h
 
 pub forward_lasts : {S H : Type 0} (forward_in : S → BeatNets → BeatNets → H → Netlist → Type 0) →
-    ((stage : S) (from to : BeatNets) (held : H) (old new : Netlist) → forward_in stage from to held old → Extends old new → forward_in stage from to held new) →
-    (stage : Option S) (from to : BeatNets) (kept : Option H) (old new : Netlist) → forward_of forward_in stage from to kept old → Extends old new → forward_of forward_in stage from to kept new
+    ((stage : S) (from to : BeatNets) (held : H) (old new : Netlist) → forward_in stage from to held old → Extends old new
+    → forward_in stage from to held new) →
+    (stage : Option S) (from to : BeatNets) (kept : Option H) (old new : Netlist) → forward_of forward_in stage from to kept old
+    → Extends old new → forward_of forward_in stage from to kept new
 forward_lasts forward_in lasts (Some stage) from to (Some held) old new h e = lasts stage from to held old new h e
 forward_lasts forward_in lasts (Some stage) from to None old new h e = h
 forward_lasts forward_in lasts None from to kept old new h e = h
 
 pub backward_lasts : {S H : Type 0} (backward_in : S → H → NetValue → NetValue → Netlist → Type 0) →
-    ((stage : S) (held : H) (ready up : NetValue) (old new : Netlist) → backward_in stage held ready up old → Extends old new → backward_in stage held ready up new) →
-    (stage : Option S) (kept : Option H) (ready up : NetValue) (old new : Netlist) → backward_of backward_in stage kept ready up old → Extends old new → backward_of backward_in stage kept ready up new
+    ((stage : S) (held : H) (ready up : NetValue) (old new : Netlist) → backward_in stage held ready up old → Extends old new
+    → backward_in stage held ready up new) →
+    (stage : Option S) (kept : Option H) (ready up : NetValue) (old new : Netlist)
+    → backward_of backward_in stage kept ready up old → Extends old new → backward_of backward_in stage kept ready up new
 backward_lasts backward_in lasts (Some stage) (Some held) ready up old new h e = lasts stage held ready up old new h e
 backward_lasts backward_in lasts (Some stage) None ready up old new h e = h
 backward_lasts backward_in lasts None kept ready up old new h e = h

@@ -19,7 +19,8 @@ QueuesInLonger depth netlist from up to ready =
     → (held : ℕ → List Beat) × IsQueueRun depth side (view_of run from up) (view_of run to ready) held
 
 -- between these ends stand a part with one of those shapes, a queue of so many beats, and a part with one of these
-pub record HasQueue (fronts : Shape → Type 0) (depth : ℕ) (rears : Shape → Type 0) (netlist : Netlist) (from : BeatNets) (up : NetValue) (to : BeatNets) (ready : NetValue) : Type 0 where
+pub record HasQueue (fronts : Shape → Type 0) (depth : ℕ) (rears : Shape → Type 0) (netlist : Netlist) (from : BeatNets)
+    (up : NetValue) (to : BeatNets) (ready : NetValue) : Type 0 where
   -- the beat before the queue and the ready that it shows, and the beat behind it and the ready that it sees
   pub coming : BeatNets
   pub shown : NetValue

@@ -37,13 +37,16 @@ pub record RegisterForward (from to : BeatNets) (kept : RegisterKept) (netlist :
 
 -- after the second call: ready is shown where there is room, and there the registers take what is shown upstream
 pub record RegisterBackward (kept : RegisterKept) (ready up : NetValue) (netlist : Netlist) : Type 0 where
-  pub asks : Always netlist (λ cycle. (cycle.net up.number == 1) ≡ (not (cycle.net kept.registers.valid.number == 1) || (cycle.net ready.number == 1)))
+  pub asks : Always netlist (λ cycle. (cycle.net up.number == 1)
+      ≡ (not (cycle.net kept.registers.valid.number == 1) || (cycle.net ready.number == 1)))
   pub moves : (run : Run) (cycles : ℕ) → IsRun netlist run cycles → (c : ℕ) → c + 1 < cycles
-      → shown_in (cycle_of run (c + 1)) kept.registers ≡ (if run.net c up.number == 1 then shown_in (cycle_of run c) kept.from else shown_in (cycle_of run c) kept.registers)
+      → shown_in (cycle_of run (c + 1)) kept.registers
+      ≡ (if run.net c up.number == 1 then shown_in (cycle_of run c) kept.from else shown_in (cycle_of run c) kept.registers)
 
 -- ---- what stands lasts
 
-pub keeps_lasts : (kept : RegisterKept) (old new : Netlist) → RegisterKeeps kept old → Extends old new → ((n : ℕ) → IsOfBeat kept.registers n → IsWaiting old n → IsWaiting new n) → RegisterKeeps kept new
+pub keeps_lasts : (kept : RegisterKept) (old new : Netlist) → RegisterKeeps kept old → Extends old new
+    → ((n : ℕ) → IsOfBeat kept.registers n → IsWaiting old n → IsWaiting new n) → RegisterKeeps kept new
 keeps_lasts kept old new h e w = record {
   from = beat_lasts old new kept.from e h.from;
   nets = beat_lasts old new kept.registers e h.nets;
@@ -51,7 +54,8 @@ keeps_lasts kept old new h e w = record {
   registers = registers_last old new kept.registers kept.registers.valid.number w h.registers;
 }
 
-pub forward_lasts : (from to : BeatNets) (kept : RegisterKept) (old new : Netlist) → RegisterForward from to kept old → Extends old new → RegisterForward from to kept new
+pub forward_lasts : (from to : BeatNets) (kept : RegisterKept) (old new : Netlist) → RegisterForward from to kept old
+    → Extends old new → RegisterForward from to kept new
 forward_lasts from to kept old new h e = record {
   from_is = h.from_is;
   to_is = h.to_is;
@@ -60,7 +64,8 @@ forward_lasts from to kept old new h e = record {
   starts = λ run cycles r. h.starts run cycles (e.runs run cycles r);
 }
 
-pub backward_lasts : (kept : RegisterKept) (ready up : NetValue) (old new : Netlist) → RegisterBackward kept ready up old → Extends old new → RegisterBackward kept ready up new
+pub backward_lasts : (kept : RegisterKept) (ready up : NetValue) (old new : Netlist) → RegisterBackward kept ready up old
+    → Extends old new → RegisterBackward kept ready up new
 backward_lasts kept ready up old new h e = record {
   asks = λ cycle v. h.asks cycle (e.valuations cycle v);
   moves = λ run cycles r. h.moves run cycles (e.runs run cycles r);

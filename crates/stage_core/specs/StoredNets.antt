@@ -32,7 +32,8 @@ pub record StoredForward (from to : BeatNets) (kept : StoredKept) (depth : ℕ) 
   pub bound : kept.queue.bound ≡ depth
   pub made : IsQueueMade netlist (place_nets kept.from).item kept.queue
   pub starts : StartsEmpty netlist kept.queue
-  pub shows : Always netlist (λ cycle. values_of cycle (group_of to) ≡ shown_oldest (held_in cycle kept.queue) (values_of cycle (group_of kept.from)))
+  pub shows : Always netlist (λ cycle. values_of cycle (group_of to)
+      ≡ shown_oldest (held_in cycle kept.queue) (values_of cycle (group_of kept.from)))
 
 -- after the second call: ready is shown where there is room, and in each run a beat that is shown then comes, and one that is
 -- shown downstream goes where ready is high
@@ -40,13 +41,17 @@ pub record StoredBackward (kept : StoredKept) (ready up : NetValue) (netlist : N
   pub comes : NetValue
   pub goes : NetValue
   pub asks : Always netlist (λ cycle. (cycle.net up.number == 1) ≡ nat_lt (cycle.net kept.queue.count.number) kept.queue.bound)
-  pub takes : Always netlist (λ cycle. (cycle.net comes.number == 1) ≡ ((cycle.net kept.from.valid.number == 1) && (cycle.net up.number == 1)))
-  pub gives : Always netlist (λ cycle. (cycle.net goes.number == 1) ≡ ((cycle.net kept.shown.number == 1) && (cycle.net ready.number == 1)))
+  pub takes : Always netlist (λ cycle. (cycle.net comes.number == 1)
+      ≡ ((cycle.net kept.from.valid.number == 1) && (cycle.net up.number == 1)))
+  pub gives : Always netlist (λ cycle. (cycle.net goes.number == 1)
+      ≡ ((cycle.net kept.shown.number == 1) && (cycle.net ready.number == 1)))
   pub steps : StepsQueue netlist kept.queue (place_nets kept.from).item comes goes
 
 -- ---- what stands lasts. No contract reads these proofs; the law of the queue cites them
 
-pub stored_keeps_lasts : (kept : StoredKept) (depth : ℕ) (old new : Netlist) → StoredKeeps kept depth old → Extends old new → ((n : ℕ) → owns kept.queue n → IsWaiting old n → IsWaiting new n) → ((m : ℕ) → owns_memories kept.queue m → WaitsForWrite old m → WaitsForWrite new m) → StoredKeeps kept depth new
+pub stored_keeps_lasts : (kept : StoredKept) (depth : ℕ) (old new : Netlist) → StoredKeeps kept depth old → Extends old new
+    → ((n : ℕ) → owns kept.queue n → IsWaiting old n → IsWaiting new n)
+    → ((m : ℕ) → owns_memories kept.queue m → WaitsForWrite old m → WaitsForWrite new m) → StoredKeeps kept depth new
 stored_keeps_lasts kept depth old new h e w v = record {
   from = beat_lasts old new kept.from e h.from;
   made = queue_lasts old new (place_nets kept.from).item kept.queue h.made e;
@@ -56,7 +61,8 @@ stored_keeps_lasts kept depth old new h e w v = record {
   wait_for_write = λ m o. v m o (h.wait_for_write m o);
 }
 
-pub stored_forward_lasts : (from to : BeatNets) (kept : StoredKept) (depth : ℕ) (old new : Netlist) → StoredForward from to kept depth old → Extends old new → StoredForward from to kept depth new
+pub stored_forward_lasts : (from to : BeatNets) (kept : StoredKept) (depth : ℕ) (old new : Netlist)
+    → StoredForward from to kept depth old → Extends old new → StoredForward from to kept depth new
 stored_forward_lasts from to kept depth old new h e = record {
   from_is = h.from_is;
   valid_is = h.valid_is;
@@ -66,7 +72,8 @@ stored_forward_lasts from to kept depth old new h e = record {
   shows = λ cycle v. h.shows cycle (e.valuations cycle v);
 }
 
-pub stored_backward_lasts : (kept : StoredKept) (ready up : NetValue) (old new : Netlist) → StoredBackward kept ready up old → Extends old new → StoredBackward kept ready up new
+pub stored_backward_lasts : (kept : StoredKept) (ready up : NetValue) (old new : Netlist) → StoredBackward kept ready up old
+    → Extends old new → StoredBackward kept ready up new
 stored_backward_lasts kept ready up old new h e = record {
   comes = h.comes;
   goes = h.goes;

@@ -22,9 +22,11 @@ pub struct Chain<A, B> {
 impl<A: Stage, B: Stage> Stage for Chain<A, B> {
     type Held = (A::Held, B::Held);
 
-    ghost has_shape = { λ s shape. IsChainOf (A.has_shape s.first) (B.has_shape s.second) (B.passes_ready s.second) (A.shows_ready s.first) shape };
+    ghost has_shape = { λ s shape. IsChainOf (A.has_shape s.first) (B.has_shape s.second) (B.passes_ready s.second)
+        (A.shows_ready s.first) shape };
 
-    ghost passes_ready = { λ s shape. IsChainOf (λ first. A.has_shape s.first first × A.passes_ready s.first first) (B.passes_ready s.second) (B.passes_ready s.second) (A.shows_ready s.first) shape };
+    ghost passes_ready = { λ s shape. IsChainOf (λ first. A.has_shape s.first first × A.passes_ready s.first first)
+        (B.passes_ready s.second) (B.passes_ready s.second) (A.shows_ready s.first) shape };
 
     ghost shows_ready = { λ s. A.shows_ready s.first × B.shows_ready s.second };
 
@@ -42,7 +44,8 @@ impl<A: Stage, B: Stage> Stage for Chain<A, B> {
 
     ghost owns_memories = { λ kept m. A.owns_memories kept.0 m ⊎ B.owns_memories kept.1 m };
 
-    ghost is_kept = { λ s kept netlist. AreBothKept (A.is_kept s.first kept.0) (B.is_kept s.second kept.1) (A.owns kept.0) (B.owns kept.1) (A.owns_memories kept.0) (B.owns_memories kept.1) netlist };
+    ghost is_kept = { λ s kept netlist. AreBothKept (A.is_kept s.first kept.0) (B.is_kept s.second kept.1) (A.owns kept.0)
+        (B.owns kept.1) (A.owns_memories kept.0) (B.owns_memories kept.1) netlist };
 
     ghost forward_in = { λ s from to kept netlist. HasMiddle (λ middle. A.forward_in s.first from middle kept.0 netlist) (λ middle. B.forward_in s.second middle to kept.1 netlist) };
 

@@ -42,7 +42,8 @@ pub fn mux_beat(
     requires widths { HaveSameWidths one.now other.now }
     ensures beat { IfOk result (λ made. AreBeatNets builder.new made) }
     ensures widths { IfOk result (λ made. HaveSameWidths made one.now) }
-    ensures value { IfOk result (λ made. Always builder.new (λ cycle. Chooses cycle (cycle.net bit.number) one.now other.now made)) }
+    ensures value { IfOk result (λ made. Always builder.new (λ cycle. Chooses cycle
+        (cycle.net bit.number) one.now other.now made)) }
     ensures adds { AddsNets 7 builder.old builder.new }
     ensures full { result ≡ Err NetFault.TooManyNets → 2 ^ 20 < length builder.old.lines + 7 }
 {

@@ -18,7 +18,8 @@ pub fn queue_is_between<A: Stage, B: Stage>(stages: &Chain<Chain<A, Fifo>, B>)
     ensures { let stage = ⟦<Chain<Chain<A, Fifo>, B> as Stage>⟧ in
         (from to : BeatNets) (ready up : NetValue) (netlist : Netlist)
         → Stands (stage.forward_in stages.now from to) (λ kept. stage.backward_in stages.now kept ready up) netlist
-        → HasQueue (A.has_shape stages.now.first.first) stages.now.first.second.depth (B.has_shape stages.now.second) netlist from up to ready }
+        → HasQueue (A.has_shape stages.now.first.first) stages.now.first.second.depth
+        (B.has_shape stages.now.second) netlist from up to ready }
 {
     stages.first.first.law();
     stages.second.law();

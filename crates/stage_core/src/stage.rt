@@ -82,7 +82,8 @@ pub trait Stage {
         ensures written { IfOk result (λ p. ForwardMemories (memories self.now) (owns_memories p.1) builder.old builder.new) }
 
         // With room for its memories. Memory may run out at any net.
-        ensures full { length builder.old.memories + memories self.now ≤ 2 ^ 16 → result ≡ Err NetFault.TooManyNets → 2 ^ 20 < length builder.old.lines + forward_nets self.now };
+        ensures full { length builder.old.memories + memories self.now ≤ 2 ^ 16 → result ≡ Err NetFault.TooManyNets
+            → 2 ^ 20 < length builder.old.lines + forward_nets self.now };
 
     /// Makes the net of the upstream ready from that of the downstream ready.
     fn emit_backward(
@@ -124,10 +125,14 @@ pub trait Stage {
             → ShowSame from one other → ShowSame to one other };
 
     /// What is kept lasts while its registers and memories wait.
-    ghost kept_lasts: { (s : Self) (kept : Self.Held) (old new : Netlist) → is_kept s kept old → Extends old new → ((n : ℕ) → owns kept n → IsWaiting old n → IsWaiting new n) → ((m : ℕ) → owns_memories kept m → WaitsForWrite old m → WaitsForWrite new m) → is_kept s kept new };
+    ghost kept_lasts: { (s : Self) (kept : Self.Held) (old new : Netlist) → is_kept s kept old → Extends old new
+        → ((n : ℕ) → owns kept n → IsWaiting old n → IsWaiting new n)
+        → ((m : ℕ) → owns_memories kept m → WaitsForWrite old m → WaitsForWrite new m) → is_kept s kept new };
 
     /// What stands in a netlist stands in each longer one.
-    ghost forward_lasts: { (s : Self) (from to : BeatNets) (kept : Self.Held) (old new : Netlist) → forward_in s from to kept old → Extends old new → forward_in s from to kept new };
+    ghost forward_lasts: { (s : Self) (from to : BeatNets) (kept : Self.Held) (old new : Netlist) → forward_in s from to kept old
+        → Extends old new → forward_in s from to kept new };
 
-    ghost backward_lasts: { (s : Self) (kept : Self.Held) (ready up : NetValue) (old new : Netlist) → backward_in s kept ready up old → Extends old new → backward_in s kept ready up new };
+    ghost backward_lasts: { (s : Self) (kept : Self.Held) (ready up : NetValue) (old new : Netlist)
+        → backward_in s kept ready up old → Extends old new → backward_in s kept ready up new };
 }

@@ -1,4 +1,5 @@
-//! A queue of beats, in shifting registers or in memories: the oldest beat is shown, and the newest one taken in in one cycle. From four
+//! A queue of beats, in shifting registers or in memories: the oldest beat is shown, and the newest one taken in in one cycle.
+//! From four
 //! places on its registers are as few as its depth needs, whatever a beat's width.
 
 ghost use Rattle.std.specs.Prelude.{◌≡◌, ◌+◌, ◌^◌, ◌<◌, ◌≤◌, ◌&&◌, ◌==◌, length, IfOk};
@@ -46,7 +47,8 @@ fn both(builder: &mut Builder, one: Net, other: Net) -> Result<Net, NetFault>
     requires one { IsBit builder.old one }
     requires other { IsBit builder.old other }
     ensures net { IfOk result (λ made. IsBit builder.new made) }
-    ensures value { IfOk result (λ made. Always builder.new (λ cycle. (cycle.net made.number == 1) ≡ ((cycle.net one.number == 1) && (cycle.net other.number == 1)))) }
+    ensures value { IfOk result (λ made. Always builder.new (λ cycle. (cycle.net made.number == 1)
+        ≡ ((cycle.net one.number == 1) && (cycle.net other.number == 1)))) }
     ensures adds { AddsNets 1 builder.old builder.new }
     ensures full { result ≡ Err NetFault.TooManyNets → 2 ^ 20 < length builder.old.lines + 1 }
 {

@@ -37,7 +37,8 @@ pub fn emit_stream<S: Stage>(
     ensures ready { IfOk result (λ made. IsBit builder.new made.ready) }
 
     // What its two calls leave stands.
-    ensures stands { IfOk result (λ made. Stands (S.forward_in stage.now from made.beat) (λ kept. S.backward_in stage.now kept ready made.ready) builder.new) }
+    ensures stands { IfOk result (λ made. Stands
+        (S.forward_in stage.now from made.beat) (λ kept. S.backward_in stage.now kept ready made.ready) builder.new) }
 
     // In each endless run of each longer netlist the stage keeps its law,
     ensures keeps { IfOk result (λ made. (shape : Shape) → S.has_shape stage.now shape
@@ -47,7 +48,8 @@ pub fn emit_stream<S: Stage>(
 
     // and its beat doesn't depend on the ready of the same cycle.
     ensures ignores_ready { IfOk result (λ made. IgnoresInLonger builder.new from made.beat) }
-    ensures grows { ForwardGrows (S.memories stage.now) (S.forward_nets stage.now + S.backward_nets stage.now) builder.old builder.new }
+    ensures grows { ForwardGrows (S.memories stage.now)
+        (S.forward_nets stage.now + S.backward_nets stage.now) builder.old builder.new }
     ensures waits { StillWait builder.old builder.new }
     ensures no_more_wait { OnOk result (StillWait builder.new builder.old) }
     ensures still_wait_for_write { OnOk result (StillWaitForWrite builder.old builder.new) }
@@ -55,7 +57,8 @@ pub fn emit_stream<S: Stage>(
 
     // With room for its memories. Memory may run out at any net.
     ensures full { length builder.old.memories + S.memories stage.now ≤ 2 ^ 16
-        → result ≡ Err NetFault.TooManyNets → 2 ^ 20 < length builder.old.lines + (S.forward_nets stage.now + S.backward_nets stage.now) }
+        → result ≡ Err NetFault.TooManyNets
+        → 2 ^ 20 < length builder.old.lines + (S.forward_nets stage.now + S.backward_nets stage.now) }
 {
     stage.law();
     let (beat, kept) = stage.emit_forward(builder, from)?;

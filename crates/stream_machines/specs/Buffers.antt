@@ -26,17 +26,32 @@ taken_now side up c = if is_transfer side.pace up c then beat_at up c ∷ [] els
 pub record HoldsBeats (through : Bool) (side : Side) (up down : EndView) (held : ℕ → List Beat) : Type 0 where
   pub starts : held 0 ≡ []
   pub shows : (c : ℕ) → ShowsHeld through (held c) up down c
-  pub moves : (c : ℕ) → IsLegalSource side up (suc c) → held (suc c) ≡ (if is_transfer zero_pace down c then drop 1 (held c ++ taken_now side up c) else held c ++ taken_now side up c)
+  pub moves : (c : ℕ) → IsLegalSource side up (suc c)
+      → held (suc c)
+      ≡ (if is_transfer zero_pace down c then drop 1 (held c ++ taken_now side up c) else held c ++ taken_now side up c)
 
 -- what such a machine with this many places promises
 abbrev pub buffer_shape : (ℕ → Bool) → ℕ → Side → Shape
-buffer_shape passes places side = record { up = side; down = direct_side side; passes = passes; hold = places * side.symbols; rest = 0; step = 0; largest = 0; needs_ready = false }
+buffer_shape passes places side =
+    record {
+      up =
+          side;
+      down =
+          direct_side side;
+      passes = passes;
+      hold = places * side.symbols;
+      rest = 0;
+      step = 0;
+      largest = 0;
+      needs_ready = false;
+    }
 
 -- a buffer with a place more than the ready latency: it shows ready where the beats that it holds, and those that may
 -- still come of the ready that it showed, leave a place, as long as the source is legal
 pub record IsBufferRun (side : Side) (up down : EndView) (held : ℕ → List Beat) : Type 0 where
   pub holds : HoldsBeats true side up down held
-  pub asks : (c : ℕ) → IsLegalSource side up c → is_high up.ready c ≡ nat_lt (length (held c) + ready_cycles side.pace.latency up c) (side.pace.latency + 1)
+  pub asks : (c : ℕ) → IsLegalSource side up c
+      → is_high up.ready c ≡ nat_lt (length (held c) + ready_cycles side.pace.latency up c) (side.pace.latency + 1)
 
 -- a register for one beat, which takes the next beat in the cycle in which it gives its own
 pub record IsRegisterRun (side : Side) (up down : EndView) (held : ℕ → List Beat) : Type 0 where

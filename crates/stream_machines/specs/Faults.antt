@@ -7,7 +7,8 @@ use Rattle.stream_machines.specs.Wires.{wire_shape, wire_run, delayed_side}
 
 -- two symbols a beat, without packets, channels 0 and 1
 abbrev pub pair_of_channels : Side
-pair_of_channels = record { pace = later 0; symbols = 2; symbol_bits = 8; first_high = true; packets = false; max_channel = 1; error_bits = 0 }
+pair_of_channels =
+    record { pace = later 0; symbols = 2; symbol_bits = 8; first_high = true; packets = false; max_channel = 1; error_bits = 0 }
 
 -- a beat on channel 0, then one on channel 1
 abbrev pub two_channel_source : EndView
@@ -66,7 +67,18 @@ waiting_sink = showing always []
 -- a stage from ready latency 1 to 0, with any numbers
 abbrev pub any_stage : ℕ → ℕ → ℕ → ℕ → Shape
 any_stage hold rest step largest =
-    record { up = byte_side (later 1) 0; down = byte_side (later 0) 0; passes = λ _. true; hold = hold; rest = rest; step = step; largest = largest; needs_ready = false }
+    record {
+      up =
+          byte_side (later 1) 0;
+      down =
+          byte_side (later 0) 0;
+      passes = λ _. true;
+      hold = hold;
+      rest = rest;
+      step = step;
+      largest = largest;
+      needs_ready = false;
+    }
 
 -- a run between idle ends, with any rank
 abbrev pub idle_run : (ℕ → ℕ) → StageRun

@@ -31,7 +31,8 @@ inside shape run c = undelivered shape.passes shape.up shape.down run.up run.dow
 
 -- it has no symbol to give but what it may keep
 abbrev pub is_drained : Shape → StageRun → ℕ → Bool
-is_drained shape run c = nat_le (length (inside shape run c)) shape.rest && not (list_any (λ symbol. symbol.last) (inside shape run c))
+is_drained shape run c =
+    nat_le (length (inside shape run c)) shape.rest && not (list_any (λ symbol. symbol.last) (inside shape run c))
 
 -- it asks for beats, and has none to give
 abbrev pub is_at_rest : Shape → StageRun → ℕ → Bool
@@ -81,7 +82,8 @@ pub record KeepsStageLaw (shape : Shape) (run : StageRun) : Type 0 where
 
 -- as long as the sink was always ready, the stage shows ready
 abbrev pub PassesReady : Shape → StageRun → Type 0
-PassesReady shape run = (c : ℕ) → IsLegalSource shape.up run.up (suc c) → IsReadyBefore run.down (suc c) → IsTrue (is_high run.up.ready c)
+PassesReady shape run =
+    (c : ℕ) → IsLegalSource shape.up run.up (suc c) → IsReadyBefore run.down (suc c) → IsTrue (is_high run.up.ready c)
 
 -- ready is shown upstream in each cycle in which no beat is shown downstream
 abbrev pub AsksWhileIdle : EndView → EndView → Type 0
@@ -122,8 +124,12 @@ chain_shape first second =
       passes = first.passes;
       hold = first.hold + second.hold;
       rest = first.rest + second.rest;
-      step = if nat_lt 0 second.up.pace.latency then second.step else (if nat_le second.hold 0 then first.step + second.step else first.step + second.step + 1);
-      largest = if nat_lt 0 second.up.pace.latency then second.largest else first.largest + second.largest + (first.step + 1) * second.hold;
+      step =
+          if nat_lt 0 second.up.pace.latency then second.step
+          else (if nat_le second.hold 0 then first.step + second.step else first.step + second.step + 1);
+      largest =
+          if nat_lt 0 second.up.pace.latency then second.largest
+          else first.largest + second.largest + (first.step + 1) * second.hold;
       needs_ready = first.needs_ready || second.needs_ready;
     }
 
@@ -148,7 +154,9 @@ chain_run first second one two = record { up = one.up; down = two.down; rank = c
 
 -- what a stage that passes each beat as it is promises, for ends of this side
 abbrev pub pass_shape : (ℕ → Bool) → Side → Shape
-pass_shape passes side = record { up = side; down = side; passes = passes; hold = 0; rest = 0; step = 0; largest = side.pace.latency; needs_ready = false }
+pass_shape passes side =
+    record
+    { up = side; down = side; passes = passes; hold = 0; rest = 0; step = 0; largest = side.pace.latency; needs_ready = false }
 
 -- in how many of the cycles just before this one, so many of them, ready was high
 abbrev pub ready_cycles : ℕ → EndView → ℕ → ℕ

@@ -1,4 +1,5 @@
--- Symbols that come in beats of one size and go out in beats of another, as soon as there are enough of them or a packet ends. Both
+-- Symbols that come in beats of one size and go out in beats of another, as soon as there are enough of them or a packet ends.
+-- Both
 -- sides have the first symbol in the high-order bits.
 use Rattle.std.specs.Prelude.{ℕ, suc, ◌+◌, ◌-◌, ◌<◌, ◌≡◌, ◌⊎◌, not, ◌&&◌, ◌||◌, ◌==◌, nat_le, nat_lt, bit_or, if◌then◌else◌, Bool, false, IsTrue, IsFalse}
 use Rattle.stream_runs.specs.View.{EndView, Beat, Side, beat_at, is_high, is_transfer}
@@ -6,7 +7,8 @@ use Rattle.stream_runs.specs.Symbols.{symbol_count, value_of}
 use Rattle.stream_runs.specs.Source.{IsLegalSource, ShowsSame}
 use Rattle.stream_machines.specs.Stage.{Shape}
 
--- symbols in a row: how many they are, the data of each, their channel, all bits that are set in one of their errors, and the marks of
+-- symbols in a row: how many they are, the data of each, their channel, all bits that are set in one of their errors, and the
+-- marks of
 -- the first and of the last one
 pub record Row : Type 0 where
   pub count : ℕ
@@ -81,19 +83,23 @@ row_after from into up down held c =
     then behind_beat into.symbols (error_left into up held c) (next_row from into up held c)
     else (if is_transfer from.pace up c then with_beat from held (beat_at up c) else held)
 
--- a machine with a window of symbols, those that it holds and those of the beat that comes: it takes beats as long as it holds less than
+-- a machine with a window of symbols, those that it holds and those of the beat that comes: it takes beats as long as it holds
+-- less than
 -- a beat, and shows one as soon as the window has it. What it does with beats that aren't legal is free
 pub record IsWindowRun (from into : Side) (up down : EndView) (held : ℕ → Row) : Type 0 where
   pub starts : AreSameRow (held 0) (record { count = 0; value = λ k. 0; channel = 0; error = 0; first = 0; last = 0 })
   pub asks : (c : ℕ) → IsLegalSource from up (suc c)
       → is_high up.ready c ≡ (not (is_whole into.symbols (held c)) && (not (is_high down.valid c) || is_high down.ready c))
   pub valid : (c : ℕ) → IsLegalSource from up (suc c)
-      → is_high down.valid c ≡ (is_whole into.symbols (held c) || (is_high up.valid c && is_whole into.symbols (with_beat from (held c) (beat_at up c))))
+      → is_high down.valid c
+      ≡ (is_whole into.symbols (held c)
+      || (is_high up.valid c && is_whole into.symbols (with_beat from (held c) (beat_at up c))))
   pub shows : (c : ℕ) → IsLegalSource from up (suc c) → IsTrue (is_high down.valid c)
       → IsFront into (next_row from into up (held c) c) (beat_at down c)
   pub moves : (c : ℕ) → IsLegalSource from up (suc c) → AreSameRow (held (suc c)) (row_after from into up down (held c) c)
   -- a beat that waits stands unchanged, where it has symbols of the beat upstream as long as that does
-  pub stays : (c : ℕ) → IsLegalSource from up (suc (suc c)) → IsTrue (is_high down.valid c) → IsFalse (is_transfer into.pace down c)
+  pub stays : (c : ℕ) → IsLegalSource from up (suc (suc c)) → IsTrue (is_high down.valid c)
+      → IsFalse (is_transfer into.pace down c)
       → (IsTrue (is_whole into.symbols (held c))) ⊎ ShowsSame up c (suc c) → beat_at down (suc c) ≡ beat_at down c
 
 -- how many symbols it may hold: less than a beat of the larger size
@@ -103,4 +109,17 @@ window_hold from into = if nat_le from into then into - 1 else from - 1
 -- what the machine promises
 abbrev pub window_shape : (ℕ → Bool) → Side → Side → Shape
 window_shape passes from into =
-    record { up = from; down = into; passes = passes; hold = window_hold from.symbols into.symbols; rest = into.symbols - 1; step = 0; largest = 0; needs_ready = false }
+    record {
+      up =
+          from;
+      down =
+          into;
+      passes =
+          passes;
+      hold =
+          window_hold from.symbols into.symbols;
+      rest = into.symbols - 1;
+      step = 0;
+      largest = 0;
+      needs_ready = false;
+    }

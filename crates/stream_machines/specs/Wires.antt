@@ -7,7 +7,8 @@ use Rattle.stream_machines.specs.Stage.{Shape, StageRun, ready_cycles}
 
 -- what a machine that holds nothing promises
 abbrev pub wire_shape : (ℕ → Bool) → Side → Side → ℕ → Bool → Shape
-wire_shape passes up down largest needs_ready = record { up = up; down = down; passes = passes; hold = 0; rest = 0; step = 0; largest = largest; needs_ready = needs_ready }
+wire_shape passes up down largest needs_ready =
+    record { up = up; down = down; passes = passes; hold = 0; rest = 0; step = 0; largest = largest; needs_ready = needs_ready }
 
 -- its run: the rank is how many ready cycles are still to come of the ready that was shown
 abbrev pub wire_run : Side → EndView → EndView → StageRun
@@ -34,11 +35,13 @@ ShowsSuppressed passes side up dropped = (c : ℕ) → is_high dropped c ≡ sup
 -- ready comes so many cycles later, and no beat is shown but in a ready cycle; a delay of no cycles at ready latency 0
 -- is a wire, which shows each beat at once
 abbrev pub delayed_side : Side → ℕ → Side
-delayed_side side cycles = record side { pace = record { latency = side.pace.latency + cycles; allowance = side.pace.latency + cycles } }
+delayed_side side cycles =
+    record side { pace = record { latency = side.pace.latency + cycles; allowance = side.pace.latency + cycles } }
 
 pub record IsDelayRun (cycles : ℕ) (side : Side) (up down : EndView) : Type 0 where
   pub asks : (c : ℕ) → is_high up.ready c ≡ (nat_le cycles c && is_high down.ready (c - cycles))
-  pub valid : (c : ℕ) → is_high down.valid c ≡ (is_high up.valid c && (nat_lt 0 side.pace.latency || (nat_le cycles 0 || is_high up.ready c)))
+  pub valid : (c : ℕ)
+      → is_high down.valid c ≡ (is_high up.valid c && (nat_lt 0 side.pace.latency || (nat_le cycles 0 || is_high up.ready c)))
   pub shows : (c : ℕ) → IsTrue (is_high down.valid c) → beat_at down c ≡ beat_at up c
 
 -- ready is tied to 1

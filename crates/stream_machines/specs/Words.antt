@@ -6,15 +6,37 @@ use Rattle.stream_machines.specs.Parts.{joined_errors, first_of_row}
 
 -- part number t of a word
 abbrev pub part_word : Side → ℕ → ℕ → ℕ → ℕ
-part_word narrow parts word t = word / 2 ^ (narrow.symbol_bits * (narrow.symbols * (parts - 1 - t))) % 2 ^ (narrow.symbol_bits * narrow.symbols)
+part_word narrow parts word t =
+    word / 2 ^ (narrow.symbol_bits * (narrow.symbols * (parts - 1 - t))) % 2 ^ (narrow.symbol_bits * narrow.symbols)
 
 -- the pieces of a beat from part number t on, where so many symbols are left
 abbrev pub pieces_from : Side → ℕ → Beat → ℕ → ℕ → ℕ → List Beat
 pieces_from narrow parts whole zero t left = []
 pieces_from narrow parts whole (suc more) t left =
     if nat_le left narrow.symbols
-    then record { word = part_word narrow parts whole.word t; channel = whole.channel; error = whole.error; first = if t == 0 then whole.first else 0; last = whole.last; empty = narrow.symbols - left } ∷ []
-    else record { word = part_word narrow parts whole.word t; channel = whole.channel; error = whole.error; first = if t == 0 then whole.first else 0; last = 0; empty = 0 } ∷ pieces_from narrow parts whole more (t + 1) (left - narrow.symbols)
+    then record {
+      word =
+          part_word narrow parts whole.word t;
+      channel =
+          whole.channel;
+      error =
+          whole.error;
+      first = if t == 0 then whole.first else 0;
+      last = whole.last;
+      empty = narrow.symbols - left;
+    }
+    ∷ []
+    else record {
+      word =
+          part_word narrow parts whole.word t;
+      channel =
+          whole.channel;
+      error = whole.error;
+      first = if t == 0 then whole.first else 0;
+      last = 0;
+      empty = 0;
+    }
+    ∷ pieces_from narrow parts whole more (t + 1) (left - narrow.symbols)
 
 -- the pieces of a beat
 abbrev pub pieces : Side → Side → ℕ → Beat → List Beat
@@ -24,7 +46,9 @@ pieces narrow wide parts whole = pieces_from narrow parts whole parts 0 (symbol_
 abbrev pub joined_word : Side → ℕ → List Beat → ℕ
 joined_word narrow places [] = 0
 joined_word narrow zero (beat ∷ beats) = 0
-joined_word narrow (suc places) (beat ∷ beats) = beat.word % 2 ^ (narrow.symbol_bits * narrow.symbols) * 2 ^ (narrow.symbol_bits * (narrow.symbols * places)) + joined_word narrow places beats
+joined_word narrow (suc places) (beat ∷ beats) =
+    beat.word % 2 ^ (narrow.symbol_bits * narrow.symbols) * 2 ^ (narrow.symbol_bits * (narrow.symbols * places))
+    + joined_word narrow places beats
 
 -- the beat that joins others
 abbrev pub joined_beat : Side → Side → ℕ → List Beat → Beat → Beat
@@ -45,7 +69,9 @@ turned_word bits (suc symbols) word = word % 2 ^ bits * 2 ^ (bits * symbols) + t
 
 -- the word of a beat with its empty symbols set to 0, where the first symbol has the high-order bits
 abbrev pub cleared_word : Side → Beat → ℕ
-cleared_word side beat = beat.word / 2 ^ (side.symbol_bits * (side.symbols - symbol_count side beat)) * 2 ^ (side.symbol_bits * (side.symbols - symbol_count side beat))
+cleared_word side beat =
+    beat.word / 2 ^ (side.symbol_bits * (side.symbols - symbol_count side beat))
+    * 2 ^ (side.symbol_bits * (side.symbols - symbol_count side beat))
 
 -- the beat with this word
 abbrev pub cleared_beat : Side → Beat → Beat

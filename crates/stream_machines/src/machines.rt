@@ -46,7 +46,8 @@ pub fn queue_takes_in()
         → (start width : ℕ) → start + width ≤ count
         → front.largest + (front.step + 1) * (front.hold + front.up.pace.allowance * front.up.symbols) < width
         → Throughout start width
-        (λ c. beats_begun front.down.symbols (undelivered front.passes front.up rear.down one.up two.down c) + front.up.symbols ≤ depth)
+        (λ c. beats_begun front.down.symbols (undelivered front.passes front.up rear.down one.up two.down c) + front.up.symbols
+        ≤ depth)
         → Sometime start width (λ c. IsTrue (is_high one.up.ready c)) }
 {}
 

@@ -36,7 +36,8 @@ pub fn flow_is_a_stage()
     ensures { (shape : Shape) (run : StageRun) (store : ℕ → List Symbol) → IsFlow shape run store
         → 0 < shape.up.symbols → shape.up.packets ≡ shape.down.packets
         → (shape.down.error_bits ≡ 0 → shape.up.error_bits ≡ 0)
-        → ((channel : ℕ) → channel ≤ shape.up.max_channel → IsTrue (shape.passes channel) → channel ≤ shape.down.max_channel) → KeepsStageLaw shape run }
+        → ((channel : ℕ) → channel ≤ shape.up.max_channel → IsTrue (shape.passes channel) → channel ≤ shape.down.max_channel)
+        → KeepsStageLaw shape run }
 {}
 
 /// What a stage keeps up to a cycle it keeps up to each earlier one.

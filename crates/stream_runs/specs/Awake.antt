@@ -54,7 +54,8 @@ pub record NeverIdles (window : ℕ) (stream : Stream) (run : StreamRun) (count 
       → Sometime start window (λ c. IsTrue (is_high run.source.ready c))
   -- whatever the sink does, the source sees ready while the queue has room
   pub takes_in : (start : ℕ) → start + window ≤ count
-      → Throughout start window (λ c. beats_begun stream.sink.symbols (on_the_way stream run c) + stream.source.symbols ≤ stream.fifo_depth)
+      → Throughout start window (λ c. beats_begun stream.sink.symbols (on_the_way stream run c) + stream.source.symbols
+      ≤ stream.fifo_depth)
       → Sometime start window (λ c. IsTrue (is_high run.source.ready c))
   -- whatever the sink does, where a beat is there throughout one is shown, at ready latency 0
   pub shows : stream.sink.pace.latency ≡ 0 → (start : ℕ) → start + window ≤ count

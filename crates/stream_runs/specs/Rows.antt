@@ -67,27 +67,49 @@ later cycles = record { latency = cycles; allowance = cycles }
 -- packets of bytes, the first symbol in the high-order bits, on channel 0, with an error of one bit
 abbrev pub packet_side : ℕ → Side
 packet_side symbols =
-    record { pace = later 0; symbols = symbols; symbol_bits = 8; first_high = true; packets = true; max_channel = 0; error_bits = 1 }
+    record
+    { pace = later 0; symbols = symbols; symbol_bits = 8; first_high = true; packets = true; max_channel = 0; error_bits = 1 }
 
 -- a byte a beat, without packets and errors
 abbrev pub byte_side : Pace → ℕ → Side
 byte_side pace max_channel =
-    record { pace = pace; symbols = 1; symbol_bits = 8; first_high = true; packets = false; max_channel = max_channel; error_bits = 0 }
+    record {
+      pace =
+          pace;
+      symbols = 1;
+      symbol_bits = 8;
+      first_high = true;
+      packets = false;
+      max_channel = max_channel;
+      error_bits = 0;
+    }
 
 -- two bytes a beat, the first in the high-order or in the low-order bits
 abbrev pub pair_side : Bool → Side
 pair_side first_high =
-    record { pace = later 0; symbols = 2; symbol_bits = 8; first_high = first_high; packets = false; max_channel = 0; error_bits = 0 }
+    record {
+      pace =
+          later 0;
+      symbols = 2;
+      symbol_bits = 8;
+      first_high = first_high;
+      packets = false;
+      max_channel = 0;
+      error_bits = 0;
+    }
 
 -- ---- three symbols a beat to four: 01 02 03, then 04 05 06 with an error, then 07 and two empty symbols
 
 abbrev pub three_source : EndView
-three_source = showing always (Some (opens (word 0x010203)) ∷ Some (with_error 1 (word 0x040506)) ∷ Some (closes 2 (word 0x070000)) ∷ [])
+three_source =
+    showing always (Some (opens (word 0x010203)) ∷ Some (with_error 1 (word 0x040506)) ∷ Some (closes 2 (word 0x070000)) ∷ [])
 
 -- the sink's two beats, with these errors, and this empty count at the end
 abbrev pub four_sink : ℕ → ℕ → ℕ → EndView
 four_sink error_one error_two empty =
-    showing always (None ∷ None ∷ Some (with_error error_one (opens (word 0x01020304))) ∷ None ∷ Some (with_error error_two (closes empty (word 0x05060700))) ∷ [])
+    showing always
+    (None ∷ None ∷ Some (with_error error_one (opens (word 0x01020304))) ∷ None
+    ∷ Some (with_error error_two (closes empty (word 0x05060700))) ∷ [])
 
 abbrev pub three_to_four : Stream
 three_to_four = record { source = packet_side 3; sink = packet_side 4; fifo_depth = 0 }
@@ -97,11 +119,15 @@ three_to_four_run sink = record { source = three_source; sink = sink; dropped = 
 
 -- the fourth symbol and the fifth change places
 abbrev pub swapped_sink : EndView
-swapped_sink = showing always (None ∷ None ∷ Some (with_error 1 (opens (word 0x01020305))) ∷ None ∷ Some (with_error 1 (closes 1 (word 0x04060700))) ∷ [])
+swapped_sink =
+    showing always
+    (None ∷ None ∷ Some (with_error 1 (opens (word 0x01020305))) ∷ None ∷ Some (with_error 1 (closes 1 (word 0x04060700))) ∷ [])
 
 -- the packet begins with the second beat
 abbrev pub late_mark_sink : EndView
-late_mark_sink = showing always (None ∷ None ∷ Some (with_error 1 (word 0x01020304)) ∷ None ∷ Some (with_error 1 (opens (closes 1 (word 0x05060700)))) ∷ [])
+late_mark_sink =
+    showing always
+    (None ∷ None ∷ Some (with_error 1 (word 0x01020304)) ∷ None ∷ Some (with_error 1 (opens (closes 1 (word 0x05060700)))) ∷ [])
 
 -- the second beat comes alone
 abbrev pub lost_beat_sink : EndView
@@ -131,7 +157,8 @@ padded_sink = showing always (None ∷ Some (opens (word 1)) ∷ Some (word 2) �
 
 -- a fourth beat that holds no symbol
 abbrev pub hollow_sink : EndView
-hollow_sink = showing always (None ∷ Some (opens (word 1)) ∷ Some (word 2) ∷ Some (closes 0 (word 3)) ∷ Some (closes 1 (word 0)) ∷ [])
+hollow_sink =
+    showing always (None ∷ Some (opens (word 1)) ∷ Some (word 2) ∷ Some (closes 0 (word 3)) ∷ Some (closes 1 (word 0)) ∷ [])
 
 -- ---- the order of symbols
 
@@ -148,7 +175,8 @@ high_to_low_run value = record { source = one_word 0x0102; sink = one_word value
 -- ---- channels: a1, a2 and a3 on channels 3, 4 and 3, to a sink of channels 0 to 3
 
 abbrev pub channel_source : EndView
-channel_source = showing always (Some (on_channel 3 (word 0xa1)) ∷ Some (on_channel 4 (word 0xa2)) ∷ Some (on_channel 3 (word 0xa3)) ∷ [])
+channel_source =
+    showing always (Some (on_channel 3 (word 0xa1)) ∷ Some (on_channel 4 (word 0xa2)) ∷ Some (on_channel 3 (word 0xa3)) ∷ [])
 
 abbrev pub fewer_channels : Stream
 fewer_channels = record { source = byte_side (later 0) 7; sink = byte_side (later 0) 3; fifo_depth = 0 }
@@ -161,7 +189,8 @@ filtered_sink = showing always (Some (on_channel 3 (word 0xa1)) ∷ None ∷ Som
 
 -- all three beats, with the channel cut to two bits
 abbrev pub cut_sink : EndView
-cut_sink = showing always (Some (on_channel 3 (word 0xa1)) ∷ Some (on_channel 0 (word 0xa2)) ∷ Some (on_channel 3 (word 0xa3)) ∷ [])
+cut_sink =
+    showing always (Some (on_channel 3 (word 0xa1)) ∷ Some (on_channel 0 (word 0xa2)) ∷ Some (on_channel 3 (word 0xa3)) ∷ [])
 
 -- a1 and a2 alone
 abbrev pub cut_sink_so_far : EndView
@@ -177,7 +206,8 @@ stalled = signal_of (1 ∷ 1 ∷ 0 ∷ 0 ∷ 0 ∷ 0 ∷ 0 ∷ 0 ∷ 1 ∷ 1 ∷
 abbrev pub late_source : EndView
 late_source =
     showing (signal_of (1 ∷ 1 ∷ 1 ∷ 0 ∷ 0 ∷ 0 ∷ 0 ∷ 0 ∷ 0 ∷ 1 ∷ 1 ∷ 1 ∷ 1 ∷ []))
-    (None ∷ None ∷ Some (word 0x11) ∷ Some (word 0x22) ∷ Some (word 0x33) ∷ None ∷ None ∷ None ∷ None ∷ None ∷ None ∷ Some (word 0x44) ∷ [])
+    (None ∷ None ∷ Some (word 0x11) ∷ Some (word 0x22) ∷ Some (word 0x33) ∷ None ∷ None ∷ None ∷ None ∷ None ∷ None
+    ∷ Some (word 0x44) ∷ [])
 
 abbrev pub late_to_direct : Stream
 late_to_direct = record { source = byte_side (later 2) 0; sink = byte_side (later 0) 0; fifo_depth = 0 }
@@ -189,21 +219,24 @@ late_run sink = record { source = late_source; sink = sink; dropped = never }
 abbrev pub stalled_sink : EndView
 stalled_sink =
     showing stalled
-    (None ∷ None ∷ Some (word 0x11) ∷ Some (word 0x11) ∷ Some (word 0x11) ∷ Some (word 0x11) ∷ Some (word 0x11) ∷ Some (word 0x11) ∷ Some (word 0x11)
+    (None ∷ None ∷ Some (word 0x11) ∷ Some (word 0x11) ∷ Some (word 0x11) ∷ Some (word 0x11) ∷ Some (word 0x11) ∷ Some (word 0x11)
+    ∷ Some (word 0x11)
     ∷ Some (word 0x22) ∷ Some (word 0x33) ∷ Some (word 0x44) ∷ [])
 
 -- a buffer with a place too few loses 33
 abbrev pub losing_sink : EndView
 losing_sink =
     showing stalled
-    (None ∷ None ∷ Some (word 0x11) ∷ Some (word 0x11) ∷ Some (word 0x11) ∷ Some (word 0x11) ∷ Some (word 0x11) ∷ Some (word 0x11) ∷ Some (word 0x11)
+    (None ∷ None ∷ Some (word 0x11) ∷ Some (word 0x11) ∷ Some (word 0x11) ∷ Some (word 0x11) ∷ Some (word 0x11) ∷ Some (word 0x11)
+    ∷ Some (word 0x11)
     ∷ Some (word 0x22) ∷ None ∷ Some (word 0x44) ∷ [])
 
 -- 22 comes twice
 abbrev pub doubling_sink : EndView
 doubling_sink =
     showing stalled
-    (None ∷ None ∷ Some (word 0x11) ∷ Some (word 0x11) ∷ Some (word 0x11) ∷ Some (word 0x11) ∷ Some (word 0x11) ∷ Some (word 0x11) ∷ Some (word 0x11)
+    (None ∷ None ∷ Some (word 0x11) ∷ Some (word 0x11) ∷ Some (word 0x11) ∷ Some (word 0x11) ∷ Some (word 0x11) ∷ Some (word 0x11)
+    ∷ Some (word 0x11)
     ∷ Some (word 0x22) ∷ Some (word 0x22) ∷ Some (word 0x33) ∷ Some (word 0x44) ∷ [])
 
 -- the beat that waits changes from 11 to 22
@@ -234,7 +267,8 @@ bold_source start count = showing (signal_of (0 ∷ 1 ∷ [])) (beats_from start
 abbrev pub going_on : EndView
 going_on =
     showing (signal_of (1 ∷ 1 ∷ 1 ∷ 0 ∷ 0 ∷ 0 ∷ 0 ∷ 0 ∷ 1 ∷ 1 ∷ []))
-    (None ∷ Some (word 0x11) ∷ Some (word 0x22) ∷ Some (word 0x33) ∷ Some (word 0x44) ∷ Some (word 0x55) ∷ None ∷ None ∷ None ∷ Some (word 0x66) ∷ [])
+    (None ∷ Some (word 0x11) ∷ Some (word 0x22) ∷ Some (word 0x33) ∷ Some (word 0x44) ∷ Some (word 0x55) ∷ None ∷ None ∷ None
+    ∷ Some (word 0x66) ∷ [])
 
 abbrev pub bold_to_direct : Stream
 bold_to_direct = record { source = bold_side 3; sink = byte_side (later 0) 0; fifo_depth = 0 }
@@ -270,7 +304,8 @@ two_beats ready one two = showing (signal_of (ready ∷ 1 ∷ [])) (Some one ∷
 
 -- two packets of three bytes and of two, so far
 abbrev pub two_packets : EndView
-two_packets = showing always (Some (opens (word 1)) ∷ Some (word 2) ∷ Some (closes 0 (word 3)) ∷ Some (opens (word 4)) ∷ Some (word 5) ∷ [])
+two_packets =
+    showing always (Some (opens (word 1)) ∷ Some (word 2) ∷ Some (closes 0 (word 3)) ∷ Some (opens (word 4)) ∷ Some (word 5) ∷ [])
 
 abbrev pub plain_stream : ℕ → Stream
 plain_stream fifo_depth = record { source = byte_side (later 0) 0; sink = byte_side (later 0) 0; fifo_depth = fifo_depth }
@@ -301,7 +336,9 @@ abbrev pub byte_wire : Stream
 byte_wire = stream_of byte_packets byte_packets 0
 
 abbrev pub packet : Signals
-packet = packet_signals (signal_of (1 ∷ 0 ∷ 1 ∷ 1 ∷ 1 ∷ [])) (signal_of (1 ∷ 1 ∷ 1 ∷ 1 ∷ [])) (signal_of (0x11 ∷ 0x22 ∷ 0x22 ∷ 0x33 ∷ [])) (signal_of (1 ∷ [])) (signal_of (0 ∷ 0 ∷ 0 ∷ 1 ∷ []))
+packet =
+    packet_signals (signal_of (1 ∷ 0 ∷ 1 ∷ 1 ∷ 1 ∷ [])) (signal_of (1 ∷ 1 ∷ 1 ∷ 1 ∷ []))
+    (signal_of (0x11 ∷ 0x22 ∷ 0x22 ∷ 0x33 ∷ [])) (signal_of (1 ∷ [])) (signal_of (0 ∷ 0 ∷ 0 ∷ 1 ∷ []))
 
 -- both marks change places
 abbrev pub swapped_packet : Signals
@@ -309,7 +346,9 @@ swapped_packet = record packet { startofpacket = packet.endofpacket; endofpacket
 
 -- the source sees ready throughout, and sends a beat a cycle
 abbrev pub hurried_packet : Signals
-hurried_packet = packet_signals always (signal_of (1 ∷ 1 ∷ 1 ∷ [])) (signal_of (0x11 ∷ 0x22 ∷ 0x33 ∷ [])) (signal_of (1 ∷ [])) (signal_of (0 ∷ 0 ∷ 1 ∷ []))
+hurried_packet =
+    packet_signals always (signal_of (1 ∷ 1 ∷ 1 ∷ [])) (signal_of (0x11 ∷ 0x22 ∷ 0x33 ∷ [])) (signal_of (1 ∷ []))
+    (signal_of (0 ∷ 0 ∷ 1 ∷ []))
 
 -- the same at a sink that isn't ready in cycle 1
 abbrev pub overrun_packet : Signals

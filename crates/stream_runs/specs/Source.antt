@@ -20,12 +20,15 @@ beats_since_ready pace view (suc c) =
 
 -- the allowance lasts: ready has been high at least the latency ago, and at most so many beats came since it was last high
 abbrev pub is_allowed_late : Pace → EndView → ℕ → Bool
-is_allowed_late pace view c = nat_le pace.latency c && was_ready view (c - pace.latency) && nat_le (beats_since_ready pace view c) pace.allowance
+is_allowed_late pace view c =
+    nat_le pace.latency c && was_ready view (c - pace.latency) && nat_le (beats_since_ready pace view c) pace.allowance
 
 -- the pace lets a beat be shown in the cycle: always at latency 0, else in ready cycles, and where the allowance is
 -- above the latency as long as it lasts
 abbrev pub may_show : Pace → EndView → ℕ → Bool
-may_show pace view c = (pace.latency == 0) || (if nat_lt pace.latency pace.allowance then is_allowed_late pace view c else is_ready_cycle pace view c)
+may_show pace view c =
+    (pace.latency == 0)
+    || (if nat_lt pace.latency pace.allowance then is_allowed_late pace view c else is_ready_cycle pace view c)
 
 -- a packet is open as the cycle begins: the latest beat that transferred does not end one
 abbrev pub is_open : Pace → EndView → ℕ → Bool

@@ -24,7 +24,16 @@ pub record Beat : Type 0 where
 -- the beat that is shown in the cycle, if one is
 abbrev pub beat_at : EndView → ℕ → Beat
 beat_at view c =
-    record { word = view.word c; channel = view.channel c; error = view.error c; first = view.first c; last = view.last c; empty = view.empty c }
+    record {
+      word =
+          view.word c;
+      channel =
+          view.channel c;
+      error = view.error c;
+      first = view.first c;
+      last = view.last c;
+      empty = view.empty c;
+    }
 
 -- the ready latency, and the ready allowance: how many beats may come after the last cycle with ready
 pub record Pace : Type 0 where

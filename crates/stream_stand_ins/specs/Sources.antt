@@ -37,7 +37,8 @@ abbrev pub lately_ready : EndView → ℕ → List Bool
 lately_ready view zero = replicate 8 false
 lately_ready view (suc c) = is_high view.ready c ∷ take 7 (lately_ready view c)
 
--- what a source keeps: its pace, where it stands, whether a ready cycle came, and in which of the eight cycles before ready was high
+-- what a source keeps: its pace, where it stands, whether a ready cycle came, and in which of the eight cycles before ready was
+-- high
 pub record Keeping : Type 0 where
   pub pace : Pace
   pub left : List Step
@@ -68,7 +69,15 @@ is_taken keeping ready = may_send_now keeping && (nat_lt 0 keeping.pace.latency 
 abbrev pub keeping_behind : Keeping → Bool → Keeping
 keeping_behind keeping ready =
     let behind = stands_behind keeping.pace.allowance ready (is_taken keeping ready) (record { left = keeping.left; sent = keeping.sent }) in
-    record { pace = keeping.pace; left = behind.left; sent = behind.sent; came = keeping.came || is_due keeping ready; lately = ready ∷ take 7 keeping.lately }
+    record {
+      pace =
+          keeping.pace;
+      left =
+          behind.left;
+      sent = behind.sent;
+      came = keeping.came || is_due keeping ready;
+      lately = ready ∷ take 7 keeping.lately;
+    }
 
 -- the beat that it shows
 abbrev pub beat_kept : Keeping → Option Beat

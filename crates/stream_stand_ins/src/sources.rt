@@ -39,7 +39,15 @@ impl<'a> Model for SourceStandIn<'a> {
 
     ghost Value = { Keeping };
 
-    ghost view = { λ s. record { pace = record { latency = s.latency; allowance = s.allowance }; left = s.left; sent = s.sent; came = s.came; lately = s.lately } };
+    ghost view = { λ s. record {
+      pace =
+          record { latency = s.latency; allowance = s.allowance };
+      left =
+          s.left;
+      sent = s.sent;
+      came = s.came;
+      lately = s.lately;
+    } };
 
     ghost invariant = { λ s. s.latency ≤ 8 };
 }

@@ -32,7 +32,8 @@ pub record AreEndsRefused (system : SystemTable) (connection : ℕ) (rule : Link
 
 -- a rule on connections refuses the system at this connection
 abbrev pub IsConnectionRefused : SystemTable → ℕ → LinkRule → Option ℕ → Type 0
-IsConnectionRefused system connection rule other = IsMapRefused system connection rule other ⊎ AreEndsRefused system connection rule other
+IsConnectionRefused system connection rule other =
+    IsMapRefused system connection rule other ⊎ AreEndsRefused system connection rule other
 
 -- the connections keep all rules, and this is the least limit that the system passes
 pub record IsTooLarge (system : SystemTable) (which count : ℕ) : Type 0 where

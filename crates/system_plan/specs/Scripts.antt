@@ -22,7 +22,8 @@ pub record IsMisspelled (file : ℕ) (bytes : List ℕ) (place : Place) (rule : 
   pub rule_is : rule ≡ Words (number_of fault.rule)
 
 -- the bytes of a file spell a script that this rule refuses at this place
-pub record IsMisstated (refuses : Script → Place → ScriptRule → Type 0) (file : ℕ) (bytes : List ℕ) (place : Place) (rule : ScriptRule) : Type 0 where
+pub record IsMisstated (refuses : Script → Place → ScriptRule → Type 0) (file : ℕ) (bytes : List ℕ) (place : Place)
+    (rule : ScriptRule) : Type 0 where
   pub script : Script
   pub spelled : Spells file bytes script
   pub is : refuses script place rule

@@ -29,12 +29,14 @@ pub record IsTypeTaken (earlier : List ComponentTable) (script : Script) (place 
 
 -- a rule refuses the component of a script; C15 is judged last
 abbrev pub RefusesComponent : List ComponentTable → Script → Place → ScriptRule → Type 0
-RefusesComponent earlier script place rule = IsFaultOf (Refused place rule) (component_of script) ⊎ IsTypeTaken earlier script place rule
+RefusesComponent earlier script place rule =
+    IsFaultOf (Refused place rule) (component_of script) ⊎ IsTypeTaken earlier script place rule
 
 -- the component files state these components, in order, each behind those before it
 pub record AreComponents (component_files : List (List ℕ)) (components : List ComponentTable) : Type 0 where
   pub count : length components ≡ length component_files
-  pub each : (k : ℕ) (bytes : List ℕ) (component : ComponentTable) → slice_get component_files k ≡ Some bytes → slice_get components k ≡ Some component
+  pub each : (k : ℕ) (bytes : List ℕ) (component : ComponentTable) → slice_get component_files k ≡ Some bytes
+      → slice_get components k ≡ Some component
       → States (SaysComponent (take k components)) (k + 2) bytes component
 
 -- the script states this system over the components

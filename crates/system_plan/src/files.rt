@@ -25,7 +25,9 @@ fn add_component(
     catalog: &mut Catalog,
 ) -> Result<(), Refusal>
     requires { length bytes.now < 2 ^ 31 }
-    ensures added { OnOk result ((component : ComponentTable) × States (SaysComponent catalog.old) file bytes.now component × (catalog.new ≡ catalog.old ++ component ∷ [])) }
+    ensures added { OnOk result
+        ((component : ComponentTable) × States (SaysComponent catalog.old) file bytes.now component
+        × (catalog.new ≡ catalog.old ++ component ∷ [])) }
     ensures refused { IfErr result (IsScriptCause (IsRefused (RefusesComponent catalog.old) file bytes.now)) }
 {
     let commands = Commands::read(alloc, file, bytes)?;

@@ -29,7 +29,8 @@ clock_place component interface = if is_empty interface.clock then None else int
 unfoldable pub clock_of : List ComponentTable → List Instance → Terminal → Option Terminal
 clock_of components instances end =
     option_and_then
-    (λ (component : ComponentTable). option_map (λ place. record { instance = end.instance; interface = place }) (option_and_then (clock_place component) (slice_get component.interfaces end.interface)))
+    (λ (component : ComponentTable). option_map (λ place. record { instance = end.instance; interface = place })
+    (option_and_then (clock_place component) (slice_get component.interfaces end.interface)))
     (component_at components instances end.instance)
 
 -- the root of the interface at an end: where its clock comes from
@@ -63,12 +64,14 @@ connection_of components draft clock joint =
       base = joint.base;
       shares = joint.shares;
       fifo = joint.fifo;
-      clock_fits = fits_clock clock (root_of components draft joint.start) && fits_clock clock (root_of components draft joint.end);
+      clock_fits =
+          fits_clock clock (root_of components draft joint.start) && fits_clock clock (root_of components draft joint.end);
     }
 
 -- the interfaces of the component at a place
 abbrev pub interfaces_at : List ComponentTable → ℕ → List InterfaceTable
-interfaces_at components place = option_map_or (λ (component : ComponentTable). component.interfaces) (slice_get components place) []
+interfaces_at components place =
+    option_map_or (λ (component : ComponentTable). component.interfaces) (slice_get components place) []
 
 abbrev pub instance_table : List ComponentTable → Instance → InstanceTable
 instance_table components instance = record { name = instance.name; interfaces = interfaces_at components instance.component }

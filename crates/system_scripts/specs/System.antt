@@ -74,7 +74,8 @@ instance_checks components draft words =
 
 unfoldable pub instance_effect : List ComponentTable → DraftedSystem → List Word → DraftedSystem
 instance_effect components draft words =
-    option_map_or (λ component. record draft { instances = draft.instances ++ record { name = text_at words 1; component = component } ∷ [] })
+    option_map_or (λ component. record draft
+    { instances = draft.instances ++ record { name = text_at words 1; component = component } ∷ [] })
     (type_place components (text_at words 2))
     draft
 
@@ -87,7 +88,9 @@ component_at components instances k =
 unfoldable pub end_of : List ComponentTable → List Instance → List ℕ × List ℕ → Option Terminal
 end_of components instances names =
     option_and_then
-    (λ k. option_and_then (λ (component : ComponentTable). option_map (λ i. record { instance = k; interface = i }) (interface_place component.interfaces names.1)) (component_at components instances k))
+    (λ k. option_and_then (λ (component : ComponentTable). option_map (λ i. record { instance = k; interface = i })
+    (interface_place component.interfaces names.1))
+    (component_at components instances k))
     (instance_place instances names.0)
 
 abbrev pub is_start : Side → Bool
@@ -104,7 +107,8 @@ is_taken joints end =
     list_any (λ (joint : Joint). same_kind joint.kind Stream && (same_end end joint.start || same_end end joint.end)) joints
 
 -- what is kept of a draft: the names of the instances, the ends of the connections, and where streams are connected
-pub record IsSystemDraft (names : List (List ℕ)) (links : List Link) (taken : List Terminal) (instances : List Instance) (joints : List Joint) : Type 0 where
+pub record IsSystemDraft (names : List (List ℕ)) (links : List Link) (taken : List Terminal) (instances : List Instance)
+    (joints : List Joint) : Type 0 where
   pub all : names ≡ map (λ (instance : Instance). instance.name) instances
   pub linked : links ≡ map (λ (joint : Joint). record { start = joint.start; end = joint.end }) joints
   pub streams : (end : Terminal) → list_any (same_end end) taken ≡ is_taken joints end
@@ -171,7 +175,9 @@ connection_effect components draft words =
 unfoldable pub joint_place : List ComponentTable → DraftedSystem → List ℕ → Option ℕ
 joint_place components draft text =
     option_and_then
-    (λ pair. option_and_then (λ start. option_and_then (λ end. position (joins start end) draft.joints) (end_of components draft.instances pair.1)) (end_of components draft.instances pair.0))
+    (λ pair. option_and_then (λ start. option_and_then (λ end. position (joins start end) draft.joints)
+    (end_of components draft.instances pair.1))
+    (end_of components draft.instances pair.0))
     (pair_named text)
 
 abbrev pub kind_of_joint : List Joint → Option ℕ → Option Kind
@@ -210,7 +216,8 @@ with_number words parameter joint =
 
 unfoldable pub parameter_effect : List ComponentTable → DraftedSystem → List Word → DraftedSystem
 parameter_effect components draft words =
-    option_map_or (λ k. option_map_or (λ parameter. record draft { joints = set_at draft.joints k (with_number words parameter) }) (parameter_named (text_at words 2)) draft)
+    option_map_or (λ k. option_map_or (λ parameter. record draft { joints = set_at draft.joints k (with_number words parameter) })
+    (parameter_named (text_at words 2)) draft)
     (joint_place components draft (text_at words 1))
     draft
 
@@ -246,7 +253,8 @@ requirement_checks draft words =
 -- the last setting counts
 unfoldable pub requirement_effect : DraftedSystem → List Word → DraftedSystem
 requirement_effect draft words =
-    if sets_stages words then option_map_or (λ number. record draft { stages = number }) (number_of (text_at words 3)) draft else draft
+    if sets_stages words then option_map_or (λ number. record draft { stages = number }) (number_of (text_at words 3)) draft
+    else draft
 
 -- C13: the system is there
 unfoldable pub late_checks : DraftedSystem → List Check

@@ -132,7 +132,8 @@ impl System {
     /// The name of the instance at an end of this system.
     pub fn instance_name(&self, end: EndId) -> &str
         requires { (known : Finished) × IsEnd self.now end known }
-        ensures { (instance : InstanceTable) × (slice_get self.now.instances end.instance ≡ Some instance) × (result.now ≡ instance.name) }
+        ensures { (instance : InstanceTable) × (slice_get self.now.instances end.instance ≡ Some instance)
+            × (result.now ≡ instance.name) }
     {
         let instance = at(self.instances.as_slice(), end.instance as usize);
         instance.name.as_str()

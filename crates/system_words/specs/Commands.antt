@@ -78,17 +78,20 @@ abbrev pub in_one_word : List Word → Bool
 in_one_word words = nat_le (length words) 2
 
 unfoldable pub first_named : List Word → Option (List ℕ × List ℕ)
-first_named words = if in_one_word words then option_map (λ pair. pair.0) (pair_named (text_at words 1)) else end_named (text_at words 1)
+first_named words =
+    if in_one_word words then option_map (λ pair. pair.0) (pair_named (text_at words 1)) else end_named (text_at words 1)
 
 unfoldable pub second_named : List Word → Option (List ℕ × List ℕ)
-second_named words = if in_one_word words then option_map (λ pair. pair.1) (pair_named (text_at words 1)) else end_named (text_at words 2)
+second_named words =
+    if in_one_word words then option_map (λ pair. pair.1) (pair_named (text_at words 1)) else end_named (text_at words 2)
 
 unfoldable pub second_word : List Word → ℕ
 second_word words = if in_one_word words then 1 else 2
 
 -- a kind word names another kind
 unfoldable pub asks_other : List Word → Kind → Bool
-asks_other words kind = has_word words 3 && option_map_or (λ asked. not (same_kind asked kind)) (kind_named (text_at words 3)) false
+asks_other words kind =
+    has_word words 3 && option_map_or (λ asked. not (same_kind asked kind)) (kind_named (text_at words 3)) false
 
 -- a test of both ends, where both are there
 abbrev pub of_both : {A B : Type 0} → Option A → Option B → (A → B → Bool) → Bool
@@ -132,7 +135,8 @@ abbrev pub misreads : List ℕ → Kind → Parameter → Bool
 misreads text kind parameter = is_avalon kind && is_number parameter && is_none (number_of text)
 
 abbrev pub exceeds : List ℕ → Kind → Parameter → Bool
-exceeds text kind parameter = is_avalon kind && is_number parameter && option_map_or (λ number. not (may_be parameter number)) (number_of text) false
+exceeds text kind parameter =
+    is_avalon kind && is_number parameter && option_map_or (λ number. not (may_be parameter number)) (number_of text) false
 
 abbrev pub exports : List Word → Bool
 exports words = same_name (codes "EXPORT_OF") (text_at words 2)

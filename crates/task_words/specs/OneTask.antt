@@ -78,9 +78,12 @@ one_behind Simulate words n m is also = is ∙ sym also
 one_behind Replay words n m is also = is ∙ sym also
 one_behind Dump words n m is also = is ∙ sym also
 one_behind Undump words n m is also = is ∙ sym also
-one_behind (Campaign any) words n m is also = decimal_injective n m (omega (arith, is.few)) (omega (arith, also.few)) (same_Some _ _ (sym is.is ∙ also.is))
-one_behind (Bridge any) words n m is also = decimal_injective n m (omega (arith, is.few)) (omega (arith, also.few)) (same_Some _ _ (sym is.is ∙ also.is))
-one_behind (Workload any) words n m is also = decimal_injective n m (omega (arith, is.few)) (omega (arith, also.few)) (same_Some _ _ (sym is.is ∙ also.is))
+one_behind (Campaign any) words n m is also =
+    decimal_injective n m (omega (arith, is.few)) (omega (arith, also.few)) (same_Some _ _ (sym is.is ∙ also.is))
+one_behind (Bridge any) words n m is also =
+    decimal_injective n m (omega (arith, is.few)) (omega (arith, also.few)) (same_Some _ _ (sym is.is ∙ also.is))
+one_behind (Workload any) words n m is also =
+    decimal_injective n m (omega (arith, is.few)) (omega (arith, also.few)) (same_Some _ _ (sym is.is ∙ also.is))
 one_behind (Module wanted) words n m is also = is ∙ sym also
 
 -- a kind with this number
@@ -142,29 +145,39 @@ pub module_kind : (wanted : Routed) → IsNoModule (kind_of (Module wanted)) →
 unfolding kind_of
 module_kind wanted none = none
 
-one_numbered : (words : List (List ℕ)) (one other : Task) → kind_of one ≡ kind_of other → IsNumbered words one → IsNumbered words other → one ≡ other
+one_numbered : (words : List (List ℕ)) (one other : Task) → kind_of one ≡ kind_of other → IsNumbered words one
+    → IsNumbered words other → one ≡ other
 one_numbered words one other same is also =
-    let behind : HasBehind (kind_of one) words also.number = subst (λ (t : Task). HasBehind t words also.number) (sym same) also.behind in
+    let behind : HasBehind (kind_of one) words also.number = subst
+    (λ (t : Task). HasBehind t words also.number) (sym same) also.behind in
     let number : is.number ≡ also.number = one_behind (kind_of one) words is.number also.number is.behind behind in
     sym is.is ∙ ap (λ (t : Task). numbered t is.number) same ∙ ap (λ (n : ℕ). numbered (kind_of other) n) number ∙ also.is
 
 -- a task of a module's kind has no number
-apart : (words : List (List ℕ)) (one other : Task) (wanted : Routed) → kind_of one ≡ kind_of other → IsNumbered words one → other ≡ Module wanted → ⊥
+apart : (words : List (List ℕ)) (one other : Task) (wanted : Routed) → kind_of one ≡ kind_of other → IsNumbered words one
+    → other ≡ Module wanted → ⊥
 apart words one other wanted same is also = module_kind wanted (subst IsNoModule (same ∙ ap kind_of also) is.apart)
 
-one_of : (words : List (List ℕ)) (one other : Task) → kind_of one ≡ kind_of other → StatesNumbers one words → StatesNumbers other words → IsEither words one → IsEither words other → one ≡ other
+one_of : (words : List (List ℕ)) (one other : Task) → kind_of one ≡ kind_of other → StatesNumbers one words
+    → StatesNumbers other words → IsEither words one → IsEither words other → one ≡ other
 one_of words one other same here there (inl is) (inl also) = one_numbered words one other same is also
 one_of words one other same here there (inl is) (inr (wanted, also)) = absurd (apart words one other wanted same is also)
 one_of words one other same here there (inr (wanted, is)) (inl also) = absurd (apart words other one wanted (sym same) also is)
 one_of words one other same here there (inr (wanted, is)) (inr (routed, also)) =
-    is ∙ ap Module (one_module words wanted routed (subst (λ (t : Task). StatesNumbers t words) is here) (subst (λ (t : Task). StatesNumbers t words) also there)) ∙ sym also
+    is
+    ∙ ap Module
+    (one_module words wanted routed (subst (λ (t : Task). StatesNumbers t words) is here)
+    (subst (λ (t : Task). StatesNumbers t words) also there))
+    ∙ sym also
 
 -- words name one task
 pub one_named : (words : List (List ℕ)) (one other : Task) → Names words one → Names words other → one ≡ other
 one_named words one other is also =
-    one_of words one other (one_kind one other (same_Some _ _ (sym is.command ∙ also.command))) is.numbers also.numbers (either words one is.numbers) (either words other also.numbers)
+    one_of words one other (one_kind one other (same_Some _ _ (sym is.command ∙ also.command))) is.numbers also.numbers
+    (either words one is.numbers) (either words other also.numbers)
 
 -- and so ask for one
 pub one_task : (words : List (List ℕ)) (one other : Task) → AsksFor words one → AsksFor words other → one ≡ other
 one_task words one other asks others =
-    one_named words one other (record { command = asks.command; numbers = asks.numbers }) (record { command = others.command; numbers = others.numbers })
+    one_named words one other (record { command = asks.command; numbers = asks.numbers })
+    (record { command = others.command; numbers = others.numbers })

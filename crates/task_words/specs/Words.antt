@@ -23,7 +23,8 @@ word_of (Bridge cycles) = codes "bridge"
 word_of (Workload number) = codes "workload"
 word_of (Module wanted) = module_word wanted
 
--- so many words are a task's: its word, its numbers, and its files: a system and any number of components, for a simulation with a scenario
+-- so many words are a task's: its word, its numbers, and its files: a system and any number of components, for a simulation with
+-- a scenario
 -- between them, for a bridge with transactions; or a Verilog text and waves; or a dump; or none
 abbrev pub AreEnough : Task → ℕ → Type 0
 AreEnough Generate words = 2 ≤ words

@@ -13,8 +13,10 @@ use routed_words::{are_words_of, is_module_word, number_of, read_routed};
 const MOST_CYCLES: u32 = 65_536;
 
 /// What the words ask for. A file is named by the place of its word, from 0: word 1 is the system file, each further word a
-/// component file, where word 2 of a simulation is its scenario. Of a replay, and where it is dumped, word 1 is the Verilog text and
-/// word 2 the waves. Word 1 of a campaign and of a bridge is its number, so its files begin with word 2, and word 3 of a bridge is its
+/// component file, where word 2 of a simulation is its scenario. Of a replay, and where it is dumped, word 1 is the Verilog text
+/// and
+/// word 2 the waves. Word 1 of a campaign and of a bridge is its number, so its files begin with word 2, and word 3 of a bridge
+/// is its
 /// transactions.
 #[derive(Clone, Copy, Debug, PartialEq, Eq)]
 pub enum Task {
@@ -108,7 +110,8 @@ fn bare_task(word: &str) -> Option<Task>
 
 /// The number behind the first word.
 fn number_behind(words: &[String]) -> Option<u32>
-    ensures { MatchOption result ((n : ℕ) → ¬ StatesNumber (map string_bytes words.now) n) (StatesNumber (map string_bytes words.now)) }
+    ensures { MatchOption result ((n : ℕ) → ¬ StatesNumber (map string_bytes words.now) n)
+        (StatesNumber (map string_bytes words.now)) }
 {
     let [_, number, ..] = words else {
         return None;
@@ -118,7 +121,8 @@ fn number_behind(words: &[String]) -> Option<u32>
 
 /// The task of a word with one number.
 fn numbered_task(word: &str, number: u32) -> Option<Task>
-    ensures { MatchOption result ((task : Asked) → ¬ IsWordOf (HasNumber number) word.now task) (IsWordOf (HasNumber number) word.now) }
+    ensures { MatchOption result ((task : Asked) → ¬ IsWordOf (HasNumber number) word.now task)
+        (IsWordOf (HasNumber number) word.now) }
 {
     if word == "campaign" {
         Some(Task::Campaign { number })

@@ -69,9 +69,12 @@ unfoldable pub braced : ℕ → ℕ → ℕ → List ℕ → List ℕ → Result
 braced skip at depth text [] = flaw 0 OpenBrace
 braced (suc skip) at depth text (byte ∷ rest) = braced skip (at + 1) depth text rest
 braced zero at depth text (byte ∷ rest) =
-    if byte == close_brace then (if depth == 0 then found text (at + 1) else braced 0 (at + 1) (depth - 1) (text ++ byte ∷ []) rest)
+    if byte == close_brace
+    then (if depth == 0 then found text (at + 1) else braced 0 (at + 1) (depth - 1) (text ++ byte ∷ []) rest)
     else if byte == open_brace then braced 0 (at + 1) (depth + 1) (text ++ byte ∷ []) rest
-    else if byte == backslash then (if begins_with_line_end rest then braced (join_tail rest) (at + 1) depth (text ++ space ∷ []) rest else braced 1 (at + 1) depth (text ++ take 2 (byte ∷ rest)) rest)
+    else if byte == backslash
+    then (if begins_with_line_end rest then braced (join_tail rest) (at + 1) depth (text ++ space ∷ []) rest
+    else braced 1 (at + 1) depth (text ++ take 2 (byte ∷ rest)) rest)
     else braced 0 (at + 1) depth (text ++ kept byte rest) rest
 
 -- The text between quotes, of which `at` bytes are read and are `text`.
@@ -81,7 +84,8 @@ quoted (suc skip) at text (byte ∷ rest) = quoted skip (at + 1) text rest
 quoted zero at text (byte ∷ rest) =
     if byte == quote then found text (at + 1)
     else if substitutes byte then flaw at Substitution
-    else if byte == backslash then (if begins_with_line_end rest then quoted (join_tail rest) (at + 1) (text ++ space ∷ []) rest else flaw at Backslash)
+    else if byte == backslash
+    then (if begins_with_line_end rest then quoted (join_tail rest) (at + 1) (text ++ space ∷ []) rest else flaw at Backslash)
     else quoted 0 (at + 1) (text ++ kept byte rest) rest
 
 -- a word in braces or quotes, whose text was found
@@ -131,7 +135,8 @@ commands_from file skip front lines words [] = Ok (lines ++ filter has_word (wor
 commands_from file (suc skip) front lines words (byte ∷ rest) = commands_from file skip (front ++ byte ∷ []) lines words rest
 commands_from file zero front lines words (byte ∷ rest) =
     in_file file front (byte ∷ rest) (piece_of (not (has_word words)) (byte ∷ rest)) >>= λ next.
-    commands_from file (next.len - 1) (front ++ byte ∷ []) (lines_after next.value lines words) (words_after next.value (place_after file front) words) rest
+    commands_from file (next.len - 1) (front ++ byte ∷ []) (lines_after next.value lines words)
+    (words_after next.value (place_after file front) words) rest
 
 -- the commands of a file, or the first fault in reading order
 abbrev pub commands_of : ℕ → List ℕ → Result (List (List Word)) Fault
@@ -177,7 +182,8 @@ Refuses (faults.Refused place rule) fault = fault ≡ Some (record { place = pla
 
 -- the file is refused for this flaw
 abbrev pub IsRefusedFor : ℕ → List ℕ → Option Flaw → WordsFault → Type 0
-IsRefusedFor file bytes flaw e = (broken : Flaw) × (flaw ≡ Some broken) × (e ≡ faults.Refused (place_after file (take broken.at bytes)) broken.rule)
+IsRefusedFor file bytes flaw e =
+    (broken : Flaw) × (flaw ≡ Some broken) × (e ≡ faults.Refused (place_after file (take broken.at bytes)) broken.rule)
 
 -- a flaw stands within so many bytes
 abbrev pub IsWithin : ℕ → PieceFault → Type 0

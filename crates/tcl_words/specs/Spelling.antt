@@ -29,10 +29,14 @@ is_plain_in_braces byte = not (byte == open_brace || (byte == close_brace || byt
 -- stays, with the byte behind it, which counts as no brace.
 pub data InBraces : List ℕ → List ℕ → Type 0 where
   nothing : InBraces [] []
-  plain : {bytes text : List ℕ} (byte : ℕ) → IsTrue (is_plain_in_braces byte) → InBraces bytes text → InBraces (byte ∷ bytes) (kept byte bytes ++ text)
-  group : {inner inner_text bytes text : List ℕ} → InBraces inner inner_text → InBraces bytes text → InBraces (open_brace ∷ (inner ++ close_brace ∷ bytes)) (open_brace ∷ (inner_text ++ close_brace ∷ text))
-  pair : {bytes text : List ℕ} (byte : ℕ) → begins_with_line_end (byte ∷ bytes) ≡ false → InBraces bytes text → InBraces (backslash ∷ byte ∷ bytes) (backslash ∷ byte ∷ text)
-  joined : {bytes text : List ℕ} (join : List ℕ) → IsJoin join bytes → InBraces bytes text → InBraces (join ++ bytes) (space ∷ text)
+  plain : {bytes text : List ℕ} (byte : ℕ) → IsTrue (is_plain_in_braces byte) → InBraces bytes text
+      → InBraces (byte ∷ bytes) (kept byte bytes ++ text)
+  group : {inner inner_text bytes text : List ℕ} → InBraces inner inner_text → InBraces bytes text
+      → InBraces (open_brace ∷ (inner ++ close_brace ∷ bytes)) (open_brace ∷ (inner_text ++ close_brace ∷ text))
+  pair : {bytes text : List ℕ} (byte : ℕ) → begins_with_line_end (byte ∷ bytes) ≡ false → InBraces bytes text
+      → InBraces (backslash ∷ byte ∷ bytes) (backslash ∷ byte ∷ text)
+  joined : {bytes text : List ℕ} (join : List ℕ) → IsJoin join bytes → InBraces bytes text
+      → InBraces (join ++ bytes) (space ∷ text)
 
 abbrev pub is_plain_in_quotes : ℕ → Bool
 is_plain_in_quotes byte = not (byte == quote || (substitutes byte || byte == backslash))
@@ -40,8 +44,10 @@ is_plain_in_quotes byte = not (byte == quote || (substitutes byte || byte == bac
 -- the bytes between two quotes, and the text that they stand for
 pub data InQuotes : List ℕ → List ℕ → Type 0 where
   nothing : InQuotes [] []
-  plain : {bytes text : List ℕ} (byte : ℕ) → IsTrue (is_plain_in_quotes byte) → InQuotes bytes text → InQuotes (byte ∷ bytes) (kept byte bytes ++ text)
-  joined : {bytes text : List ℕ} (join : List ℕ) → IsJoin join bytes → InQuotes bytes text → InQuotes (join ++ bytes) (space ∷ text)
+  plain : {bytes text : List ℕ} (byte : ℕ) → IsTrue (is_plain_in_quotes byte) → InQuotes bytes text
+      → InQuotes (byte ∷ bytes) (kept byte bytes ++ text)
+  joined : {bytes text : List ℕ} (join : List ℕ) → IsJoin join bytes → InQuotes bytes text
+      → InQuotes (join ++ bytes) (space ∷ text)
 
 -- a byte of a bare word
 abbrev pub is_bare : ℕ → Bool
@@ -70,10 +76,13 @@ pub data IsPiece : Bool → Piece → List ℕ → List ℕ → Type 0 where
   join : {fresh : Bool} {join rest : List ℕ} → IsJoin join rest → IsPiece fresh Gap join rest
   end : {fresh : Bool} {rest : List ℕ} (byte : ℕ) → IsTrue (is_separator byte) → IsPiece fresh End (byte ∷ []) rest
   comment : {bytes rest : List ℕ} → IsComment (hash ∷ bytes) rest → IsPiece true Gap (hash ∷ bytes) rest
-  bare : {fresh : Bool} {byte : ℕ} {bytes rest : List ℕ} → IsTrue (begins_bare fresh byte) → IsTrue (list_all is_bare (byte ∷ bytes)) → IsTrue (ends_word rest)
+  bare : {fresh : Bool} {byte : ℕ} {bytes rest : List ℕ} → IsTrue (begins_bare fresh byte)
+      → IsTrue (list_all is_bare (byte ∷ bytes)) → IsTrue (ends_word rest)
       → IsPiece fresh (Says (byte ∷ bytes)) (byte ∷ bytes) rest
-  braced : {fresh : Bool} {bytes text rest : List ℕ} → InBraces bytes text → IsTrue (ends_word rest) → IsPiece fresh (Says text) (open_brace ∷ (bytes ++ close_brace ∷ [])) rest
-  quoted : {fresh : Bool} {bytes text rest : List ℕ} → InQuotes bytes text → IsTrue (ends_word rest) → IsPiece fresh (Says text) (quote ∷ (bytes ++ quote ∷ [])) rest
+  braced : {fresh : Bool} {bytes text rest : List ℕ} → InBraces bytes text → IsTrue (ends_word rest)
+      → IsPiece fresh (Says text) (open_brace ∷ (bytes ++ close_brace ∷ [])) rest
+  quoted : {fresh : Bool} {bytes text rest : List ℕ} → InQuotes bytes text → IsTrue (ends_word rest)
+      → IsPiece fresh (Says text) (quote ∷ (bytes ++ quote ∷ [])) rest
 
 -- a piece and its bytes
 pub record Spelled : Type 0 where
@@ -91,7 +100,8 @@ fresh_after fresh (Says text) = false
 
 abbrev pub ArePieces : Bool → List Spelled → Type 0
 ArePieces fresh [] = Unit {0}
-ArePieces fresh (spelled ∷ pieces) = IsPiece fresh spelled.piece spelled.bytes (spelling pieces) × ArePieces (fresh_after fresh spelled.piece) pieces
+ArePieces fresh (spelled ∷ pieces) =
+    IsPiece fresh spelled.piece spelled.bytes (spelling pieces) × ArePieces (fresh_after fresh spelled.piece) pieces
 
 -- the words up to the first end of a command, and those of each command behind it
 pub record Lines : Type 0 where
@@ -107,7 +117,8 @@ with_piece (Says text) place lines = record { first = placed text place ∷ line
 -- the lines of pieces behind the bytes `front` of a file
 abbrev pub lines_of : ℕ → List ℕ → List Spelled → Lines
 lines_of file front [] = record { first = []; later = [] }
-lines_of file front (spelled ∷ pieces) = with_piece spelled.piece (place_after file front) (lines_of file (front ++ spelled.bytes) pieces)
+lines_of file front (spelled ∷ pieces) =
+    with_piece spelled.piece (place_after file front) (lines_of file (front ++ spelled.bytes) pieces)
 
 -- the lines that have a word
 abbrev pub commands_in : Lines → List (List Word)

@@ -14,25 +14,32 @@ pub fn no_two_readings()
 
 /// The bytes of a file spell a script or have a first fault, and never both.
 pub fn spelled_or_faulty()
-    ensures either { (file : ℕ) (bytes : List ℕ) → ((script : Script) × Spells file bytes script) ⊎ ((fault : Fault) × (first_word_fault file bytes ≡ Some fault)) }
-    ensures never_both { (file : ℕ) (bytes : List ℕ) (script : Script) → Spells file bytes script → first_word_fault file bytes ≡ None }
+    ensures either { (file : ℕ) (bytes : List ℕ)
+        → ((script : Script) × Spells file bytes script) ⊎ ((fault : Fault) × (first_word_fault file bytes ≡ Some fault)) }
+    ensures never_both { (file : ℕ) (bytes : List ℕ) (script : Script) → Spells file bytes script
+        → first_word_fault file bytes ≡ None }
 {}
 
 /// A fault is the one that reading from left to right finds exactly where it stands as the first in the whole text.
 pub fn first_fault_is_read()
-    ensures stands { (file : ℕ) (bytes : List ℕ) (fault : Fault) → first_word_fault file bytes ≡ Some fault → IsFirstFault file bytes fault }
-    ensures read { (file : ℕ) (bytes : List ℕ) (fault : Fault) → IsFirstFault file bytes fault → first_word_fault file bytes ≡ Some fault }
+    ensures stands { (file : ℕ) (bytes : List ℕ) (fault : Fault) → first_word_fault file bytes ≡ Some fault
+        → IsFirstFault file bytes fault }
+    ensures read { (file : ℕ) (bytes : List ℕ) (fault : Fault) → IsFirstFault file bytes fault
+        → first_word_fault file bytes ≡ Some fault }
 {}
 
 /// A file has one first fault at most: one place and one rule.
 pub fn no_two_first_faults()
-    ensures { (file : ℕ) (bytes : List ℕ) (one other : Fault) → IsFirstFault file bytes one → IsFirstFault file bytes other → one ≡ other }
+    ensures { (file : ℕ) (bytes : List ℕ) (one other : Fault) → IsFirstFault file bytes one → IsFirstFault file bytes other
+        → one ≡ other }
 {}
 
 /// The bytes of a file spell a script exactly where no fault stands in them.
 pub fn spelled_where_no_fault_stands()
-    ensures spelled { (file : ℕ) (bytes : List ℕ) → ((fault : Fault) → ¬ IsFirstFault file bytes fault) → (script : Script) × Spells file bytes script }
-    ensures no_fault { (file : ℕ) (bytes : List ℕ) (script : Script) (fault : Fault) → Spells file bytes script → ¬ IsFirstFault file bytes fault }
+    ensures spelled { (file : ℕ) (bytes : List ℕ) → ((fault : Fault) → ¬ IsFirstFault file bytes fault)
+        → (script : Script) × Spells file bytes script }
+    ensures no_fault { (file : ℕ) (bytes : List ℕ) (script : Script) (fault : Fault) → Spells file bytes script
+        → ¬ IsFirstFault file bytes fault }
 {}
 
 /// Texts that a rule refuses, at the place of their first fault.

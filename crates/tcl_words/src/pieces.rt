@@ -99,7 +99,8 @@ fn push_kept(text: &mut Bytes, bytes: &[u8], at: usize) -> Result<(), NoMemory>
 fn braced(alloc: Global, bytes: &[u8]) -> Result<Group, PieceFault>
     requires { 0 < length bytes.now }
     ensures found { Finds (λ group. record { value = group.text; len = group.len }) result (braced 0 1 0 [] (drop 1 bytes.now)) }
-    ensures within { MatchResult result (λ group. (0 < group.len) × (group.len ≤ length bytes.now)) (IsWithin (length bytes.now)) }
+    ensures within { MatchResult result (λ group. (0 < group.len) × (group.len ≤ length bytes.now))
+        (IsWithin (length bytes.now)) }
 {
     let mut text = Bytes::new(alloc);
     let mut depth = 0usize;
@@ -138,7 +139,8 @@ fn braced(alloc: Global, bytes: &[u8]) -> Result<Group, PieceFault>
 fn quoted(alloc: Global, bytes: &[u8]) -> Result<Group, PieceFault>
     requires { 0 < length bytes.now }
     ensures found { Finds (λ group. record { value = group.text; len = group.len }) result (quoted 0 1 [] (drop 1 bytes.now)) }
-    ensures within { MatchResult result (λ group. (0 < group.len) × (group.len ≤ length bytes.now)) (IsWithin (length bytes.now)) }
+    ensures within { MatchResult result (λ group. (0 < group.len) × (group.len ≤ length bytes.now))
+        (IsWithin (length bytes.now)) }
 {
     let mut text = Bytes::new(alloc);
     let mut at = 1;
@@ -195,7 +197,8 @@ fn grouped(alloc: Global, bytes: &[u8], group: Group) -> Result<Found, PieceFaul
 fn join_of(bytes: &[u8]) -> Result<Found, PieceFault>
     requires { 0 < length bytes.now }
     ensures found { Finds view result (join_of (drop 1 bytes.now)) }
-    ensures within { MatchResult result (λ piece. (0 < piece.len) × (piece.len ≤ length bytes.now)) (IsWithin (length bytes.now)) }
+    ensures within { MatchResult result (λ piece. (0 < piece.len) × (piece.len ≤ length bytes.now))
+        (IsWithin (length bytes.now)) }
 {
     if !begins_with_line_end(&bytes[1..]) {
         return flaw(0, Rule::Backslash);
@@ -211,7 +214,8 @@ fn word_of(alloc: Global, bytes: &[u8]) -> Result<Found, PieceFault>
     requires goes_on { ends_word bytes.now ≡ false }
     requires utf8 { IsUtf8 bytes.now }
     ensures found { Finds view result (word_of (slice_index bytes.now 0) (drop 1 bytes.now)) }
-    ensures within { MatchResult result (λ piece. (0 < piece.len) × (piece.len ≤ length bytes.now)) (IsWithin (length bytes.now)) }
+    ensures within { MatchResult result (λ piece. (0 < piece.len) × (piece.len ≤ length bytes.now))
+        (IsWithin (length bytes.now)) }
 {
     let byte = bytes[0];
     if byte == b'{' {
@@ -240,7 +244,8 @@ pub(crate) fn piece_of(alloc: Global, fresh: bool, bytes: &[u8]) -> Result<Found
     requires some { 0 < length bytes.now }
     requires utf8 { IsUtf8 bytes.now }
     ensures found { Finds view result (piece_of fresh bytes.now) }
-    ensures within { MatchResult result (λ piece. (0 < piece.len) × (piece.len ≤ length bytes.now)) (IsWithin (length bytes.now)) }
+    ensures within { MatchResult result (λ piece. (0 < piece.len) × (piece.len ≤ length bytes.now))
+        (IsWithin (length bytes.now)) }
 {
     let byte = bytes[0];
     if is_blank(byte) {

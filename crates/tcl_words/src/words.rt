@@ -191,7 +191,8 @@ impl Commands {
         // What is read is what the bytes spell.
         ensures spelled { IfOk result (Spells file bytes.now) }
         // What they spell is read, unless memory runs out.
-        ensures only { (script : Script) → Spells file bytes.now script → MatchResult result (λ commands. commands ≡ script) (λ e. e ≡ WordsFault.NoMemory) }
+        ensures only { (script : Script) → Spells file bytes.now script
+            → MatchResult result (λ commands. commands ≡ script) (λ e. e ≡ WordsFault.NoMemory) }
         // A refusal is the first fault.
         ensures refused { IfErr result (λ e. Refuses e (first_word_fault file bytes.now)) }
         // Where there is a fault, nothing is read.

@@ -1,4 +1,5 @@
-//! Rows of files: each the number of a word, a place in the file of that name and how many bytes are wanted there, or `all` and the most bytes
+//! Rows of files: each the number of a word, a place in the file of that name and how many bytes are wanted there, or `all` and
+//! the most bytes
 //! that a whole file may have. One shelf of real files gives them, row by row, through a sink of the standard output.
 
 use av_base::NoMemory;

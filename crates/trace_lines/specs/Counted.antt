@@ -10,7 +10,10 @@ use Rattle.trace_lines.specs.Told.{HostEnd, AgentEnd, StreamEnds, RunEnds}
 
 -- the beats of writes that an agent took before a cycle, and the words that reads asked of it
 abbrev pub beats_taken : ℕ → AgentEnd → ℕ
-beats_taken c agent = length (flat_map (λ (transfer : Transfer). transfer.beats) (accepted agent.side.shape agent.view.signals (agent_accepts agent.side agent.view) c))
+beats_taken c agent =
+    length
+    (flat_map (λ (transfer : Transfer). transfer.beats)
+    (accepted agent.side.shape agent.view.signals (agent_accepts agent.side agent.view) c))
 
 -- the words that a host was given
 abbrev pub words_given : ℕ → HostEnd → ℕ

@@ -45,7 +45,8 @@ code_at c host = if host.side.has_response then Some (host.view.response c) else
 -- of a host: the word that it is given, with its code
 abbrev pub told_of_host : ℕ → HostEnd → List (List ℕ)
 told_of_host c host =
-    only_if (gives_word host.side host.view c) (get_line c host.name (word (8 * host.side.word_bytes) (host.view.readdata c)) (code_at c host))
+    only_if (gives_word host.side host.view c)
+    (get_line c host.name (word (8 * host.side.word_bytes) (host.view.readdata c)) (code_at c host))
 
 -- what an agent shows when it takes a transfer
 abbrev pub taken_at : ℕ → AgentEnd → Transfer
@@ -53,11 +54,13 @@ taken_at c agent = transfer_at agent.side.shape agent.view.signals (agent_accept
 
 abbrev pub told_of_write : ℕ → AgentEnd → Beat → List ℕ
 told_of_write c agent beat =
-    write_line c agent.name (agent.view.grant c) (beat.address % agent.side.span) (word agent.side.word_bytes beat.enables) (word (8 * agent.side.word_bytes) beat.word)
+    write_line c agent.name (agent.view.grant c) (beat.address % agent.side.span) (word agent.side.word_bytes beat.enables)
+    (word (8 * agent.side.word_bytes) beat.word)
 
 abbrev pub told_of_read : ℕ → AgentEnd → Transfer → List ℕ
 told_of_read c agent transfer =
-    read_line c agent.name (agent.view.grant c) (transfer.first % agent.side.span) (word agent.side.word_bytes (agent.view.enables c)) (length transfer.beats)
+    read_line c agent.name (agent.view.grant c) (transfer.first % agent.side.span)
+    (word agent.side.word_bytes (agent.view.enables c)) (length transfer.beats)
 
 -- a read is told once, and of a write its beat
 abbrev pub told_of_transfer : ℕ → AgentEnd → Transfer → List (List ℕ)
@@ -101,7 +104,8 @@ told_of_stream c stream =
 
 -- the lines of a cycle: hosts, agents and streams, each in order
 abbrev pub told_in : RunEnds → ℕ → List (List ℕ)
-told_in run c = flat_map (told_of_host c) run.hosts ++ flat_map (told_of_agent c) run.agents ++ flat_map (told_of_stream c) run.streams
+told_in run c =
+    flat_map (told_of_host c) run.hosts ++ flat_map (told_of_agent c) run.agents ++ flat_map (told_of_stream c) run.streams
 
 -- the lines of so many cycles
 abbrev pub trace_of : RunEnds → ℕ → List (List ℕ)

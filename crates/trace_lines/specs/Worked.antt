@@ -10,7 +10,9 @@ use Rattle.trace_lines.specs.Told.{StreamEnd, RunEnds}
 
 -- three beats, of which the second waits for a cycle
 abbrev pub wire_view : EndView
-wire_view = showing (signal_of (1 ∷ 0 ∷ 1 ∷ 1 ∷ 0 ∷ 1 ∷ [])) (Some (opens (word 0x11)) ∷ Some (word 0x22) ∷ Some (word 0x22) ∷ Some (closes 0 (word 0x33)) ∷ [])
+wire_view =
+    showing (signal_of (1 ∷ 0 ∷ 1 ∷ 1 ∷ 0 ∷ 1 ∷ []))
+    (Some (opens (word 0x11)) ∷ Some (word 0x22) ∷ Some (word 0x22) ∷ Some (closes 0 (word 0x33)) ∷ [])
 
 abbrev pub wire_end : List ℕ → StreamEnd
 wire_end name = record { name = name; side = side_of byte_packets; view = wire_view }

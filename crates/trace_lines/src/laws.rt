@@ -1,4 +1,5 @@
-//! What holds of the counts of every run and of names, and small runs with their lines. The functions do nothing; their contracts are the laws.
+//! What holds of the counts of every run and of names, and small runs with their lines. The functions do nothing; their contracts
+//! are the laws.
 
 ghost use Rattle.std.specs.Prelude.{◌≡◌, ◌≤◌, ℕ, suc, ◌*◌, ◌%◌, [], ◌∷◌, length, IsTrue, IsFalse, codes, false};
 ghost use Rattle.av_base.specs.Word.{word};
@@ -34,11 +35,24 @@ pub fn counts_grow_by_cycles()
 
 /// What is told of an agent, and counted, by what stands on its ports.
 pub fn agents_are_told_by_their_ports()
-    ensures nothing { (c : ℕ) (agent : AgentEnd) → IsFalse (agent_accepts agent.side agent.view c) → (told_of_agent c agent ≡ []) × (beats_taken_in c agent ≡ 0) }
-    ensures write { (c : ℕ) (agent : AgentEnd) → IsTrue (agent_accepts agent.side agent.view c) → IsTrue (is_raised (agent.view.write c)) → told_of_agent c agent ≡ write_line c agent.name (agent.view.grant c) (write_address c agent % agent.side.span) (word agent.side.word_bytes (agent.view.enables c)) (word (8 * agent.side.word_bytes) (agent.view.word c)) ∷ [] }
-    ensures read { (c : ℕ) (agent : AgentEnd) → IsTrue (agent_accepts agent.side agent.view c) → IsFalse (is_raised (agent.view.write c)) → told_of_agent c agent ≡ read_line c agent.name (agent.view.grant c) (read_address c agent % agent.side.span) (word agent.side.word_bytes (agent.view.enables c)) (agent.view.count c) ∷ [] }
-    ensures one_beat { (c : ℕ) (agent : AgentEnd) → IsTrue (agent_accepts agent.side agent.view c) → IsTrue (is_raised (agent.view.write c)) → beats_taken_in c agent ≡ 1 }
-    ensures words { (c : ℕ) (agent : AgentEnd) → IsTrue (agent_accepts agent.side agent.view c) → IsFalse (is_raised (agent.view.write c)) → beats_taken_in c agent ≡ agent.view.count c }
+    ensures nothing { (c : ℕ) (agent : AgentEnd) → IsFalse (agent_accepts agent.side agent.view c)
+        → (told_of_agent c agent ≡ []) × (beats_taken_in c agent ≡ 0) }
+    ensures write { (c : ℕ) (agent : AgentEnd) → IsTrue (agent_accepts agent.side agent.view c)
+        → IsTrue (is_raised (agent.view.write c))
+        → told_of_agent c agent
+        ≡ write_line c agent.name (agent.view.grant c) (write_address c agent % agent.side.span)
+        (word agent.side.word_bytes (agent.view.enables c)) (word (8 * agent.side.word_bytes) (agent.view.word c))
+        ∷ [] }
+    ensures read { (c : ℕ) (agent : AgentEnd) → IsTrue (agent_accepts agent.side agent.view c)
+        → IsFalse (is_raised (agent.view.write c))
+        → told_of_agent c agent
+        ≡ read_line c agent.name (agent.view.grant c) (read_address c agent % agent.side.span)
+        (word agent.side.word_bytes (agent.view.enables c)) (agent.view.count c)
+        ∷ [] }
+    ensures one_beat { (c : ℕ) (agent : AgentEnd) → IsTrue (agent_accepts agent.side agent.view c)
+        → IsTrue (is_raised (agent.view.write c)) → beats_taken_in c agent ≡ 1 }
+    ensures words { (c : ℕ) (agent : AgentEnd) → IsTrue (agent_accepts agent.side agent.view c)
+        → IsFalse (is_raised (agent.view.write c)) → beats_taken_in c agent ≡ agent.view.count c }
 {}
 
 /// Three beats pass a wire in six cycles. One that waits is told of when it passes.
@@ -49,7 +63,8 @@ pub fn stream_is_told()
     ensures told_while_it_waits { ¬ (told_in packet_wire 1 ≡ codes "1 sent gen.out 22 0 0 - 0\n" ∷ []) }
 {}
 
-/// Each beat of a write burst has its own offset, below the span. A read is told once, and a word in the cycle in which it is given.
+/// Each beat of a write burst has its own offset, below the span. A read is told once, and a word in the cycle in which it is
+/// given.
 pub fn memory_is_told()
     ensures lines { trace_of one_host 5 ≡
         codes "0 write m.s1 1 000000fc f 00000011\n" ∷ codes "2 write m.s1 1 00000000 3 00000022\n" ∷ codes "3 read m.s1 1 00000004 f 3\n" ∷ codes "4 get h.m 0000002a\n" ∷ codes "end 5\n" ∷ [] }
@@ -61,9 +76,12 @@ pub fn memory_is_told()
 
 /// The line of a word bears its own host's code of that cycle, where the host has `response`.
 pub fn codes_are_told()
-    ensures lines { told_in three_hosts 4 ≡ codes "4 get h.m 0000002a 2\n" ∷ codes "4 get g.m 0000002a 0\n" ∷ codes "4 get f.m 0000002a\n" ∷ [] }
-    ensures left_out { ¬ (told_in three_hosts 4 ≡ codes "4 get h.m 0000002a\n" ∷ codes "4 get g.m 0000002a\n" ∷ codes "4 get f.m 0000002a\n" ∷ []) }
-    ensures of_another { ¬ (told_in three_hosts 4 ≡ codes "4 get h.m 0000002a 0\n" ∷ codes "4 get g.m 0000002a 0\n" ∷ codes "4 get f.m 0000002a\n" ∷ []) }
+    ensures lines { told_in three_hosts 4
+        ≡ codes "4 get h.m 0000002a 2\n" ∷ codes "4 get g.m 0000002a 0\n" ∷ codes "4 get f.m 0000002a\n" ∷ [] }
+    ensures left_out { ¬ (told_in three_hosts 4
+        ≡ codes "4 get h.m 0000002a\n" ∷ codes "4 get g.m 0000002a\n" ∷ codes "4 get f.m 0000002a\n" ∷ []) }
+    ensures of_another { ¬ (told_in three_hosts 4
+        ≡ codes "4 get h.m 0000002a 0\n" ∷ codes "4 get g.m 0000002a 0\n" ∷ codes "4 get f.m 0000002a\n" ∷ []) }
 {}
 
 /// How numbers without zeros in front and beats are spelled. `empty` counts at the end of a packet alone.
@@ -73,6 +91,7 @@ pub fn beats_are_spelled()
     ensures sixteen { short_hex 16 ≡ codes "10" }
     ensures largest { short_hex 0xffffffff ≡ codes "ffffffff" }
     ensures whole_packet { got_line 3 (codes "k.i") whole_packet ≡ codes "3 got k.i 00a 1f 0 se 2\n" }
-    ensures inside { sent_line 10 (codes "s.o") (record whole_packet { first = false; last = false }) ≡ codes "10 sent s.o 00a 1f 0 - 0\n" }
+    ensures inside { sent_line 10 (codes "s.o") (record whole_packet { first = false; last = false })
+        ≡ codes "10 sent s.o 00a 1f 0 - 0\n" }
     ensures dropped { dropped_line 4 (codes "k.i") ≡ codes "4 dropped k.i\n" }
 {}

@@ -38,7 +38,8 @@ pub fn get_line(event: &WordGiven) -> Line
 /// What the lines of writes and reads begin with.
 fn taken_line(what: &[u8], taken: &CommandTaken) -> Line
     requires { length what.now ≤ 9 }
-    ensures text { result ≡ taken_text what.now taken.now.cycle (name_of taken.now.agent) taken.now.host taken.now.offset taken.now.enables }
+    ensures text { result
+        ≡ taken_text what.now taken.now.cycle (name_of taken.now.agent) taken.now.host taken.now.offset taken.now.enables }
     ensures short { length result ≤ 221 }
 {
     let mut line = line_of(taken.cycle, what, &taken.agent);
@@ -50,7 +51,8 @@ fn taken_line(what: &[u8], taken: &CommandTaken) -> Line
 
 /// The line of a beat of a write that an agent takes: its word is as wide as the agent's.
 pub fn write_line(taken: &CommandTaken, word: Val) -> Line
-    ensures { result ≡ write_line taken.now.cycle (name_of taken.now.agent) taken.now.host taken.now.offset taken.now.enables word }
+    ensures { result
+        ≡ write_line taken.now.cycle (name_of taken.now.agent) taken.now.host taken.now.offset taken.now.enables word }
 {
     let mut line = taken_line(b" write ", taken);
     put_value(&mut line, word);
@@ -60,7 +62,8 @@ pub fn write_line(taken: &CommandTaken, word: Val) -> Line
 
 /// The line of a read of so many words that an agent takes.
 pub fn read_line(taken: &CommandTaken, count: u16) -> Line
-    ensures { result ≡ read_line taken.now.cycle (name_of taken.now.agent) taken.now.host taken.now.offset taken.now.enables count }
+    ensures { result
+        ≡ read_line taken.now.cycle (name_of taken.now.agent) taken.now.host taken.now.offset taken.now.enables count }
 {
     let mut line = taken_line(b" read ", taken);
     line.put_part(b" ", u64::from(count));

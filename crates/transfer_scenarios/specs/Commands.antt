@@ -12,7 +12,8 @@ use Rattle.packet_bytes.specs.Commands.{lane_byte, enables_below, word_address}
 -- the word that a write has, of the bytes of the lanes below so many, that of lane 0 lowest
 abbrev pub word_below : ℕ → List ℕ → ℕ → ℕ → ℕ
 word_below word_bytes bytes word zero = 0
-word_below word_bytes bytes word (suc lane) = word_below word_bytes bytes word lane + lane_byte word_bytes bytes word lane * 256 ^ lane
+word_below word_bytes bytes word (suc lane) =
+    word_below word_bytes bytes word lane + lane_byte word_bytes bytes word lane * 256 ^ lane
 
 -- the command of a word of a transaction: a write of one word or a read of one, with just the lanes that its bytes touch
 abbrev pub command : ℕ → Code → List ℕ → ℕ → HostStatement
@@ -24,14 +25,17 @@ command word_bytes code bytes word =
 -- those of the words below so many, in rising order
 abbrev pub commands_below : ℕ → Code → List ℕ → ℕ → List HostStatement
 commands_below word_bytes code bytes zero = []
-commands_below word_bytes code bytes (suc word) = commands_below word_bytes code bytes word ++ command word_bytes code bytes word ∷ []
+commands_below word_bytes code bytes (suc word) =
+    commands_below word_bytes code bytes word ++ command word_bytes code bytes word ∷ []
 
 abbrev pub commands_by : ℕ → List ℕ → Option Code → List HostStatement
 commands_by word_bytes bytes None = []
 commands_by word_bytes bytes (Some WriteFixed) = commands_below word_bytes WriteFixed bytes (words_of word_bytes bytes)
-commands_by word_bytes bytes (Some WriteIncrementing) = commands_below word_bytes WriteIncrementing bytes (words_of word_bytes bytes)
+commands_by word_bytes bytes (Some WriteIncrementing) =
+    commands_below word_bytes WriteIncrementing bytes (words_of word_bytes bytes)
 commands_by word_bytes bytes (Some ReadFixed) = commands_below word_bytes ReadFixed bytes (words_of word_bytes bytes)
-commands_by word_bytes bytes (Some ReadIncrementing) = commands_below word_bytes ReadIncrementing bytes (words_of word_bytes bytes)
+commands_by word_bytes bytes (Some ReadIncrementing) =
+    commands_below word_bytes ReadIncrementing bytes (words_of word_bytes bytes)
 commands_by word_bytes bytes (Some NoTransaction) = []
 
 abbrev pub packet_commands : ℕ → Packet → List HostStatement

@@ -11,10 +11,13 @@ ghost use Rattle.transfer_scenarios.specs.Stated.{AreStated};
 
 use link_rules::ends_are_known;
 
-/// The text of transactions at host 0 of a system is a scenario of it: so many cycles, and their commands at that host, one after the other.
+/// The text of transactions at host 0 of a system is a scenario of it: so many cycles, and their commands at that host, one after
+/// the other.
 pub fn transfers_are_stated()
-    ensures { (system : SystemTable) (port : HostPort) (cycles : ℕ) (bytes : List ℕ) (transfers : Transfers) → IsSystem system → IsTransferHost system port → IsBoundedHost port → 1 ≤ cycles → cycles ≤ 65536
-        → ((k : ℕ) → slice_index bytes k < 256) → AreTransfers port.word_bytes (range_of port) bytes transfers → AreStated system cycles transfers }
+    ensures { (system : SystemTable) (port : HostPort) (cycles : ℕ) (bytes : List ℕ) (transfers : Transfers) → IsSystem system
+        → IsTransferHost system port → IsBoundedHost port → 1 ≤ cycles → cycles ≤ 65536
+        → ((k : ℕ) → slice_index bytes k < 256) → AreTransfers port.word_bytes (range_of port) bytes transfers
+        → AreStated system cycles transfers }
 {
     ends_are_known();
 }

@@ -1,4 +1,5 @@
--- The rows of a dump as text: a line for each cycle, with its number and the value at each port, and behind them a line with their number.
+-- The rows of a dump as text: a line for each cycle, with its number and the value at each port, and behind them a line with
+-- their number.
 use Rattle.std.specs.Prelude.{◌≡◌, ℕ, ◌+◌, ◌*◌, ◌/◌, ◌^◌, ◌<◌, ◌≤◌, List, [], ◌∷◌, ◌++◌, length, codes, decimal}
 use Rattle.av_base.specs.Word.{Word}
 use Rattle.vcd_text.specs.declared.port.DumpPort.{DumpPort}

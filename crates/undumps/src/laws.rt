@@ -6,7 +6,8 @@ ghost use Rattle.undumps.specs.Undumps.{CanUndump, IsUndumpOf, IsUndumpFault};
 
 use vcd_reader::{no_two_dumps, only_dumps_are_read, texts_are_read};
 
-/// Bytes are the text of a dump whose rows are written, or are refused, never both, and for one reason; and the rows have one text at most.
+/// Bytes are the text of a dump whose rows are written, or are refused, never both, and for one reason; and the rows have one
+/// text at most.
 pub fn dumps_are_written_or_refused()
     ensures either { (bytes : List ℕ) → CanUndump bytes ⊎ ((fault : Fault) × IsUndumpFault bytes fault) }
     ensures never_both { (bytes : List ℕ) (fault : Fault) → CanUndump bytes → ¬ IsUndumpFault bytes fault }

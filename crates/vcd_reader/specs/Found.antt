@@ -1,4 +1,5 @@
--- What is found where a part of a text has to stand. A text is read from left to right: what was read is good, and the first fault stands where the next part doesn't fit.
+-- What is found where a part of a text has to stand. A text is read from left to right: what was read is good, and the first
+-- fault stands where the next part doesn't fit.
 use Rattle.std.specs.Prelude.{ℕ, Bool, ◌==◌, List, [], ◌∷◌, take, drop, Option, Some, None, if◌then◌else◌}
 use Rattle.std.specs.List.{prefix_len}
 use Rattle.vcd_reader.specs.declared.rule.Rule.{Rule}
@@ -27,4 +28,5 @@ told_or rule text rest (Some a) = Found.told a rest
 
 -- a hole: the longest run of such bytes
 unfoldable pub hole : {A : Type 0} → (ℕ → Bool) → Rule → (List ℕ → Option A) → List ℕ → Found A
-hole is_of_run rule tells text = told_or rule text (drop (prefix_len is_of_run text) text) (tells (take (prefix_len is_of_run text) text))
+hole is_of_run rule tells text =
+    told_or rule text (drop (prefix_len is_of_run text) text) (tells (take (prefix_len is_of_run text) text))

@@ -93,19 +93,27 @@ changed before (Some value) = if value.bits == before.bits then None else Some v
 
 -- one change: the port behind it, and the row that it makes
 abbrev pub changed_row : List ℕ → ℕ → List Word → List ℕ → Found (ℕ × List Word)
-changed_row widths next row text = followed (change_line widths next row text) (λ line text. Found.told (line.0 + 1, slice_set row line.0 line.1) text)
+changed_row widths next row text =
+    followed (change_line widths next row text) (λ line text. Found.told (line.0 + 1, slice_set row line.0 line.1) text)
 
 -- the first row
 abbrev pub first_row : List ℕ → List ℕ → Found (List Word)
-first_row widths text = followed (fixed (codes "#0\n$dumpvars\n") text) (λ _ text. followed (first_values 0 widths text) (λ row text. followed (fixed (codes "$end\n") text) (λ _ text. Found.told row text)))
+first_row widths text =
+    followed
+    (fixed (codes "#0\n$dumpvars\n") text) (λ _ text. followed
+    (first_values 0 widths text) (λ row text. followed (fixed (codes "$end\n") text) (λ _ text. Found.told row text)))
 
 -- the first row, and the time behind it
 abbrev pub begun : List ℕ → List ℕ → Found (ℕ × List Word)
-begun widths text = followed (first_row widths text) (λ row text. followed (time_line 0 text) (λ time text. Found.told (time, row) text))
+begun widths text =
+    followed (first_row widths text) (λ row text. followed (time_line 0 text) (λ time text. Found.told (time, row) text))
 
 -- the row of a time, behind this one, and the time behind it
 abbrev pub later_row : List ℕ → ℕ → List Word → List ℕ → Found (ℕ × List Word)
-later_row widths time row text = followed (change_lines (suc (length widths)) widths 0 row text) (λ now text. followed (time_line time text) (λ later text. Found.told (later, now) text))
+later_row widths time row text =
+    followed
+    (change_lines (suc (length widths)) widths 0 row text) (λ now text. followed
+    (time_line time text) (λ later text. Found.told (later, now) text))
 
 -- the rows that are told
 abbrev pub rows_told : Found (List (List Word)) → List (List Word)

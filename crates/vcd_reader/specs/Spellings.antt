@@ -27,15 +27,21 @@ number_behind radix before (digit ∷ digits) = number_behind radix (before * ra
 -- a number above one and up to another, of which the digits are the decimal
 abbrev pub number_in : ℕ → ℕ → List ℕ → Option ℕ
 number_in above most run =
-    if bytes_eq run (decimal (number_behind 10 0 run)) && (nat_lt above (number_behind 10 0 run) && nat_lt (number_behind 10 0 run) (most + 1)) then Some (number_behind 10 0 run) else None
+    if bytes_eq run (decimal (number_behind 10 0 run))
+    && (nat_lt above (number_behind 10 0 run) && nat_lt (number_behind 10 0 run) (most + 1))
+    then Some (number_behind 10 0 run) else None
 
 -- the name of a module
 abbrev pub module_name_in : List ℕ → Option (List ℕ)
-module_name_in run = if begins_with_letter run && (list_all is_name_byte run && ends_with nat_eq run (codes "_interconnect")) then Some run else None
+module_name_in run =
+    if begins_with_letter run && (list_all is_name_byte run && ends_with nat_eq run (codes "_interconnect")) then Some run
+    else None
 
 -- the name of a port behind these
 abbrev pub port_name_in : List DumpPort → List ℕ → Option (List ℕ)
-port_name_in ports run = if begins_with_letter run && (list_any is_dollar run && not (list_any (λ (port : DumpPort). bytes_eq port.name run) ports)) then Some run else None
+port_name_in ports run =
+    if begins_with_letter run && (list_any is_dollar run && not (list_any (λ (port : DumpPort). bytes_eq port.name run) ports))
+    then Some run else None
 
 -- the number of the port with a code: its bytes less 33 are digits, the lowest first, each behind the first counted from 1
 abbrev pub port_number : List ℕ → ℕ
@@ -60,4 +66,5 @@ is_bit byte = byte == 48 || byte == 49
 abbrev pub value_in : ℕ → Spelled → Option Word
 value_in width (Spelled.bit byte) = if width == 1 && is_bit byte then Some (word 1 (byte - 48)) else None
 value_in width (Spelled.digits run) =
-    if nat_lt 1 width && (bytes_eq run (binary width (number_behind 2 0 run)) && nat_lt (number_behind 2 0 run) (2 ^ width)) then Some (word width (number_behind 2 0 run)) else None
+    if nat_lt 1 width && (bytes_eq run (binary width (number_behind 2 0 run)) && nat_lt (number_behind 2 0 run) (2 ^ width))
+    then Some (word width (number_behind 2 0 run)) else None

@@ -15,15 +15,20 @@ pub record RowsValue : Type 0 where
   pub rows : List (List Word)
   pub cycle : ℕ
 
--- what is told behind the line of a time, before which these rows stand: they are all where the text ends there, else changes and the lines of so many times at most follow
+-- what is told behind the line of a time, before which these rows stand: they are all where the text ends there, else changes and
+-- the lines of so many times at most follow
 abbrev pub behind_time : ℕ → List ℕ → ℕ → List (List Word) → List Word → List ℕ → Found (List (List Word))
 behind_time few widths time front row text = elim (is_empty text) [
   | true ↦ Found.told front text
-  | false ↦ followed (change_lines (suc (length widths)) widths 0 row text) (λ now text. time_lines few widths time (front ++ now ∷ []) now text)
+  | false ↦
+      followed
+      (change_lines (suc (length widths)) widths 0 row text) (λ now text. time_lines few widths time (front ++ now ∷ []) now text)
 ]
 
--- Where a reader of rows is, behind the line of a time, of all that is found: this text is ahead, and from a cycle up to the time the row stays the same.
-pub record IsUnder (widths : List ℕ) (found : Found (List (List Word))) (cycle time : ℕ) (row : List Word) (text : List ℕ) : Type 0 where
+-- Where a reader of rows is, behind the line of a time, of all that is found: this text is ahead, and from a cycle up to the time
+-- the row stays the same.
+pub record IsUnder (widths : List ℕ) (found : Found (List (List Word))) (cycle time : ℕ) (row : List Word)
+    (text : List ℕ) : Type 0 where
   pub few : ℕ
   pub front : List (List Word)
   pub goes_on : found ≡ behind_time few widths time front row text

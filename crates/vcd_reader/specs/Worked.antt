@@ -20,7 +20,8 @@ IsRefused text byte rule = fault_in text (dump_read text) ≡ Some (byte, rule)
 
 -- a header of a port of one bit and one of two, and the first row
 abbrev pub two_ports : List ℕ
-two_ports = codes "$timescale 1 ns $end\n$scope module a_interconnect $end\n$var wire 1 ! a$b $end\n$var wire 2 \" c$d $end\n$upscope $end\n$enddefinitions $end\n"
+two_ports =
+    codes "$timescale 1 ns $end\n$scope module a_interconnect $end\n$var wire 1 ! a$b $end\n$var wire 2 \" c$d $end\n$upscope $end\n$enddefinitions $end\n"
 
 -- its first row
 abbrev pub two_values : List ℕ

@@ -102,7 +102,8 @@ pub fn read_dump(alloc: Global, bytes: &[u8]) -> Result<Dump<'_>, DumpFault>
     requires { length bytes.now < 2 ^ 31 }
     ensures text { IfOk result (λ dump. bytes.now ≡ dump_text dump) }
     ensures sound { IfOk result IsDump }
-    ensures only { (one : DumpValue) → IsDump one → bytes.now ≡ dump_text one → MatchResult result (λ other. other ≡ one) (λ fault. fault ≡ NoRoom) }
+    ensures only { (one : DumpValue) → IsDump one → bytes.now ≡ dump_text one
+        → MatchResult result (λ other. other ≡ one) (λ fault. fault ≡ NoRoom) }
     ensures fault { IfErr result (IsFaultOf bytes.now) }
 {
     only_dumps_are_read();

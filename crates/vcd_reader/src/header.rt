@@ -23,7 +23,9 @@ fn port_follows(reader: &mut Reader) -> Result<bool, Rule>
 
 /// Adds the name of a port.
 fn add_name<'a>(names: &mut HashSet<&'a str>, name: &'a str) -> Result<(), NoMemory>
-    ensures { OnOk result ((ports : List DumpPort) (port : DumpPort) → name.now ≡ port.name → AreNamed ports names.old → AreNamed (ports ++ port ∷ []) names.new) }
+    ensures { OnOk result
+        ((ports : List DumpPort) (port : DumpPort) → name.now ≡ port.name → AreNamed ports names.old
+        → AreNamed (ports ++ port ∷ []) names.new) }
 {
     names.insert(name)?;
     Ok(())
@@ -37,9 +39,11 @@ fn port_line<'a>(
     names: &mut HashSet<&'a str>,
 ) -> Result<DumpPort, Stop>
     requires { number < 2 ^ 32 }
-    ensures read { (ports : List DumpPort) → number ≡ length ports → AreNamed ports names.old → IsFound (port_line ports reader.old) result reader.new }
+    ensures read { (ports : List DumpPort) → number ≡ length ports → AreNamed ports names.old
+        → IsFound (port_line ports reader.old) result reader.new }
     ensures bits { IfOk result HasBits }
-    ensures named { IfOk result (λ port. (ports : List DumpPort) → AreNamed ports names.old → AreNamed (ports ++ port ∷ []) names.new) }
+    ensures named { IfOk result (λ port. (ports : List DumpPort) → AreNamed ports names.old
+        → AreNamed (ports ++ port ∷ []) names.new) }
 {
     reader.fixed(b"var wire ")?;
     let width = reader.number(Rule::Width, 0, 128)?;

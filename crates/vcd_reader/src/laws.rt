@@ -24,18 +24,25 @@ pub fn dumps_are_read()
 
 /// A value that doesn't change.
 pub fn unchanged_value_is_refused()
-    ensures { IsRefused (codes "$timescale 1 ns $end\n$scope module inv_interconnect $end\n$var wire 1 ! a$b$valid $end\n$var wire 1 \" c$d$valid $end\n$upscope $end\n$enddefinitions $end\n#0\n$dumpvars\n0!\n1\"\n$end\n#1\n1!\n1\"\n#2\n") 180 Value }
+    ensures { IsRefused
+        (codes "$timescale 1 ns $end\n$scope module inv_interconnect $end\n$var wire 1 ! a$b$valid $end\n$var wire 1 \" c$d$valid $end\n$upscope $end\n$enddefinitions $end\n#0\n$dumpvars\n0!\n1\"\n$end\n#1\n1!\n1\"\n#2\n") 180 Value }
 {}
 
 /// Headers that break a rule.
 pub fn headers_are_refused()
     ensures end_missing { IsRefused (codes "") 0 OtherByte }
-    ensures leading_zero_in_a_width { IsRefused (codes "$timescale 1 ns $end\n$scope module a_interconnect $end\n$var wire 1 ! a$b $end\n$var wire 02 \" c$d $end\n$upscope $end\n$enddefinitions $end\n") 88 Width }
-    ensures width_too_large { IsRefused (codes "$timescale 1 ns $end\n$scope module a_interconnect $end\n$var wire 1 ! a$b $end\n$var wire 129 \" c$d $end\n$upscope $end\n$enddefinitions $end\n") 88 Width }
-    ensures repeated_name { IsRefused (codes "$timescale 1 ns $end\n$scope module a_interconnect $end\n$var wire 1 ! a$b $end\n$var wire 2 \" a$b $end\n$upscope $end\n$enddefinitions $end\n") 92 Name }
-    ensures name_without_a_dollar { IsRefused (codes "$timescale 1 ns $end\n$scope module a_interconnect $end\n$var wire 1 ! a$b $end\n$var wire 2 \" cd $end\n$upscope $end\n$enddefinitions $end\n") 92 Name }
-    ensures other_module_name { IsRefused (codes "$timescale 1 ns $end\n$scope module a_interconnec $end\n$var wire 1 ! a$b $end\n$var wire 2 \" c$d $end\n$upscope $end\n$enddefinitions $end\n") 35 Name }
-    ensures other_code { IsRefused (codes "$timescale 1 ns $end\n$scope module a_interconnect $end\n$var wire 1 ! a$b $end\n$var wire 2 # c$d $end\n$upscope $end\n$enddefinitions $end\n") 90 Code }
+    ensures leading_zero_in_a_width { IsRefused
+        (codes "$timescale 1 ns $end\n$scope module a_interconnect $end\n$var wire 1 ! a$b $end\n$var wire 02 \" c$d $end\n$upscope $end\n$enddefinitions $end\n") 88 Width }
+    ensures width_too_large { IsRefused
+        (codes "$timescale 1 ns $end\n$scope module a_interconnect $end\n$var wire 1 ! a$b $end\n$var wire 129 \" c$d $end\n$upscope $end\n$enddefinitions $end\n") 88 Width }
+    ensures repeated_name { IsRefused
+        (codes "$timescale 1 ns $end\n$scope module a_interconnect $end\n$var wire 1 ! a$b $end\n$var wire 2 \" a$b $end\n$upscope $end\n$enddefinitions $end\n") 92 Name }
+    ensures name_without_a_dollar { IsRefused
+        (codes "$timescale 1 ns $end\n$scope module a_interconnect $end\n$var wire 1 ! a$b $end\n$var wire 2 \" cd $end\n$upscope $end\n$enddefinitions $end\n") 92 Name }
+    ensures other_module_name { IsRefused
+        (codes "$timescale 1 ns $end\n$scope module a_interconnec $end\n$var wire 1 ! a$b $end\n$var wire 2 \" c$d $end\n$upscope $end\n$enddefinitions $end\n") 35 Name }
+    ensures other_code { IsRefused
+        (codes "$timescale 1 ns $end\n$scope module a_interconnect $end\n$var wire 1 ! a$b $end\n$var wire 2 # c$d $end\n$upscope $end\n$enddefinitions $end\n") 90 Code }
 {}
 
 /// Changes that break a rule, behind the same first row.

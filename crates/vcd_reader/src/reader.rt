@@ -106,7 +106,8 @@ impl<'a> Reader<'a> {
     /// Reads the code of a port from one up to another.
     pub(crate) fn code(&mut self, from: usize, below: usize) -> Result<usize, Rule>
         requires { below ≤ 2 ^ 32 }
-        ensures read { (lets_in : ℕ → Bool) → LetsIn from below lets_in → hole is_of_code Code (port_in lets_in) self.old ≡ found_by result self.new }
+        ensures read { (lets_in : ℕ → Bool) → LetsIn from below lets_in
+            → hole is_of_code Code (port_in lets_in) self.old ≡ found_by result self.new }
         ensures within { IfOk result (λ port. (from ≤ port) × (port < below)) }
     {
         let text = self.rest();

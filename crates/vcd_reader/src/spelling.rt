@@ -49,7 +49,8 @@ pub(crate) fn text_of(run: &[u8]) -> &str
 /// Whether the run is the name of a port behind those of these names.
 pub(crate) fn is_port_name(run: &[u8], names: &HashSet<&str>) -> bool
     requires { list_all is_of_name run.now ≡ true }
-    ensures { (ports : List DumpPort) → AreNamed ports names.now → port_name_in ports run.now ≡ (if result then Some run.now else None) }
+    ensures { (ports : List DumpPort) → AreNamed ports names.now
+        → port_name_in ports run.now ≡ (if result then Some run.now else None) }
 {
     begins_with_letter(run) && run.contains(&b'$') && !names.contains(text_of(run))
 }

@@ -26,7 +26,9 @@ pub(crate) struct Due {
 /// Reads the code of a port behind its value.
 fn coded(reader: &mut Reader, due: Due) -> Result<usize, Rule>
     requires { due.below ≤ 2 ^ 32 }
-    ensures read { (lets_in : ℕ → Bool) (spelled : Spelled) → LetsIn due.from due.below lets_in → coded lets_in spelled reader.old ≡ followed (found_by result reader.new) (λ port text. Found.told (port, spelled) text) }
+    ensures read { (lets_in : ℕ → Bool) (spelled : Spelled) → LetsIn due.from due.below lets_in
+        → coded lets_in spelled reader.old
+        ≡ followed (found_by result reader.new) (λ port text. Found.told (port, spelled) text) }
     ensures within { IfOk result (λ port. (due.from ≤ port) × (port < due.below)) }
 {
     let port = reader.code(due.from, due.below)?;
@@ -43,7 +45,8 @@ fn digits_line(
     requires bits { All HasBits ports.now }
     requires few { due.below ≤ 2 ^ 32 }
     requires there { due.below ≤ length ports.now }
-    ensures read { (width : ℕ → ℕ) (lets_in : ℕ → Bool) → Suits (widths_of ports.now) due.from due.below width lets_in → valued width (spelled_behind lets_in 98 true reader.old) ≡ found_by result reader.new }
+    ensures read { (width : ℕ → ℕ) (lets_in : ℕ → Bool) → Suits (widths_of ports.now) due.from due.below width lets_in
+        → valued width (spelled_behind lets_in 98 true reader.old) ≡ found_by result reader.new }
     ensures within { IfOk result (λ line. (due.from ≤ line.0) × (line.0 < due.below)) }
 {
     let digits = reader.run(Kind::Number);
@@ -61,7 +64,8 @@ fn bit_line(
 ) -> Result<(usize, Option<Val>), Rule>
     requires few { due.below ≤ 2 ^ 32 }
     requires there { due.below ≤ length ports.now }
-    ensures read { (width : ℕ → ℕ) (lets_in : ℕ → Bool) → Suits (widths_of ports.now) due.from due.below width lets_in → valued width (spelled_behind lets_in byte false reader.old) ≡ found_by result reader.new }
+    ensures read { (width : ℕ → ℕ) (lets_in : ℕ → Bool) → Suits (widths_of ports.now) due.from due.below width lets_in
+        → valued width (spelled_behind lets_in byte false reader.old) ≡ found_by result reader.new }
     ensures within { IfOk result (λ line. (due.from ≤ line.0) × (line.0 < due.below)) }
 {
     let port = coded(reader, due)?;
@@ -77,7 +81,8 @@ fn spelled_line(
     requires bits { All HasBits ports.now }
     requires few { due.below ≤ 2 ^ 32 }
     requires there { due.below ≤ length ports.now }
-    ensures read { (width : ℕ → ℕ) (lets_in : ℕ → Bool) → Suits (widths_of ports.now) due.from due.below width lets_in → valued width (spelled_line lets_in reader.old) ≡ found_by result reader.new }
+    ensures read { (width : ℕ → ℕ) (lets_in : ℕ → Bool) → Suits (widths_of ports.now) due.from due.below width lets_in
+        → valued width (spelled_line lets_in reader.old) ≡ found_by result reader.new }
     ensures within { IfOk result (λ line. (due.from ≤ line.0) × (line.0 < due.below)) }
 {
     let text = reader.rest();
@@ -115,7 +120,8 @@ fn first_value(reader: &mut Reader, ports: &[DumpPort], number: usize) -> Result
     requires bits { All HasBits ports.now }
     requires few { length ports.now ≤ 2 ^ 32 }
     requires there { number < length ports.now }
-    ensures { (width : ℕ → ℕ) (lets_in : ℕ → Bool) → Suits (widths_of ports.now) number (number + 1) width lets_in → value_line width lets_in (λ _ _. true) reader.old ≡ found_by result reader.new }
+    ensures { (width : ℕ → ℕ) (lets_in : ℕ → Bool) → Suits (widths_of ports.now) number (number + 1) width lets_in
+        → value_line width lets_in (λ _ _. true) reader.old ≡ found_by result reader.new }
 {
     let text = reader.rest();
     let due = Due {
@@ -212,7 +218,8 @@ pub(crate) fn take_changes(
     requires bits { All HasBits ports.now }
     requires few { length ports.now ≤ 2 ^ 32 }
     requires each { length row.old ≡ length ports.now }
-    ensures { let found = change_lines (suc (length (widths_of ports.now))) (widths_of ports.now) 0 row.old reader.old in MatchResult result (λ _. found ≡ Found.told row.new reader.new) (λ rule. found ≡ Found.broken reader.new rule) }
+    ensures { let found = change_lines (suc (length (widths_of ports.now))) (widths_of ports.now) 0 row.old reader.old in
+        MatchResult result (λ _. found ≡ Found.told row.new reader.new) (λ rule. found ≡ Found.broken reader.new rule) }
 {
     let mut next = take_change(reader, ports, 0, row)?;
     'changes: while !reader.begins(b'#') {

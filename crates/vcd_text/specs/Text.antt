@@ -24,7 +24,8 @@ binary count n = if n == 0 then codes "0" else binary_digits count n
 -- the line of a value of port k
 abbrev pub value_line : ℕ → Word → List ℕ
 value_line k value =
-    if value.width == 1 then (48 + value.bits) ∷ (code k ++ codes "\n") else codes "b" ++ binary value.width value.bits ++ codes " " ++ code k ++ codes "\n"
+    if value.width == 1 then (48 + value.bits) ∷ (code k ++ codes "\n")
+    else codes "b" ++ binary value.width value.bits ++ codes " " ++ code k ++ codes "\n"
 
 -- the lines of the values of the ports from port k on
 abbrev pub values_text : ℕ → List Word → List ℕ

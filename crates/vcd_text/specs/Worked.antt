@@ -16,22 +16,26 @@ inverter = record {
 }
 
 abbrev pub inverter_text : List ℕ
-inverter_text = codes "$timescale 1 ns $end\n$scope module inv_interconnect $end\n$var wire 1 ! a$b$valid $end\n$var wire 1 \" c$d$valid $end\n$upscope $end\n$enddefinitions $end\n#0\n$dumpvars\n0!\n1\"\n$end\n#1\n1!\n0\"\n#2\n"
+inverter_text =
+    codes "$timescale 1 ns $end\n$scope module inv_interconnect $end\n$var wire 1 ! a$b$valid $end\n$var wire 1 \" c$d$valid $end\n$upscope $end\n$enddefinitions $end\n#0\n$dumpvars\n0!\n1\"\n$end\n#1\n1!\n0\"\n#2\n"
 
 -- a port of 8 bits beside one that never changes: the rows 1 and 3 change nothing
 abbrev pub counter : DumpValue
 counter = record {
   name = codes "count_interconnect";
   ports = port (codes "a$b$data") 8 ∷ port (codes "a$b$valid") 1 ∷ [];
-  rows = (word 8 0 ∷ word 1 1 ∷ []) ∷ (word 8 0 ∷ word 1 1 ∷ []) ∷ (word 8 165 ∷ word 1 1 ∷ []) ∷ (word 8 165 ∷ word 1 1 ∷ []) ∷ [];
+  rows =
+      (word 8 0 ∷ word 1 1 ∷ []) ∷ (word 8 0 ∷ word 1 1 ∷ []) ∷ (word 8 165 ∷ word 1 1 ∷ []) ∷ (word 8 165 ∷ word 1 1 ∷ []) ∷ [];
 }
 
 abbrev pub counter_text : List ℕ
-counter_text = codes "$timescale 1 ns $end\n$scope module count_interconnect $end\n$var wire 8 ! a$b$data $end\n$var wire 1 \" a$b$valid $end\n$upscope $end\n$enddefinitions $end\n#0\n$dumpvars\nb0 !\n1\"\n$end\n#2\nb10100101 !\n#4\n"
+counter_text =
+    codes "$timescale 1 ns $end\n$scope module count_interconnect $end\n$var wire 8 ! a$b$data $end\n$var wire 1 \" a$b$valid $end\n$upscope $end\n$enddefinitions $end\n#0\n$dumpvars\nb0 !\n1\"\n$end\n#2\nb10100101 !\n#4\n"
 
 -- without ports: the last line alone tells the rows
 abbrev pub portless : DumpValue
 portless = record { name = codes "no_interconnect"; ports = []; rows = [] ∷ [] ∷ [] ∷ [] }
 
 abbrev pub portless_text : List ℕ
-portless_text = codes "$timescale 1 ns $end\n$scope module no_interconnect $end\n$upscope $end\n$enddefinitions $end\n#0\n$dumpvars\n$end\n#3\n"
+portless_text =
+    codes "$timescale 1 ns $end\n$scope module no_interconnect $end\n$upscope $end\n$enddefinitions $end\n#0\n$dumpvars\n$end\n#3\n"

@@ -30,10 +30,12 @@ pub fn values_are_spelled()
     ensures bit { value_line 0 (word 1 1) ≡ codes "1!\n" }
     ensures zero { value_line 1 (word 2 0) ≡ codes "b0 \"\n" }
     ensures no_leading_zero { value_line 0 (word 8 5) ≡ codes "b101 !\n" }
-    ensures widest { binary 128 (2 ^ 127 + 1) ≡ codes "10000000000000000000000000000000000000000000000000000000000000000000000000000000000000000000000000000000000000000000000000000001" }
+    ensures widest { binary 128 (2 ^ 127 + 1)
+        ≡ codes "10000000000000000000000000000000000000000000000000000000000000000000000000000000000000000000000000000000000000000000000000000001" }
 {}
 
 /// What is written of rows one after the other is their text.
 pub fn rows_are_joined()
-    ensures { (before row : List Word) (rows : List (List Word)) → rows_text (rows ++ row ∷ []) ≡ rows_text rows ++ row_text (length rows) (last_row before rows) row }
+    ensures { (before row : List Word) (rows : List (List Word))
+        → rows_text (rows ++ row ∷ []) ≡ rows_text rows ++ row_text (length rows) (last_row before rows) row }
 {}

@@ -90,7 +90,8 @@ impl Dumper {
     pub fn cycle<K: Sink>(&mut self, values: &[Val], sink: &mut K) -> bool
         requires widths { map (λ (value : Word). value.width) values.now ≡ widths_of self.old.ports }
         requires few { self.old.cycles + 1 < 2 ^ 32 }
-        ensures puts { Puts (row_text self.old.cycles self.old.row values.now) (written_by K.held K.faults sink.old sink.new) result }
+        ensures puts { Puts (row_text self.old.cycles self.old.row values.now)
+            (written_by K.held K.faults sink.old sink.new) result }
         ensures kept { OnTrue result (self.new ≡ record self.old { cycles = self.old.cycles + 1; row = values.now }) }
         ensures same { OnFalse result (self.new ≡ self.old) }
         ensures grows { K.faults sink.old ≤ K.faults sink.new }

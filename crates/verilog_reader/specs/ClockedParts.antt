@@ -42,8 +42,10 @@ clocked_register_form lines n w = clocked_net_form lines (λ k. k == n) (fixed (
 -- the clocked line of a memory, behind its first bracket
 abbrev pub written_memory_form : List Memory → List Line → ℕ → Memory → Form MemWrite
 written_memory_form memories lines m memory =
-    clocked_memory_form memories lines (λ k. k == m) (λ enable. fixed (codes "[") (net_form lines (λ v. v == memory.address_bits) (λ address.
-    fixed (codes "] <= ") (net_form lines (λ v. v == memory.width) (λ word. fixed (codes ";\n") (Form.whole (write_of enable address word)))))))
+    clocked_memory_form memories lines (λ k. k
+    == m) (λ enable. fixed (codes "[") (net_form lines (λ v. v == memory.address_bits) (λ address.
+    fixed (codes "] <= ")
+    (net_form lines (λ v. v == memory.width) (λ word. fixed (codes ";\n") (Form.whole (write_of enable address word)))))))
 
 -- a clocked line where none is due, from its second letter on
 abbrev pub other_clocked_form : {A : Type 0} → List Memory → List Line → Form A
@@ -51,4 +53,5 @@ other_clocked_form memories lines = always_form (other_net_form lines) (other_me
 
 -- a line where the last is due
 abbrev pub late_form : {A : Type 0} → List Memory → List Line → Bool → Form A
-late_form memories lines assigned = fixed (codes "  a") (Form.turn (none_clocked_form memories lines assigned (fixed (codes "ssign ") (Form.refuse Name))))
+late_form memories lines assigned =
+    fixed (codes "  a") (Form.turn (none_clocked_form memories lines assigned (fixed (codes "ssign ") (Form.refuse Name))))

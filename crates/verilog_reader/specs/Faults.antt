@@ -28,7 +28,8 @@ IsTextFault text NoMemory = Unit {0}
 
 -- the netlist that is read
 abbrev pub netlist_of : Parts → Netlist
-netlist_of p = record { name = p.name; ports = p.ports; lines = p.lines.items; drivers = p.drivers.items; memories = p.memories.items }
+netlist_of p =
+    record { name = p.name; ports = p.ports; lines = p.lines.items; drivers = p.drivers.items; memories = p.memories.items }
 
 -- the netlist with what stands behind the nets
 abbrev pub with_parts : Netlist → List Line → List (Option ℕ) → List Memory → Netlist

@@ -15,7 +15,8 @@ abbrev pub next : List ℕ → Option ℕ
 next [] = None
 next (b ∷ bs) = Some b
 
--- What has to stand in a text, up to a value that is then known: one byte, or a hole, of which a test names the rule that it breaks,
+-- What has to stand in a text, up to a value that is then known: one byte, or a hole, of which a test names the rule that it
+-- breaks,
 -- if any. The next byte may turn the form one way or another, and so may the text ahead, which tells the kind of a line.
 -- A place may be refused for what stands before it.
 pub data Form (A : Type 0) : Type 0 where
@@ -45,15 +46,19 @@ pub record IsHole (run behind : List ℕ) : Type 0 where
 pub data Due {A : Type 0} (due : Form A) (rest : List ℕ) : Form A → List ℕ → Type 0 where
   nothing : Due due rest due []
   byte : {form : Form A} {front : List ℕ} (b : ℕ) → Due due rest form front → Due due rest (Form.byte b form) (b ∷ front)
-  hole : {front : List ℕ} (test : List ℕ → Option Rule) (form : List ℕ → Form A) (run : List ℕ) → IsHole run (front ++ rest) → test run ≡ None → Due due rest (form run) front
+  hole : {front : List ℕ} (test : List ℕ → Option Rule) (form : List ℕ → Form A) (run : List ℕ) → IsHole run (front ++ rest)
+      → test run ≡ None → Due due rest (form run) front
       → Due due rest (Form.hole test form) (run ++ front)
-  turn : {front : List ℕ} (form : Option ℕ → Form A) → Due due rest (form (next (front ++ rest))) front → Due due rest (Form.turn form) front
-  ahead : {front : List ℕ} (form : List ℕ → Form A) → Due due rest (form (front ++ rest)) front → Due due rest (Form.ahead form) front
+  turn : {front : List ℕ} (form : Option ℕ → Form A) → Due due rest (form (next (front ++ rest))) front
+      → Due due rest (Form.turn form) front
+  ahead : {front : List ℕ} (form : List ℕ → Form A) → Due due rest (form (front ++ rest)) front
+      → Due due rest (Form.ahead form) front
 
 -- a text whose first part doesn't fit, and the rule that it breaks
 pub data Misfits {A : Type 0} (text : List ℕ) : Form A → Rule → Type 0 where
   byte : (b : ℕ) (form : Form A) → next text ≢ Some b → Misfits text (Form.byte b form) OtherByte
-  hole : (test : List ℕ → Option Rule) (form : List ℕ → Form A) (run behind : List ℕ) (rule : Rule) → text ≡ run ++ behind → IsHole run behind → test run ≡ Some rule
+  hole : (test : List ℕ → Option Rule) (form : List ℕ → Form A) (run behind : List ℕ) (rule : Rule) → text ≡ run ++ behind
+      → IsHole run behind → test run ≡ Some rule
       → Misfits text (Form.hole test form) rule
   refuse : (rule : Rule) → Misfits text (Form.refuse rule) rule
 
@@ -75,10 +80,14 @@ pub record HasFault {A : Type 0} (form : Form A) (text : List ℕ) (at : ℕ) (r
 
 -- each text begins with what the form asks or has a first fault, never both, and no second value or fault
 pub record IsJudged {A : Type 0} (form : Form A) : Type 0 where
-  pub either : (text : List ℕ) → ((value : A) × (rest : List ℕ) × Reads form text value rest) ⊎ ((at : ℕ) × (rule : Rule) × HasFault form text at rule)
-  pub never_both : (text : List ℕ) (value : A) (rest : List ℕ) (at : ℕ) (rule : Rule) → Reads form text value rest → ¬ HasFault form text at rule
-  pub one_value : (text : List ℕ) (one other : A) (rest back : List ℕ) → Reads form text one rest → Reads form text other back → (one ≡ other) × (rest ≡ back)
-  pub one_fault : (text : List ℕ) (at place : ℕ) (rule other : Rule) → HasFault form text at rule → HasFault form text place other → (at ≡ place) × (rule ≡ other)
+  pub either : (text : List ℕ)
+      → ((value : A) × (rest : List ℕ) × Reads form text value rest) ⊎ ((at : ℕ) × (rule : Rule) × HasFault form text at rule)
+  pub never_both : (text : List ℕ) (value : A) (rest : List ℕ) (at : ℕ) (rule : Rule) → Reads form text value rest
+      → ¬ HasFault form text at rule
+  pub one_value : (text : List ℕ) (one other : A) (rest back : List ℕ) → Reads form text one rest → Reads form text other back
+      → (one ≡ other) × (rest ≡ back)
+  pub one_fault : (text : List ℕ) (at place : ℕ) (rule other : Rule) → HasFault form text at rule → HasFault form text place other
+      → (at ≡ place) × (rule ≡ other)
 
 -- one form, and behind it another that its value chooses
 abbrev pub followed : {A B : Type 0} → Form A → (A → Form B) → Form B

@@ -16,7 +16,8 @@ is_next character None = false
 is_next character (Some b) = is_char character b
 
 abbrev pub module_name_test : List ℕ → Option Rule
-module_name_test run = unless (begins_with_letter run && (list_all is_name_byte run && ends_with nat_eq run (codes "_interconnect"))) Name None
+module_name_test run =
+    unless (begins_with_letter run && (list_all is_name_byte run && ends_with nat_eq run (codes "_interconnect"))) Name None
 
 -- one of the ports has this name
 abbrev pub is_named : List ℕ → List PortLine → Bool
@@ -31,10 +32,14 @@ abbrev pub port_of : List ℕ → ℕ → Bool → PortLine
 port_of name w output = record { name = name; width = w; output = output }
 
 abbrev pub described_form : List PortLine → Bool → Form PortLine
-described_form ports output = fixed (codes " wire ") (range_form (λ w. fixed (codes " ") (Form.hole (port_name_test ports) (λ name. Form.whole (port_of name w output)))))
+described_form ports output =
+    fixed (codes " wire ")
+    (range_form (λ w. fixed (codes " ") (Form.hole (port_name_test ports) (λ name. Form.whole (port_of name w output)))))
 
 abbrev pub direction_form : List PortLine → Option ℕ → Form PortLine
-direction_form ports b = if is_next (codes "o") b then fixed (codes "output") (described_form ports true) else fixed (codes "input") (described_form ports false)
+direction_form ports b =
+    if is_next (codes "o") b then fixed (codes "output") (described_form ports true)
+    else fixed (codes "input") (described_form ports false)
 
 -- the line of a port behind these, from behind the line before it on
 abbrev pub port_form : List PortLine → Form PortLine
@@ -43,7 +48,9 @@ port_form ports = fixed (codes ",\n  ") (Form.turn (direction_form ports))
 -- the lines of so many ports at most, behind these
 abbrev pub ports_form : ℕ → List PortLine → Form (List PortLine)
 ports_form zero ports = Form.whole ports
-ports_form (suc few) ports = Form.turn (λ b. if is_next (codes ",") b then followed (port_form ports) (λ port. ports_form few (ports ++ port ∷ [])) else Form.whole ports)
+ports_form (suc few) ports =
+    Form.turn (λ b. if is_next (codes ",") b then followed (port_form ports) (λ port. ports_form few (ports ++ port ∷ []))
+    else Form.whole ports)
 
 -- the header of a module, which has fewer than 2^32 ports
 abbrev pub header_form : Form Netlist

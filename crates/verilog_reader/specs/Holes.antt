@@ -55,7 +55,8 @@ fits (Behind high whole) = λ v. high + v == whole
 
 -- an operand among these nets
 abbrev pub TakesOperand : List Line → Wanted → List ℕ → Spot → ℕ → Spot → Type 0
-TakesOperand lines wanted text spot net behind = Takes (operand_test lines (length lines) (fits wanted)) net_of text spot net behind
+TakesOperand lines wanted text spot net behind =
+    Takes (operand_test lines (length lines) (fits wanted)) net_of text spot net behind
 
 -- the highest bit of a slice of a net of this width
 abbrev pub high_bound : ℕ → List ℕ → Option Rule

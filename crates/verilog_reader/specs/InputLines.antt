@@ -17,7 +17,9 @@ port_test port w run = unless (same_bytes run port.name) Name (unless (w == port
 
 abbrev pub input_wire_form : ℕ → ℕ → PortLine → Form Line
 input_wire_form n k port =
-    fixed (codes "wire ") (range_form (λ w. fixed (codes " ") (named_form n (fixed (codes " = ") (Form.hole (port_test port w) (λ run. fixed (codes ";\n")
+    fixed (codes "wire ")
+    (range_form (λ w. fixed (codes " ")
+    (named_form n (fixed (codes " = ") (Form.hole (port_test port w) (λ run. fixed (codes ";\n")
     (Form.whole (line_of port.width (Input k)))))))))
 
 -- a register where an input is due
@@ -26,7 +28,8 @@ no_input_form = fixed (codes "reg ") (range_form (λ w. fixed (codes " n") (Form
 
 -- the line of net n, the input of port k, which is this one
 abbrev pub input_form : ℕ → ℕ → PortLine → Form Line
-input_form n k port = fixed (codes "  ") (Form.turn (λ b. if is_next (codes "r") b then no_input_form else input_wire_form n k port))
+input_form n k port =
+    fixed (codes "  ") (Form.turn (λ b. if is_next (codes "r") b then no_input_form else input_wire_form n k port))
 
 -- port k is this one, an input
 pub record IsInputAt (ports : List PortLine) (k : ℕ) (port : PortLine) : Type 0 where

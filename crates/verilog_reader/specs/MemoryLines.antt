@@ -22,5 +22,7 @@ last_test run = unless (is_number run) Spelling (unless (nat_lt 0 (address_bits_
 -- the line of memory m
 abbrev pub memory_form : ℕ → Form Memory
 memory_form m =
-    fixed (codes "  reg ") (range_form (λ w. fixed (codes " m") (Form.hole (number_test m) (λ run. fixed (codes " [0:") (Form.hole last_test (λ last. fixed (codes "];\n")
+    fixed (codes "  reg ")
+    (range_form (λ w. fixed (codes " m")
+    (Form.hole (number_test m) (λ run. fixed (codes " [0:") (Form.hole last_test (λ last. fixed (codes "];\n")
     (Form.whole (memory_with w (address_bits_of (value_of last))))))))))

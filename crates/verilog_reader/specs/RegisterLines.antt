@@ -11,4 +11,5 @@ untold n w = register_of n (record { width = w; bits = 0 })
 
 -- the line of net n, a register
 abbrev pub register_form : ℕ → Form Line
-register_form n = fixed (codes "  reg ") (range_form (λ w. fixed (codes " ") (named_form n (fixed (codes ";\n") (Form.whole (untold n w))))))
+register_form n =
+    fixed (codes "  reg ") (range_form (λ w. fixed (codes " ") (named_form n (fixed (codes ";\n") (Form.whole (untold n w))))))

@@ -68,7 +68,9 @@ fit_any width = true
 
 -- an operand of net n: a net before it, of a width that fits
 abbrev pub operand_test : List Line → ℕ → (ℕ → Bool) → List ℕ → Option Rule
-operand_test lines n fits run = unless (is_net run) Spelling (unless (nat_lt (net_of run) n) NotThere (unless (fits (width_of lines (net_of run))) Width None))
+operand_test lines n fits run =
+    unless (is_net run) Spelling
+    (unless (nat_lt (net_of run) n) NotThere (unless (fits (width_of lines (net_of run))) Width None))
 
 abbrev pub operand : {A : Type 0} → List Line → ℕ → (ℕ → Bool) → (ℕ → Form A) → Form A
 operand lines n fits form = Form.hole (operand_test lines n fits) (λ run. form (net_of run))
@@ -78,7 +80,9 @@ abbrev pub second : List Line → ℕ → List ℕ → (ℕ → Bool) → (ℕ �
 second lines n sign fits make = fixed sign (operand lines n fits (λ b. Form.whole (make b)))
 
 abbrev pub choice_form : List Line → ℕ → ℕ → ℕ → Form Equation
-choice_form lines n w s = fixed (codes "? ") (operand lines n (λ v. v == w) (λ a. fixed (codes " : ") (operand lines n (λ v. v == w) (λ b. Form.whole (Mux s a b)))))
+choice_form lines n w s =
+    fixed (codes "? ")
+    (operand lines n (λ v. v == w) (λ a. fixed (codes " : ") (operand lines n (λ v. v == w) (λ b. Form.whole (Mux s a b)))))
 
 -- what stands from the operator sign on, behind net a and a blank
 abbrev pub sign_form : List Line → ℕ → ℕ → ℕ → Option ℕ → Form Equation
@@ -98,14 +102,18 @@ sign_form lines n w a (Some sign) =
 -- the bits of net a from the first bound on
 abbrev pub slice_form : List Line → ℕ → ℕ → Form Equation
 slice_form lines w a =
-    fixed (codes "[") (Form.hole (λ run. unless (is_number run) Spelling (unless (nat_lt (value_of run) (width_of lines a)) Bounds None)) (λ high.
-    fixed (codes ":") (Form.hole (λ run. unless (is_number run) Spelling (unless (value_of run + w == value_of high + 1) Bounds None)) (λ low.
+    fixed (codes "[")
+    (Form.hole (λ run. unless (is_number run) Spelling
+    (unless (nat_lt (value_of run) (width_of lines a)) Bounds None)) (λ high.
+    fixed (codes ":")
+    (Form.hole (λ run. unless (is_number run) Spelling (unless (value_of run + w == value_of high + 1) Bounds None)) (λ low.
     fixed (codes "]") (Form.whole (Slice a (value_of high) (value_of low)))))))
 
 -- what stands behind a first operand
 abbrev pub behind_form : List Line → ℕ → ℕ → ℕ → Option ℕ → Form Equation
 behind_form lines n w a None = Form.refuse OtherByte
-behind_form lines n w a (Some b) = if is_char (codes "[") b then slice_form lines w a else fixed (codes " ") (Form.turn (sign_form lines n w a))
+behind_form lines n w a (Some b) =
+    if is_char (codes "[") b then slice_form lines w a else fixed (codes " ") (Form.turn (sign_form lines n w a))
 
 abbrev pub is_constant : ℕ → List ℕ → Bool
 is_constant w run = same_bytes run (hex_digits ((w + 3) / 4) (digits_value 16 run)) && nat_lt (digits_value 16 run) (2 ^ w)
@@ -125,7 +133,10 @@ bits_of None = 0
 bits_of (Some memory) = memory.address_bits
 
 abbrev pub memory_test : List Memory → ℕ → List ℕ → Option Rule
-memory_test memories w run = unless (is_number run) Spelling (unless (nat_lt (value_of run) (length memories)) NotThere (unless (words_of (slice_get memories (value_of run)) == w) Width None))
+memory_test memories w run =
+    unless (is_number run) Spelling
+    (unless (nat_lt (value_of run) (length memories)) NotThere
+    (unless (words_of (slice_get memories (value_of run)) == w) Width None))
 
 abbrev pub read_form : List Memory → List Line → ℕ → ℕ → Form Equation
 read_form memories lines n w =
@@ -135,14 +146,17 @@ read_form memories lines n w =
 
 abbrev pub concat_form : List Line → ℕ → ℕ → Form Equation
 concat_form lines n w =
-    fixed (codes "{") (operand lines n fit_any (λ a. fixed (codes ", ") (operand lines n (λ v. width_of lines a + v == w) (λ b. fixed (codes "}") (Form.whole (Concat a b))))))
+    fixed (codes "{")
+    (operand lines n fit_any (λ a. fixed (codes ", ")
+    (operand lines n (λ v. width_of lines a + v == w) (λ b. fixed (codes "}") (Form.whole (Concat a b))))))
 
 abbrev pub begun_form : List Memory → List Line → ℕ → ℕ → Option ℕ → Form Equation
 begun_form memories lines n w None = Form.refuse OtherByte
 begun_form memories lines n w (Some b) =
     if is_digit b 10 then constant_form w
     else if is_char (codes "~") b then fixed (codes "~") (operand lines n (λ v. v == w) (λ a. Form.whole (Not a)))
-    else if is_char (codes "|") b then guarded (w == 1) Width (fixed (codes "|") (operand lines n fit_any (λ a. Form.whole (Any a))))
+    else if is_char (codes "|") b
+    then guarded (w == 1) Width (fixed (codes "|") (operand lines n fit_any (λ a. Form.whole (Any a))))
     else if is_char (codes "{") b then concat_form lines n w
     else if is_char (codes "n") b then operand lines n fit_any (λ a. Form.turn (behind_form lines n w a))
     else if is_char (codes "m") b then read_form memories lines n w
@@ -161,8 +175,10 @@ pub record Here (memories : List Memory) (lines : List Line) (n w : ℕ) : Type 
   pub some_bit : 1 ≤ w
   pub bits : w ≤ 128
 
--- a sound equation that is spelled on the right by nets, memories and numbers: an input is spelled by its port, and a register elsewhere
-pub record IsRightSide (ports : List PortLine) (memories : List Memory) (lines : List Line) (n w : ℕ) (e : Equation) : Type 0 where
+-- a sound equation that is spelled on the right by nets, memories and numbers: an input is spelled by its port, and a register
+-- elsewhere
+pub record IsRightSide (ports : List PortLine) (memories : List Memory) (lines : List Line) (n w : ℕ)
+    (e : Equation) : Type 0 where
   pub sound : IsSound ports memories lines n w e
   pub no_input : is_input e ≡ false
   pub no_register : is_register e ≡ false

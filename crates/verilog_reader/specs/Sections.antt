@@ -16,7 +16,9 @@ is_flawed (Flawed at rule) = true
 
 -- What is read from here on is read from the start on, behind what was read before.
 abbrev pub Leads : {X : Type 0} → Form (List X) → List ℕ → Spot → List X → Form (List X) → Spot → Type 0
-Leads {X} all text start done form spot = (xs : List X) (end : Spot) → IsWithin text end → found form text spot ≡ found (Form.whole xs) text end → found all text start ≡ found (Form.whole (done ++ xs)) text end
+Leads {X} all text start done form spot =
+    (xs : List X) (end : Spot) → IsWithin text end → found form text spot ≡ found (Form.whole xs) text end
+    → found all text start ≡ found (Form.whole (done ++ xs)) text end
 
 -- a net of 1 to 128 bits
 pub record HasBits (line : Line) : Type 0 where
@@ -25,4 +27,5 @@ pub record HasBits (line : Line) : Type 0 where
 
 -- what drives a port, behind another output's line or not
 abbrev pub driven_form : List Memory → List Line → Bool → PortLine → Form (Option ℕ)
-driven_form memories lines assigned port = if port.output then told (assign_form memories lines assigned port) driven else Form.whole None
+driven_form memories lines assigned port =
+    if port.output then told (assign_form memories lines assigned port) driven else Form.whole None

@@ -87,6 +87,7 @@ Judges test value run (Ok v) = (test run ≡ None) × (v ≡ value run)
 Judges test value run (Err rule) = test run ≡ Some rule
 
 -- the hole ahead is taken: where that leads to, and what the hole tells if its test lets it pass
-pub record Takes {T : Type 0} (test : List ℕ → Option Rule) (value : List ℕ → T) (text : List ℕ) (spot : Spot) (v : T) (behind : Spot) : Type 0 where
+pub record Takes {T : Type 0} (test : List ℕ → Option Rule) (value : List ℕ → T) (text : List ℕ) (spot : Spot) (v : T)
+    (behind : Spot) : Type 0 where
   pub leads : behind ≡ hole_from test text spot
   pub tells : IfGood behind (v ≡ value (run_from text spot))

@@ -54,7 +54,8 @@ late_memory_form = fixed (codes "  reg ") (range_form (λ w. fixed (codes " m") 
 -- the lines of so many memories at most, from memory m on
 abbrev pub memories_form : ℕ → ℕ → Form (List Memory)
 memories_form zero m = Form.ahead (λ text. if is_memory_line text then late_memory_form else Form.whole [])
-memories_form (suc few) m = Form.ahead (λ text. if is_memory_line text then listed (memory_form m) (memories_form few (m + 1)) else Form.whole [])
+memories_form (suc few) m =
+    Form.ahead (λ text. if is_memory_line text then listed (memory_form m) (memories_form few (m + 1)) else Form.whole [])
 
 -- the line of net n, where a module has room for it
 abbrev pub room_form : {A : Type 0} → ℕ → Form A → Form A
@@ -63,14 +64,18 @@ room_form n form = Form.ahead (λ text. if is_net_line text && not (nat_lt n (2 
 -- the lines of the inputs among the ports from port k on, as nets from net n on
 abbrev pub inputs_form : ℕ → ℕ → List PortLine → Form (List Line)
 inputs_form n k [] = Form.whole []
-inputs_form n k (port ∷ ports) = if port.output then inputs_form n (k + 1) ports else room_form n (listed (input_form n k port) (inputs_form (n + 1) (k + 1) ports))
+inputs_form n k (port ∷ ports) =
+    if port.output then inputs_form n (k + 1) ports
+    else room_form n (listed (input_form n k port) (inputs_form (n + 1) (k + 1) ports))
 
 -- the lines of so many nets at most behind these, each a wire's or a register's
 abbrev pub nets_form : ℕ → List Memory → List Line → Form (List Line)
 nets_form zero memories lines = Form.ahead (λ text. if is_net_line text then Form.refuse TooManyNets else Form.whole lines)
 nets_form (suc few) memories lines = Form.ahead (λ text.
-    if is_wire_line text then followed (wire_form memories lines (length lines)) (λ line. nets_form few memories (lines ++ line ∷ []))
-    else if is_reg_line text then followed (register_form (length lines)) (λ line. nets_form few memories (lines ++ line ∷ [])) else Form.whole lines)
+    if is_wire_line text
+    then followed (wire_form memories lines (length lines)) (λ line. nets_form few memories (lines ++ line ∷ []))
+    else if is_reg_line text then followed (register_form (length lines)) (λ line. nets_form few memories (lines ++ line ∷ []))
+    else Form.whole lines)
 
 -- the net with what its clocked line tells, if it is a register
 abbrev pub clocked_form : List Memory → List Line → ℕ → Line → Form Line
@@ -79,7 +84,8 @@ clocked_form memories lines n line = if is_register line.equation then clock_for
 -- the clocked lines of the registers among the nets from net n on
 abbrev pub all_clocked_form : List Memory → List Line → ℕ → List Line → Form (List Line)
 all_clocked_form memories lines n [] = Form.whole []
-all_clocked_form memories lines n (line ∷ others) = listed (clocked_form memories lines n line) (all_clocked_form memories lines (n + 1) others)
+all_clocked_form memories lines n (line ∷ others) =
+    listed (clocked_form memories lines n line) (all_clocked_form memories lines (n + 1) others)
 
 abbrev pub written : Memory → MemWrite → Memory
 written memory write = record memory { write = Some write }
@@ -87,7 +93,8 @@ written memory write = record memory { write = Some write }
 -- the clocked lines of the memories from memory m on
 abbrev pub all_written_form : List Memory → List Line → ℕ → List Memory → Form (List Memory)
 all_written_form memories lines m [] = Form.whole []
-all_written_form memories lines m (memory ∷ others) = listed (told (write_form memories lines m memory) (written memory)) (all_written_form memories lines (m + 1) others)
+all_written_form memories lines m (memory ∷ others) =
+    listed (told (write_form memories lines m memory) (written memory)) (all_written_form memories lines (m + 1) others)
 
 abbrev pub driven : ℕ → Option ℕ
 driven net = Some net
@@ -96,7 +103,9 @@ driven net = Some net
 abbrev pub all_driven_form : List Memory → List Line → Bool → List PortLine → Form (List (Option ℕ))
 all_driven_form memories lines assigned [] = Form.whole []
 all_driven_form memories lines assigned (port ∷ ports) =
-    if port.output then listed (told (assign_form memories lines assigned port) driven) (all_driven_form memories lines true ports) else listed (Form.whole None) (all_driven_form memories lines assigned ports)
+    if port.output
+    then listed (told (assign_form memories lines assigned port) driven) (all_driven_form memories lines true ports)
+    else listed (Form.whole None) (all_driven_form memories lines assigned ports)
 
 -- behind the last line the text ends
 abbrev pub nothing_form : {A : Type 0} → A → Option ℕ → Form A
@@ -106,7 +115,10 @@ nothing_form a (Some b) = Form.refuse AfterEnd
 -- The last line. Another output's line is refused at its name.
 abbrev pub last_form : {A : Type 0} → List Memory → List Line → Bool → A → Form A
 last_form memories lines assigned a =
-    Form.turn (λ b. if is_next (codes " ") b then fixed (codes "  a") (Form.turn (none_clocked_form memories lines assigned (fixed (codes "ssign ") (Form.refuse Name)))) else fixed (codes "endmodule\n") (Form.turn (nothing_form a)))
+    Form.turn (λ b. if is_next (codes " ") b
+    then fixed (codes "  a")
+    (Form.turn (none_clocked_form memories lines assigned (fixed (codes "ssign ") (Form.refuse Name))))
+    else fixed (codes "endmodule\n") (Form.turn (nothing_form a)))
 
 abbrev pub has_output : List PortLine → Bool
 has_output ports = list_any (λ (port : PortLine). port.output) ports
@@ -114,13 +126,18 @@ has_output ports = list_any (λ (port : PortLine). port.output) ports
 -- what stands behind the nets of a module with this header
 abbrev pub behind_nets_form : Netlist → List Memory → List Line → Form Netlist
 behind_nets_form header memories lines =
-    followed (all_clocked_form memories lines 0 lines) (λ clocked. followed (all_written_form memories lines 0 memories) (λ stored. followed (all_driven_form memories lines false header.ports) (λ drivers.
-    last_form memories lines (has_output header.ports) (record header { lines = clocked; drivers = drivers; memories = stored }))))
+    followed
+    (all_clocked_form memories lines 0 lines) (λ clocked. followed
+    (all_written_form memories lines 0 memories) (λ stored. followed
+    (all_driven_form memories lines false header.ports) (λ drivers.
+    last_form memories lines (has_output header.ports)
+    (record header { lines = clocked; drivers = drivers; memories = stored }))))
 
 -- the text of a module
 abbrev pub module_form : Form Netlist
 module_form =
-    followed header_form (λ header. followed (memories_form (2 ^ 16) 0) (λ memories. followed (inputs_form 0 0 header.ports) (λ inputs.
+    followed header_form (λ header. followed
+    (memories_form (2 ^ 16) 0) (λ memories. followed (inputs_form 0 0 header.ports) (λ inputs.
     followed (nets_form (2 ^ 20 - length inputs) memories inputs) (λ lines. behind_nets_form header memories lines))))
 
 -- the text of a module up to the lines of its nets

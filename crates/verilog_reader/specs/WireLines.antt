@@ -31,7 +31,9 @@ ending_form memories lines n w = followed (right_form memories lines n w) (λ e.
 
 -- the line of net n, a wire, among these memories and the lines before it
 abbrev pub wire_form : List Memory → List Line → ℕ → Form Line
-wire_form memories lines n = fixed (codes "  wire ") (range_form (λ w. fixed (codes " ") (named_form n (fixed (codes " = ") (ending_form memories lines n w)))))
+wire_form memories lines n =
+    fixed (codes "  wire ")
+    (range_form (λ w. fixed (codes " ") (named_form n (fixed (codes " = ") (ending_form memories lines n w)))))
 
 -- where net n stands: what stands before it
 pub record Behind (memories : List Memory) (lines : List Line) (n : ℕ) : Type 0 where

@@ -35,7 +35,8 @@ fn clocked_net(
     requires few { length lines.now ≤ 2 ^ 20 }
     requires few_memories { memories ≤ 2 ^ 32 }
     requires bits { HasBits line }
-    ensures read { (old : List Line) (all : List Memory) → SameWidths old lines.now → length all ≡ memories → found (clocked_form all old net line) bytes.now spot ≡ found (Form.whole result.0) bytes.now result.1 }
+    ensures read { (old : List Line) (all : List Memory) → SameWidths old lines.now → length all ≡ memories
+        → found (clocked_form all old net line) bytes.now spot ≡ found (Form.whole result.0) bytes.now result.1 }
     ensures within { IsWithin bytes.now result.1 }
     ensures width { result.0.width ≡ line.width }
 {
@@ -57,7 +58,9 @@ pub(crate) fn read_clocked(
     requires few { length lines.old.items ≤ 2 ^ 20 }
     requires few_memories { memories ≤ 2 ^ 32 }
     requires bits { All HasBits lines.old.items }
-    ensures read { (all : List Memory) → length all ≡ memories → found (all_clocked_form all lines.old.items 0 lines.old.items) bytes.now start ≡ found (Form.whole lines.new.items) bytes.now result }
+    ensures read { (all : List Memory) → length all ≡ memories
+        → found (all_clocked_form all lines.old.items 0 lines.old.items) bytes.now start
+        ≡ found (Form.whole lines.new.items) bytes.now result }
     ensures within { IsWithin bytes.now result }
     ensures widths { SameWidths lines.old.items lines.new.items }
 {
@@ -81,7 +84,9 @@ pub(crate) fn read_written(
     requires within { IsWithin bytes.now start }
     requires few { length lines.now ≤ 2 ^ 20 }
     requires few_memories { length memories.old.items ≤ 2 ^ 16 }
-    ensures read { (old : List Line) → SameWidths old lines.now → found (all_written_form memories.old.items old 0 memories.old.items) bytes.now start ≡ found (Form.whole memories.new.items) bytes.now result }
+    ensures read { (old : List Line) → SameWidths old lines.now
+        → found (all_written_form memories.old.items old 0 memories.old.items) bytes.now start
+        ≡ found (Form.whole memories.new.items) bytes.now result }
     ensures within { IsWithin bytes.now result }
     ensures count { length memories.new.items ≡ length memories.old.items }
 {
@@ -112,7 +117,8 @@ fn driven(
     requires within { IsWithin bytes.now spot }
     requires few { length lines.now ≤ 2 ^ 20 }
     requires few_memories { memories ≤ 2 ^ 32 }
-    ensures read { (old : List Line) (all : List Memory) → SameWidths old lines.now → length all ≡ memories → found (driven_form all old assigned port.now) bytes.now spot ≡ found (Form.whole result.0) bytes.now result.1 }
+    ensures read { (old : List Line) (all : List Memory) → SameWidths old lines.now → length all ≡ memories
+        → found (driven_form all old assigned port.now) bytes.now spot ≡ found (Form.whole result.0) bytes.now result.1 }
     ensures within { IsWithin bytes.now result.1 }
 {
     if port.output {
@@ -141,7 +147,9 @@ pub(crate) fn read_driven(
     requires within { IsWithin bytes.now start }
     requires few { length lines.now ≤ 2 ^ 20 }
     requires few_memories { memories ≤ 2 ^ 32 }
-    ensures read { (old : List Line) (all : List Memory) → SameWidths old lines.now → length all ≡ memories → IfOk result (λ r. found (all_driven_form all old false ports.now) bytes.now start ≡ found (Form.whole r.0.items) bytes.now r.1) }
+    ensures read { (old : List Line) (all : List Memory) → SameWidths old lines.now → length all ≡ memories
+        → IfOk result (λ r. found (all_driven_form all old false ports.now) bytes.now start
+        ≡ found (Form.whole r.0.items) bytes.now r.1) }
     ensures within { IfOk result (λ r. IsWithin bytes.now r.1) }
 {
     let mut drivers = Vec::new(alloc);

@@ -42,7 +42,8 @@ fn due_in(number: Option<u64>, count: usize, due: Option<usize>) -> Result<(), R
 /// Whether a hole names the net that is due, among so many.
 fn net_in(run: &[u8], count: usize, due: Option<usize>) -> Result<(), Rule>
     requires { count ≤ 2 ^ 32 }
-    ensures { (lines : List Line) → length lines ≡ count → Judges (clocked_net_test lines (is_due due)) nothing_told run.now result }
+    ensures { (lines : List Line) → length lines ≡ count
+        → Judges (clocked_net_test lines (is_due due)) nothing_told run.now result }
 {
     due_in(net_number(run), count, due)
 }
@@ -50,7 +51,8 @@ fn net_in(run: &[u8], count: usize, due: Option<usize>) -> Result<(), Rule>
 /// Whether a hole numbers the memory that is due, among so many.
 fn memory_in(run: &[u8], count: usize, due: Option<usize>) -> Result<(), Rule>
     requires { count ≤ 2 ^ 32 }
-    ensures { (memories : List Memory) → length memories ≡ count → Judges (clocked_memory_test memories (is_due due)) nothing_told run.now result }
+    ensures { (memories : List Memory) → length memories ≡ count
+        → Judges (clocked_memory_test memories (is_due due)) nothing_told run.now result }
 {
     due_in(number(run), count, due)
 }
@@ -59,7 +61,8 @@ fn memory_in(run: &[u8], count: usize, due: Option<usize>) -> Result<(), Rule>
 fn clocked_net(bytes: &[u8], spot: Spot, count: usize, due: Option<usize>) -> Spot
     requires within { IsWithin bytes.now spot }
     requires few { count ≤ 2 ^ 32 }
-    ensures read { (lines : List Line) → length lines ≡ count → result ≡ hole_from (clocked_net_test lines (is_due due)) bytes.now spot }
+    ensures read { (lines : List Line) → length lines ≡ count
+        → result ≡ hole_from (clocked_net_test lines (is_due due)) bytes.now spot }
     ensures within { IsWithin bytes.now result }
 {
     let run = run_at(bytes, spot);
@@ -71,7 +74,8 @@ fn clocked_net(bytes: &[u8], spot: Spot, count: usize, due: Option<usize>) -> Sp
 fn clocked_memory(bytes: &[u8], spot: Spot, count: usize, due: Option<usize>) -> Spot
     requires within { IsWithin bytes.now spot }
     requires few { count ≤ 2 ^ 32 }
-    ensures read { (memories : List Memory) → length memories ≡ count → result ≡ hole_from (clocked_memory_test memories (is_due due)) bytes.now spot }
+    ensures read { (memories : List Memory) → length memories ≡ count
+        → result ≡ hole_from (clocked_memory_test memories (is_due due)) bytes.now spot }
     ensures within { IsWithin bytes.now result }
 {
     let run = run_at(bytes, spot);
@@ -90,7 +94,9 @@ fn enabled_memory(
     requires within { IsWithin bytes.now spot }
     requires few { length lines.now ≤ 2 ^ 20 }
     requires few_memories { memories ≤ 2 ^ 32 }
-    ensures read { (old : List Line) (all : List Memory) → SameWidths old lines.now → length all ≡ memories → found (clocked_memory_form all old (is_due due) Form.whole) bytes.now spot ≡ found (Form.whole result.0) bytes.now result.1 }
+    ensures read { (old : List Line) (all : List Memory) → SameWidths old lines.now → length all ≡ memories
+        → found (clocked_memory_form all old (is_due due) Form.whole) bytes.now spot
+        ≡ found (Form.whole result.0) bytes.now result.1 }
     ensures within { IsWithin bytes.now result.1 }
 {
     let (enable, enabled) = operand(bytes, spot, lines, Wanted::Exactly(1));
@@ -102,7 +108,8 @@ fn enabled_memory(
 fn other_net(bytes: &[u8], spot: Spot, count: usize) -> Spot
     requires within { IsWithin bytes.now spot }
     requires few { count ≤ 2 ^ 32 }
-    ensures read { (old : List Line) (none : ℕ) → length old ≡ count → found (other_net_form old) bytes.now spot ≡ found (Form.whole none) bytes.now result }
+    ensures read { (old : List Line) (none : ℕ) → length old ≡ count
+        → found (other_net_form old) bytes.now spot ≡ found (Form.whole none) bytes.now result }
     ensures within { IsWithin bytes.now result }
 {
     let begun = fixed(bytes, spot, b"reset) ");
@@ -115,7 +122,8 @@ fn other_memory(bytes: &[u8], spot: Spot, lines: &[Line], memories: usize) -> Sp
     requires within { IsWithin bytes.now spot }
     requires few { length lines.now ≤ 2 ^ 20 }
     requires few_memories { memories ≤ 2 ^ 32 }
-    ensures read { (old : List Line) (all : List Memory) (none : ℕ) → SameWidths old lines.now → length all ≡ memories → found (other_memory_form all old) bytes.now spot ≡ found (Form.whole none) bytes.now result }
+    ensures read { (old : List Line) (all : List Memory) (none : ℕ) → SameWidths old lines.now → length all ≡ memories
+        → found (other_memory_form all old) bytes.now spot ≡ found (Form.whole none) bytes.now result }
     ensures within { IsWithin bytes.now result }
 {
     let (_, named) = enabled_memory(bytes, spot, lines, memories, None);
@@ -128,7 +136,8 @@ fn next_of(bytes: &[u8], spot: Spot, lines: &[Line], net: usize, width: u8) -> (
     requires few { length lines.now ≤ 2 ^ 20 }
     requires some_bit { 1 ≤ width }
     requires small { width ≤ 128 }
-    ensures read { (old : List Line) → SameWidths old lines.now → found (next_form old net width) bytes.now spot ≡ found (Form.whole result.0) bytes.now result.1 }
+    ensures read { (old : List Line) → SameWidths old lines.now
+        → found (next_form old net width) bytes.now spot ≡ found (Form.whole result.0) bytes.now result.1 }
     ensures within { IsWithin bytes.now result.1 }
     ensures width { result.0.width ≡ width }
 {
@@ -152,7 +161,8 @@ fn clocked_register(bytes: &[u8], spot: Spot, lines: &[Line], net: usize, width:
     requires few { length lines.now ≤ 2 ^ 20 }
     requires some_bit { 1 ≤ width }
     requires small { width ≤ 128 }
-    ensures read { (old : List Line) → SameWidths old lines.now → found (clocked_register_form old net width) bytes.now spot ≡ found (Form.whole result.0) bytes.now result.1 }
+    ensures read { (old : List Line) → SameWidths old lines.now
+        → found (clocked_register_form old net width) bytes.now spot ≡ found (Form.whole result.0) bytes.now result.1 }
     ensures within { IsWithin bytes.now result.1 }
     ensures width { result.0.width ≡ width }
 {
@@ -176,7 +186,8 @@ pub(crate) fn clock_line(
     requires few_memories { memories ≤ 2 ^ 32 }
     requires some_bit { 1 ≤ line.width }
     requires small { line.width ≤ 128 }
-    ensures read { (old : List Line) (all : List Memory) → SameWidths old lines.now → length all ≡ memories → found (clock_form all old net line.width) bytes.now spot ≡ found (Form.whole result.0) bytes.now result.1 }
+    ensures read { (old : List Line) (all : List Memory) → SameWidths old lines.now → length all ≡ memories
+        → found (clock_form all old net line.width) bytes.now spot ≡ found (Form.whole result.0) bytes.now result.1 }
     ensures within { IsWithin bytes.now result.1 }
     ensures width { result.0.width ≡ line.width }
 {
@@ -200,7 +211,8 @@ fn written_memory(
     requires within { IsWithin bytes.now spot }
     requires few { length lines.now ≤ 2 ^ 20 }
     requires few_memories { memories ≤ 2 ^ 32 }
-    ensures read { (old : List Line) (all : List Memory) → SameWidths old lines.now → length all ≡ memories → found (written_memory_form all old number memory.now) bytes.now spot ≡ found (Form.whole result.0) bytes.now result.1 }
+    ensures read { (old : List Line) (all : List Memory) → SameWidths old lines.now → length all ≡ memories
+        → found (written_memory_form all old number memory.now) bytes.now spot ≡ found (Form.whole result.0) bytes.now result.1 }
     ensures within { IsWithin bytes.now result.1 }
 {
     let (enable, named) = enabled_memory(bytes, spot, lines, memories, Some(number));
@@ -229,7 +241,8 @@ pub(crate) fn write_line(
     requires within { IsWithin bytes.now spot }
     requires few { length lines.now ≤ 2 ^ 20 }
     requires few_memories { memories ≤ 2 ^ 32 }
-    ensures read { (old : List Line) (all : List Memory) → SameWidths old lines.now → length all ≡ memories → found (write_form all old number memory.now) bytes.now spot ≡ found (Form.whole result.0) bytes.now result.1 }
+    ensures read { (old : List Line) (all : List Memory) → SameWidths old lines.now → length all ≡ memories
+        → found (write_form all old number memory.now) bytes.now spot ≡ found (Form.whole result.0) bytes.now result.1 }
     ensures within { IsWithin bytes.now result.1 }
 {
     let begun = fixed(bytes, spot, b"  always @(posedge clk) if (");
@@ -250,8 +263,10 @@ fn other_clocked(bytes: &[u8], spot: Spot, lines: &[Line], memories: usize) -> S
     requires within { IsWithin bytes.now spot }
     requires few { length lines.now ≤ 2 ^ 20 }
     requires few_memories { memories ≤ 2 ^ 32 }
-    ensures among_outputs { (old : List Line) (all : List Memory) (none : ℕ) → SameWidths old lines.now → length all ≡ memories → found (other_clocked_form all old) bytes.now spot ≡ found (Form.whole none) bytes.now result }
-    ensures at_the_end { (old : List Line) (all : List Memory) (one : Netlist) → SameWidths old lines.now → length all ≡ memories → found (other_clocked_form all old) bytes.now spot ≡ found (Form.whole one) bytes.now result }
+    ensures among_outputs { (old : List Line) (all : List Memory) (none : ℕ) → SameWidths old lines.now → length all ≡ memories
+        → found (other_clocked_form all old) bytes.now spot ≡ found (Form.whole none) bytes.now result }
+    ensures at_the_end { (old : List Line) (all : List Memory) (one : Netlist) → SameWidths old lines.now → length all ≡ memories
+        → found (other_clocked_form all old) bytes.now spot ≡ found (Form.whole one) bytes.now result }
     ensures within { IsWithin bytes.now result }
 {
     let begun = fixed(bytes, spot, b"lways @(posedge clk) if (");
@@ -284,7 +299,8 @@ fn output_in(run: &[u8], name: &[u8]) -> Result<(), Rule>
 fn driver(bytes: &[u8], spot: Spot, lines: &[Line], port: &PortLine) -> (u32, Spot)
     requires within { IsWithin bytes.now spot }
     requires few { length lines.now ≤ 2 ^ 20 }
-    ensures read { (old : List Line) → SameWidths old lines.now → found (driver_form old port.now) bytes.now spot ≡ found (Form.whole result.0) bytes.now result.1 }
+    ensures read { (old : List Line) → SameWidths old lines.now
+        → found (driver_form old port.now) bytes.now spot ≡ found (Form.whole result.0) bytes.now result.1 }
     ensures within { IsWithin bytes.now result.1 }
 {
     let begun = fixed(bytes, spot, b"ssign ");
@@ -307,7 +323,8 @@ pub(crate) fn assign_line(
     requires within { IsWithin bytes.now spot }
     requires few { length lines.now ≤ 2 ^ 20 }
     requires few_memories { memories ≤ 2 ^ 32 }
-    ensures read { (old : List Line) (all : List Memory) → SameWidths old lines.now → length all ≡ memories → found (assign_form all old assigned port.now) bytes.now spot ≡ found (Form.whole result.0) bytes.now result.1 }
+    ensures read { (old : List Line) (all : List Memory) → SameWidths old lines.now → length all ≡ memories
+        → found (assign_form all old assigned port.now) bytes.now spot ≡ found (Form.whole result.0) bytes.now result.1 }
     ensures within { IsWithin bytes.now result.1 }
 {
     let begun = fixed(bytes, spot, b"  a");
@@ -323,7 +340,8 @@ fn late_line(bytes: &[u8], spot: Spot, lines: &[Line], memories: usize, assigned
     requires within { IsWithin bytes.now spot }
     requires few { length lines.now ≤ 2 ^ 20 }
     requires few_memories { memories ≤ 2 ^ 32 }
-    ensures read { (old : List Line) (all : List Memory) (one : Netlist) → SameWidths old lines.now → length all ≡ memories → found (late_form all old assigned) bytes.now spot ≡ found (Form.whole one) bytes.now result }
+    ensures read { (old : List Line) (all : List Memory) (one : Netlist) → SameWidths old lines.now → length all ≡ memories
+        → found (late_form all old assigned) bytes.now spot ≡ found (Form.whole one) bytes.now result }
     ensures within { IsWithin bytes.now result }
 {
     let begun = fixed(bytes, spot, b"  a");
@@ -338,7 +356,8 @@ fn late_line(bytes: &[u8], spot: Spot, lines: &[Line], memories: usize, assigned
 /// That nothing stands behind the last line.
 fn end_of(bytes: &[u8], spot: Spot) -> Spot
     requires { IsWithin bytes.now spot }
-    ensures read { (one : Netlist) → found (Form.turn (nothing_form one)) bytes.now spot ≡ found (Form.whole one) bytes.now result }
+    ensures read { (one : Netlist)
+        → found (Form.turn (nothing_form one)) bytes.now spot ≡ found (Form.whole one) bytes.now result }
     ensures within { IsWithin bytes.now result }
 {
     match next_byte(bytes, spot) {
@@ -358,7 +377,8 @@ pub(crate) fn last_line(
     requires within { IsWithin bytes.now spot }
     requires few { length lines.now ≤ 2 ^ 20 }
     requires few_memories { memories ≤ 2 ^ 32 }
-    ensures read { (old : List Line) (all : List Memory) (one : Netlist) → SameWidths old lines.now → length all ≡ memories → found (last_form all old assigned one) bytes.now spot ≡ found (Form.whole one) bytes.now result }
+    ensures read { (old : List Line) (all : List Memory) (one : Netlist) → SameWidths old lines.now → length all ≡ memories
+        → found (last_form all old assigned one) bytes.now spot ≡ found (Form.whole one) bytes.now result }
     ensures within { IsWithin bytes.now result }
 {
     if next_is(bytes, spot, b' ') {

@@ -85,7 +85,8 @@ pub(crate) fn constant(bytes: &[u8], spot: Spot, width: u8) -> (Val, Spot)
     requires within { IsWithin bytes.now spot }
     requires some_bit { 1 ≤ width }
     requires small { width ≤ 128 }
-    ensures read { found (constant_form width) bytes.now spot ≡ found (Form.whole (Equation.Constant result.0)) bytes.now result.1 }
+    ensures read { found (constant_form width) bytes.now spot
+        ≡ found (Form.whole (Equation.Constant result.0)) bytes.now result.1 }
     ensures within { IsWithin bytes.now result.1 }
 {
     let run = run_at(bytes, spot);

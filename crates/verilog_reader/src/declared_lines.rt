@@ -132,7 +132,8 @@ pub(crate) fn memory_line(bytes: &[u8], spot: Spot, number: usize) -> (Memory, S
 /// The line of a memory behind the last that a module may have. It is refused.
 pub(crate) fn late_memory(bytes: &[u8], spot: Spot) -> Spot
     requires { IsWithin bytes.now spot }
-    ensures read { (memories : List Memory) → found late_memory_form bytes.now spot ≡ found (Form.whole memories) bytes.now result }
+    ensures read { (memories : List Memory)
+        → found late_memory_form bytes.now spot ≡ found (Form.whole memories) bytes.now result }
     ensures within { IsWithin bytes.now result }
 {
     let begun = fixed(bytes, spot, b"  reg ");
@@ -158,7 +159,9 @@ fn port_in(run: &[u8], port: &PortLine, width: u8) -> Result<(), Rule>
 fn input_wire(bytes: &[u8], spot: Spot, net: usize, port: &PortLine) -> Spot
     requires within { IsWithin bytes.now spot }
     requires few { net < 2 ^ 32 }
-    ensures read { (number : ℕ) → found (input_wire_form net number port.now) bytes.now spot ≡ found (Form.whole (line_of port.now.width (Input number))) bytes.now result }
+    ensures read { (number : ℕ)
+        → found (input_wire_form net number port.now) bytes.now spot
+        ≡ found (Form.whole (line_of port.now.width (Input number))) bytes.now result }
     ensures within { IsWithin bytes.now result }
 {
     let begun = fixed(bytes, spot, b"wire ");

@@ -94,7 +94,8 @@ fn described(
     output: bool,
 ) -> Result<(PortLine, Spot), NoMemory>
     requires { IsWithin bytes.now spot }
-    ensures read { IfOk result (λ r. (ports : List PortLine) → AreNamed ports names.now → found (described_form ports output) bytes.now spot ≡ found (Form.whole r.0) bytes.now r.1) }
+    ensures read { IfOk result (λ r. (ports : List PortLine) → AreNamed ports names.now
+        → found (described_form ports output) bytes.now spot ≡ found (Form.whole r.0) bytes.now r.1) }
     ensures within { IfOk result (λ r. IsWithin bytes.now r.1) }
     ensures widths { IfOk result (λ r. HasWires r.0) }
 {
@@ -120,7 +121,8 @@ fn port_line(
     names: &HashSet<String>,
 ) -> Result<(PortLine, Spot), NoMemory>
     requires { IsWithin bytes.now spot }
-    ensures read { IfOk result (λ r. (ports : List PortLine) → AreNamed ports names.now → found (port_form ports) bytes.now spot ≡ found (Form.whole r.0) bytes.now r.1) }
+    ensures read { IfOk result (λ r. (ports : List PortLine) → AreNamed ports names.now
+        → found (port_form ports) bytes.now spot ≡ found (Form.whole r.0) bytes.now r.1) }
     ensures within { IfOk result (λ r. IsWithin bytes.now r.1) }
     ensures widths { IfOk result (λ r. HasWires r.0) }
 {
@@ -154,7 +156,8 @@ fn port_next(bytes: &[u8], spot: Spot, count: usize) -> bool
 /// The lines of the ports.
 fn port_lines(alloc: Global, bytes: &[u8], spot: Spot) -> Result<(List<PortLine>, Spot), NoMemory>
     requires { IsWithin bytes.now spot }
-    ensures read { IfOk result (λ r. (all : ℕ) → all ≡ 2 ^ 32 - 1 → found (ports_form all []) bytes.now spot ≡ found (Form.whole r.0) bytes.now r.1) }
+    ensures read { IfOk result (λ r. (all : ℕ) → all ≡ 2 ^ 32 - 1
+        → found (ports_form all []) bytes.now spot ≡ found (Form.whole r.0) bytes.now r.1) }
     ensures within { IfOk result (λ r. IsWithin bytes.now r.1) }
     ensures few { IfOk result (λ r. length r.0 < 2 ^ 32) }
     ensures widths { IfOk result (λ r. All HasWires r.0) }
@@ -185,7 +188,8 @@ pub(crate) fn header_lines(
     spot: Spot,
 ) -> Result<(Header, Spot), NoMemory>
     requires { IsWithin bytes.now spot }
-    ensures read { IfOk result (λ r. found header_form bytes.now spot ≡ found (Form.whole (started r.0.name r.0.ports)) bytes.now r.1) }
+    ensures read { IfOk result (λ r. found header_form bytes.now spot
+        ≡ found (Form.whole (started r.0.name r.0.ports)) bytes.now r.1) }
     ensures within { IfOk result (λ r. IsWithin bytes.now r.1) }
     ensures few { IfOk result (λ r. length r.0.ports < 2 ^ 32) }
     ensures widths { IfOk result (λ r. All HasWires r.0.ports) }

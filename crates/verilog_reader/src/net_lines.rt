@@ -30,7 +30,8 @@ pub(crate) fn wire_line(
     requires within { IsWithin bytes.now spot }
     requires few { length lines.now ≤ 2 ^ 20 }
     requires few_memories { length memories.now ≤ 2 ^ 16 }
-    ensures read { found (wire_form memories.now lines.now (length lines.now)) bytes.now spot ≡ found (Form.whole result.0) bytes.now result.1 }
+    ensures read { found (wire_form memories.now lines.now (length lines.now)) bytes.now spot
+        ≡ found (Form.whole result.0) bytes.now result.1 }
     ensures within { IsWithin bytes.now result.1 }
     ensures some_bit { 1 ≤ result.0.width }
     ensures small { result.0.width ≤ 128 }
@@ -60,7 +61,10 @@ fn net_line(
     requires within { IsWithin bytes.now spot }
     requires few { length lines.now ≤ 2 ^ 20 }
     requires few_memories { length memories.now ≤ 2 ^ 16 }
-    ensures read { found (if is_wire then wire_form memories.now lines.now (length lines.now) else register_form (length lines.now)) bytes.now spot ≡ found (Form.whole result.0) bytes.now result.1 }
+    ensures read { found
+        (if is_wire then wire_form memories.now lines.now (length lines.now)
+        else register_form (length lines.now)) bytes.now spot
+        ≡ found (Form.whole result.0) bytes.now result.1 }
     ensures within { IsWithin bytes.now result.1 }
     ensures bits { HasBits result.0 }
 {
@@ -82,7 +86,9 @@ pub(crate) fn read_nets(
     requires few { length lines.old.items ≤ 2 ^ 20 }
     requires few_memories { length memories.now ≤ 2 ^ 16 }
     requires widths { All HasBits lines.old.items }
-    ensures read { IfOk result (λ behind. found (nets_form (2 ^ 20 - length lines.old.items) memories.now lines.old.items) bytes.now spot ≡ found (Form.whole lines.new.items) bytes.now behind) }
+    ensures read { IfOk result (λ behind. found
+        (nets_form (2 ^ 20 - length lines.old.items) memories.now lines.old.items) bytes.now spot
+        ≡ found (Form.whole lines.new.items) bytes.now behind) }
     ensures within { IfOk result (λ behind. IsWithin bytes.now behind) }
     ensures few { length lines.new.items ≤ 2 ^ 20 }
     ensures widths { OnOk result (All HasBits lines.new.items) }

@@ -48,7 +48,8 @@ fn read_behind_nets(
     requires few { length lines.old.items ≤ 2 ^ 20 }
     requires few_memories { length memories.old.items ≤ 2 ^ 16 }
     requires bits { All HasBits lines.old.items }
-    ensures read { (header : Netlist) → header.ports ≡ ports.now → IfOk result (λ r. found (behind_nets_form header memories.old.items lines.old.items) bytes.now start
+    ensures read { (header : Netlist) → header.ports ≡ ports.now
+        → IfOk result (λ r. found (behind_nets_form header memories.old.items lines.old.items) bytes.now start
         ≡ found (Form.whole (with_parts header lines.new.items r.0.items memories.new.items)) bytes.now r.1) }
 {
     let count = memories.len();

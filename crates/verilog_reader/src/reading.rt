@@ -61,9 +61,11 @@ fn fault_of(at: usize, rule: Rule) -> TextFault
 pub fn read_module(alloc: Global, bytes: &[u8]) -> Result<Module, TextFault>
     ensures text { IfOk result (λ one. bytes.now ≡ text_of one) }
     ensures sound { IfOk result IsModule }
-    ensures only { (one : Netlist) → IsModule one → bytes.now ≡ text_of one → MatchResult result (λ other. other ≡ one) (λ fault. fault ≡ TextFault.NoMemory) }
+    ensures only { (one : Netlist) → IsModule one → bytes.now ≡ text_of one
+        → MatchResult result (λ other. other ≡ one) (λ fault. fault ≡ TextFault.NoMemory) }
     ensures fault { IfErr result (IsTextFault bytes.now) }
-    ensures refused { (at : ℕ) (rule : Rule) → HasFault module_form bytes.now at rule → MatchResult result (λ one. ⊥) (λ fault. (fault ≡ fault_of at rule) ⊎ (fault ≡ TextFault.NoMemory)) }
+    ensures refused { (at : ℕ) (rule : Rule) → HasFault module_form bytes.now at rule
+        → MatchResult result (λ one. ⊥) (λ fault. (fault ≡ fault_of at rule) ⊎ (fault ≡ TextFault.NoMemory)) }
 {
     let (read, end) = read_parts(alloc, bytes)?;
     match end {

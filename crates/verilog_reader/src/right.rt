@@ -30,7 +30,9 @@ fn width_of(lines: &[Line], net: u32) -> u8
 fn second(bytes: &[u8], spot: Spot, lines: &[Line], sign: &[u8], wanted: Wanted) -> (u32, Spot)
     requires within { IsWithin bytes.now spot }
     requires few { length lines.now ≤ 2 ^ 32 }
-    ensures read { (make : ℕ → Equation) → found (second lines.now (length lines.now) sign.now (fits wanted) make) bytes.now spot ≡ found (Form.whole (make result.0)) bytes.now result.1 }
+    ensures read { (make : ℕ → Equation)
+        → found (second lines.now (length lines.now) sign.now (fits wanted) make) bytes.now spot
+        ≡ found (Form.whole (make result.0)) bytes.now result.1 }
     ensures within { IsWithin bytes.now result.1 }
 {
     let behind = fixed(bytes, spot, sign);
@@ -48,7 +50,9 @@ fn guarded_second(
 ) -> (u32, Spot)
     requires within { IsWithin bytes.now spot }
     requires few { length lines.now ≤ 2 ^ 32 }
-    ensures read { (make : ℕ → Equation) → found (guarded good Width (second lines.now (length lines.now) sign.now (fits wanted) make)) bytes.now spot ≡ found (Form.whole (make result.0)) bytes.now result.1 }
+    ensures read { (make : ℕ → Equation)
+        → found (guarded good Width (second lines.now (length lines.now) sign.now (fits wanted) make)) bytes.now spot
+        ≡ found (Form.whole (make result.0)) bytes.now result.1 }
     ensures within { IsWithin bytes.now result.1 }
 {
     if good {
@@ -61,7 +65,9 @@ fn guarded_second(
 fn choice(bytes: &[u8], spot: Spot, lines: &[Line], width: u8, s: u32) -> (Equation, Spot)
     requires within { IsWithin bytes.now spot }
     requires few { length lines.now ≤ 2 ^ 32 }
-    ensures read { found (guarded (width_of lines.now s == 1) Width (choice_form lines.now (length lines.now) width s)) bytes.now spot ≡ found (Form.whole result.0) bytes.now result.1 }
+    ensures read { found
+        (guarded (width_of lines.now s == 1) Width (choice_form lines.now (length lines.now) width s)) bytes.now spot
+        ≡ found (Form.whole result.0) bytes.now result.1 }
     ensures within { IsWithin bytes.now result.1 }
 {
     if width_of(lines, s) != 1 {
@@ -78,7 +84,8 @@ fn choice(bytes: &[u8], spot: Spot, lines: &[Line], width: u8, s: u32) -> (Equat
 fn signed(bytes: &[u8], spot: Spot, lines: &[Line], width: u8, a: u32) -> (Equation, Spot)
     requires within { IsWithin bytes.now spot }
     requires few { length lines.now ≤ 2 ^ 32 }
-    ensures read { found (Form.turn (sign_form lines.now (length lines.now) width a)) bytes.now spot ≡ found (Form.whole result.0) bytes.now result.1 }
+    ensures read { found (Form.turn (sign_form lines.now (length lines.now) width a)) bytes.now spot
+        ≡ found (Form.whole result.0) bytes.now result.1 }
     ensures within { IsWithin bytes.now result.1 }
 {
     let wide = width_of(lines, a);
@@ -180,7 +187,8 @@ fn behind_net(bytes: &[u8], spot: Spot, lines: &[Line], width: u8, a: u32) -> (E
     requires within { IsWithin bytes.now spot }
     requires few { length lines.now ≤ 2 ^ 32 }
     requires some_bit { 1 ≤ width }
-    ensures read { found (Form.turn (behind_form lines.now (length lines.now) width a)) bytes.now spot ≡ found (Form.whole result.0) bytes.now result.1 }
+    ensures read { found (Form.turn (behind_form lines.now (length lines.now) width a)) bytes.now spot
+        ≡ found (Form.whole result.0) bytes.now result.1 }
     ensures within { IsWithin bytes.now result.1 }
 {
     match next_byte(bytes, spot) {
@@ -197,7 +205,10 @@ fn net_first(bytes: &[u8], spot: Spot, lines: &[Line], width: u8) -> (Equation, 
     requires within { IsWithin bytes.now spot }
     requires few { length lines.now ≤ 2 ^ 32 }
     requires some_bit { 1 ≤ width }
-    ensures read { found (operand lines.now (length lines.now) fit_any (λ a. Form.turn (behind_form lines.now (length lines.now) width a))) bytes.now spot ≡ found (Form.whole result.0) bytes.now result.1 }
+    ensures read { found
+        (operand lines.now
+        (length lines.now) fit_any (λ a. Form.turn (behind_form lines.now (length lines.now) width a))) bytes.now spot
+        ≡ found (Form.whole result.0) bytes.now result.1 }
     ensures within { IsWithin bytes.now result.1 }
 {
     let (a, behind) = operand(bytes, spot, lines, Wanted::Any);
@@ -207,7 +218,8 @@ fn net_first(bytes: &[u8], spot: Spot, lines: &[Line], width: u8) -> (Equation, 
 fn concatenation(bytes: &[u8], spot: Spot, lines: &[Line], width: u8) -> (Equation, Spot)
     requires within { IsWithin bytes.now spot }
     requires few { length lines.now ≤ 2 ^ 32 }
-    ensures read { found (concat_form lines.now (length lines.now) width) bytes.now spot ≡ found (Form.whole result.0) bytes.now result.1 }
+    ensures read { found (concat_form lines.now (length lines.now) width) bytes.now spot
+        ≡ found (Form.whole result.0) bytes.now result.1 }
     ensures within { IsWithin bytes.now result.1 }
 {
     let opened = fixed(bytes, spot, b"{");
@@ -270,7 +282,8 @@ fn word(
     requires within { IsWithin bytes.now spot }
     requires few { length lines.now ≤ 2 ^ 32 }
     requires few_memories { length memories.now ≤ 2 ^ 32 }
-    ensures read { found (read_form memories.now lines.now (length lines.now) width) bytes.now spot ≡ found (Form.whole result.0) bytes.now result.1 }
+    ensures read { found (read_form memories.now lines.now (length lines.now) width) bytes.now spot
+        ≡ found (Form.whole result.0) bytes.now result.1 }
     ensures within { IsWithin bytes.now result.1 }
 {
     let lettered = fixed(bytes, spot, b"m");
@@ -294,7 +307,8 @@ fn constant_side(bytes: &[u8], spot: Spot, width: u8, byte: u8) -> (Equation, Sp
     requires within { IsWithin bytes.now spot }
     requires some_bit { 1 ≤ width }
     requires small { width ≤ 128 }
-    ensures read { found (if is_digit byte 10 then constant_form width else Form.refuse OtherByte) bytes.now spot ≡ found (Form.whole result.0) bytes.now result.1 }
+    ensures read { found (if is_digit byte 10 then constant_form width else Form.refuse OtherByte) bytes.now spot
+        ≡ found (Form.whole result.0) bytes.now result.1 }
     ensures within { IsWithin bytes.now result.1 }
 {
     if is_digit(byte) {
@@ -318,7 +332,8 @@ pub(crate) fn right_side(
     requires few_memories { length memories.now ≤ 2 ^ 32 }
     requires some_bit { 1 ≤ width }
     requires small { width ≤ 128 }
-    ensures read { found (right_form memories.now lines.now (length lines.now) width) bytes.now spot ≡ found (Form.whole result.0) bytes.now result.1 }
+    ensures read { found (right_form memories.now lines.now (length lines.now) width) bytes.now spot
+        ≡ found (Form.whole result.0) bytes.now result.1 }
     ensures within { IsWithin bytes.now result.1 }
 {
     match next_byte(bytes, spot) {

@@ -41,7 +41,8 @@ pub(crate) fn memories(
     start: Spot,
 ) -> Result<(Vec<Memory>, Spot), NoMemory>
     requires { IsWithin bytes.now start }
-    ensures read { (most : ℕ) → most ≡ 2 ^ 16 → IfOk result (λ r. found (memories_form most 0) bytes.now start ≡ found (Form.whole r.0.items) bytes.now r.1) }
+    ensures read { (most : ℕ) → most ≡ 2 ^ 16
+        → IfOk result (λ r. found (memories_form most 0) bytes.now start ≡ found (Form.whole r.0.items) bytes.now r.1) }
     ensures within { IfOk result (λ r. IsWithin bytes.now r.1) }
     ensures few { IfOk result (λ r. length r.0.items ≤ 2 ^ 16) }
 {
@@ -70,7 +71,8 @@ fn has_no_room(bytes: &[u8], spot: Spot, net: usize) -> bool
 fn input(bytes: &[u8], spot: Spot, lines: &[Line], number: u32, port: &PortLine) -> (Line, Spot)
     requires within { IsWithin bytes.now spot }
     requires few { length lines.now < 2 ^ 32 }
-    ensures read { found (room_form (length lines.now) (input_form (length lines.now) number port.now)) bytes.now spot ≡ found (Form.whole result.0) bytes.now result.1 }
+    ensures read { found (room_form (length lines.now) (input_form (length lines.now) number port.now)) bytes.now spot
+        ≡ found (Form.whole result.0) bytes.now result.1 }
     ensures within { IsWithin bytes.now result.1 }
     ensures width { result.0.width ≡ port.now.width }
 {
@@ -99,10 +101,12 @@ fn add_input(
     requires input { port.now.output ≡ false }
     requires width { HasWires port.now }
     requires widths { All HasBits lines.old.items }
-    ensures leads { IfOk result (λ behind. (all : Form (List Line)) (start : Spot) (ports : List PortLine) → Leads all bytes.now start lines.old.items (inputs_form (length lines.old.items) number (port.now ∷ ports)) spot
+    ensures leads { IfOk result (λ behind. (all : Form (List Line)) (start : Spot) (ports : List PortLine)
+        → Leads all bytes.now start lines.old.items (inputs_form (length lines.old.items) number (port.now ∷ ports)) spot
         → Leads all bytes.now start lines.new.items (inputs_form (length lines.new.items) (number + 1) ports) behind) }
     ensures within { IfOk result (λ behind. IsWithin bytes.now behind) }
-    ensures room { IfOk result (λ behind. is_flawed behind ≡ false → length lines.old.items ≤ 2 ^ 20 → length lines.new.items ≤ 2 ^ 20) }
+    ensures room { IfOk result (λ behind. is_flawed behind ≡ false → length lines.old.items ≤ 2 ^ 20
+        → length lines.new.items ≤ 2 ^ 20) }
     ensures widths { OnOk result (All HasBits lines.new.items) }
 {
     let (line, behind) = input(bytes, spot, lines.as_slice(), number, port);
@@ -122,10 +126,12 @@ fn add_port(
     requires few { length lines.old.items < 2 ^ 32 }
     requires width { HasWires port.now }
     requires widths { All HasBits lines.old.items }
-    ensures leads { IfOk result (λ behind. (all : Form (List Line)) (start : Spot) (ports : List PortLine) → Leads all bytes.now start lines.old.items (inputs_form (length lines.old.items) number (port.now ∷ ports)) spot
+    ensures leads { IfOk result (λ behind. (all : Form (List Line)) (start : Spot) (ports : List PortLine)
+        → Leads all bytes.now start lines.old.items (inputs_form (length lines.old.items) number (port.now ∷ ports)) spot
         → Leads all bytes.now start lines.new.items (inputs_form (length lines.new.items) (number + 1) ports) behind) }
     ensures within { IfOk result (λ behind. IsWithin bytes.now behind) }
-    ensures room { IfOk result (λ behind. is_flawed behind ≡ false → length lines.old.items ≤ 2 ^ 20 → length lines.new.items ≤ 2 ^ 20) }
+    ensures room { IfOk result (λ behind. is_flawed behind ≡ false → length lines.old.items ≤ 2 ^ 20
+        → length lines.new.items ≤ 2 ^ 20) }
     ensures widths { OnOk result (All HasBits lines.new.items) }
 {
     if port.output {
@@ -145,7 +151,8 @@ pub(crate) fn inputs(
     requires within { IsWithin bytes.now start }
     requires few { length ports.now < 2 ^ 32 }
     requires widths { All HasWires ports.now }
-    ensures read { IfOk result (λ r. found (inputs_form 0 0 ports.now) bytes.now start ≡ found (Form.whole r.0.items) bytes.now r.1) }
+    ensures read { IfOk result (λ r. found (inputs_form 0 0 ports.now) bytes.now start
+        ≡ found (Form.whole r.0.items) bytes.now r.1) }
     ensures within { IfOk result (λ r. IsWithin bytes.now r.1) }
     ensures few { IfOk result (λ r. length r.0.items ≤ 2 ^ 20) }
     ensures widths { IfOk result (λ r. All HasBits r.0.items) }

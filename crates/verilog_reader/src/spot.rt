@@ -144,7 +144,8 @@ pub(crate) fn take<T: Copy>(
 ) -> (T, Spot)
     requires within { IsWithin bytes.now spot }
     requires run { run.now ≡ run_from bytes.now spot }
-    ensures taken { (test : List ℕ → Option Rule) (value : List ℕ → T) → Judges test value run.now judged → Takes test value bytes.now spot result.0 result.1 }
+    ensures taken { (test : List ℕ → Option Rule) (value : List ℕ → T) → Judges test value run.now judged
+        → Takes test value bytes.now spot result.0 result.1 }
     ensures value { (judged ≡ Ok result.0) ⊎ (result.0 ≡ otherwise) }
     ensures within { IsWithin bytes.now result.1 }
 {

@@ -1,4 +1,5 @@
--- The Verilog text of a module, in this order: its header, a line for each memory, a line for each net, a clocked line for each register
+-- The Verilog text of a module, in this order: its header, a line for each memory, a line for each net, a clocked line for each
+-- register
 -- and then for each memory, a line for each output.
 use Rattle.std.specs.Prelude.{ℕ, zero, suc, ◌+◌, ◌-◌, ◌/◌, ◌%◌, ◌^◌, List, [], ◌∷◌, ◌++◌, codes, decimal, nat_lt, slice_get, Option, Some, None, if◌then◌else◌}
 use Rattle.netlist.specs.declared.line.Equation.{Equation}
@@ -45,7 +46,8 @@ ports_text (port ∷ ports) = port_text port ++ ports_text ports
 
 abbrev pub header_text : Netlist → List ℕ
 header_text netlist =
-    codes "module " ++ netlist.name ++ codes " (\n  input wire clk,\n  input wire reset" ++ ports_text netlist.ports ++ codes "\n);\n"
+    codes "module " ++ netlist.name ++ codes " (\n  input wire clk,\n  input wire reset" ++ ports_text netlist.ports
+    ++ codes "\n);\n"
 
 abbrev pub name_of : Option PortLine → List ℕ
 name_of None = []
@@ -75,14 +77,18 @@ right_text ports (Reg reset next) = []
 right_text ports (Read m a) = memory_name m ++ codes "[" ++ net_name a ++ codes "]"
 
 abbrev pub wire_line : List PortLine → ℕ → ℕ → Equation → List ℕ
-wire_line ports n width equation = codes "  wire " ++ range_text width ++ codes " " ++ net_name n ++ codes " = " ++ right_text ports equation ++ codes ";\n"
+wire_line ports n width equation =
+    codes "  wire " ++ range_text width ++ codes " " ++ net_name n ++ codes " = " ++ right_text ports equation ++ codes ";\n"
 
 abbrev pub register_line : ℕ → ℕ → List ℕ
 register_line n width = codes "  reg " ++ range_text width ++ codes " " ++ net_name n ++ codes ";\n"
 
 -- the line of memory m: the bits of its words, and its addresses up to the last
 abbrev pub memory_line : ℕ → Memory → List ℕ
-memory_line m memory = codes "  reg " ++ range_text memory.width ++ codes " " ++ memory_name m ++ codes " [0:" ++ decimal (2 ^ memory.address_bits - 1) ++ codes "];\n"
+memory_line m memory =
+    codes "  reg " ++ range_text memory.width ++ codes " " ++ memory_name m ++ codes " [0:"
+    ++ decimal (2 ^ memory.address_bits - 1)
+    ++ codes "];\n"
 
 -- the lines of the memories from memory m on
 abbrev pub memories_text : ℕ → List Memory → List ℕ
@@ -91,7 +97,8 @@ memories_text m (memory ∷ memories) = memory_line m memory ++ memories_text (m
 
 -- the line of net n
 abbrev pub net_line : List PortLine → ℕ → Line → List ℕ
-net_line ports n line = if is_register line.equation then register_line n line.width else wire_line ports n line.width line.equation
+net_line ports n line =
+    if is_register line.equation then register_line n line.width else wire_line ports n line.width line.equation
 
 -- the lines of the nets from net n on
 abbrev pub nets_text : List PortLine → ℕ → List Line → List ℕ
@@ -101,7 +108,8 @@ nets_text ports n (line ∷ lines) = net_line ports n line ++ nets_text ports (n
 -- what the clock does to register n: it takes its reset value, or what its next net has
 abbrev pub clock_line : ℕ → ℕ → ℕ → ℕ → List ℕ
 clock_line n width reset next =
-    codes "  always @(posedge clk) if (reset) " ++ net_name n ++ codes " <= " ++ constant_text width reset ++ codes "; else " ++ net_name n ++ codes " <= " ++ net_name next ++ codes ";\n"
+    codes "  always @(posedge clk) if (reset) " ++ net_name n ++ codes " <= " ++ constant_text width reset ++ codes "; else "
+    ++ net_name n ++ codes " <= " ++ net_name next ++ codes ";\n"
 
 -- the clocked line of net n; only a register has one
 abbrev pub clocked_line : ℕ → Equation → List ℕ
@@ -116,7 +124,8 @@ clocked_text n (line ∷ lines) = clocked_line n line.equation ++ clocked_text (
 -- what the clock does to memory m: it takes a word at an address where the write is enabled
 abbrev pub write_line : ℕ → MemWrite → List ℕ
 write_line m write =
-    codes "  always @(posedge clk) if (" ++ net_name write.enable ++ codes ") " ++ memory_name m ++ codes "[" ++ net_name write.address ++ codes "] <= " ++ net_name write.word ++ codes ";\n"
+    codes "  always @(posedge clk) if (" ++ net_name write.enable ++ codes ") " ++ memory_name m ++ codes "["
+    ++ net_name write.address ++ codes "] <= " ++ net_name write.word ++ codes ";\n"
 
 -- the clocked line of memory m; one that waits for its write has none
 abbrev pub written_line : ℕ → Option MemWrite → List ℕ
@@ -131,7 +140,8 @@ writes_text m (memory ∷ memories) = written_line m memory.write ++ writes_text
 -- the line of an output, by the net that drives it; an input has none
 abbrev pub assign_line : PortLine → Option ℕ → List ℕ
 assign_line port None = []
-assign_line port (Some net) = if port.output then codes "  assign " ++ port.name ++ codes " = " ++ net_name net ++ codes ";\n" else []
+assign_line port (Some net) =
+    if port.output then codes "  assign " ++ port.name ++ codes " = " ++ net_name net ++ codes ";\n" else []
 
 -- the lines of the outputs among the ports, each with what drives it
 abbrev pub assigns_text : List PortLine → List (Option ℕ) → List ℕ
@@ -142,5 +152,6 @@ assigns_text (port ∷ ports) (driver ∷ drivers) = assign_line port driver ++ 
 -- the one text of a module
 abbrev pub text_of : Netlist → List ℕ
 text_of netlist =
-    header_text netlist ++ memories_text 0 netlist.memories ++ nets_text netlist.ports 0 netlist.lines ++ clocked_text 0 netlist.lines ++ writes_text 0 netlist.memories
+    header_text netlist ++ memories_text 0 netlist.memories ++ nets_text netlist.ports 0 netlist.lines
+    ++ clocked_text 0 netlist.lines ++ writes_text 0 netlist.memories
     ++ assigns_text netlist.ports netlist.drivers ++ codes "endmodule\n"

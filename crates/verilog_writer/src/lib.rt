@@ -113,7 +113,8 @@ fn put_infix(text: &mut String, a: u32, operator: &str, b: u32) -> Result<(), No
 }
 
 fn put_concatenation(text: &mut String, a: u32, b: u32) -> Result<(), NoMemory>
-    ensures { OnOk result (string_bytes text.new ≡ string_bytes text.old ++ (codes "{" ++ net_name a ++ codes ", " ++ net_name b ++ codes "}")) }
+    ensures { OnOk result
+        (string_bytes text.new ≡ string_bytes text.old ++ (codes "{" ++ net_name a ++ codes ", " ++ net_name b ++ codes "}")) }
 {
     write!(text, "{{n{a}, n{b}}}")?;
     Ok(())
@@ -127,21 +128,26 @@ fn put_prefix(text: &mut String, operator: &str, a: u32) -> Result<(), NoMemory>
 }
 
 fn put_choice(text: &mut String, s: u32, a: u32, b: u32) -> Result<(), NoMemory>
-    ensures { OnOk result (string_bytes text.new ≡ string_bytes text.old ++ (net_name s ++ codes " ? " ++ net_name a ++ codes " : " ++ net_name b)) }
+    ensures { OnOk result
+        (string_bytes text.new
+        ≡ string_bytes text.old ++ (net_name s ++ codes " ? " ++ net_name a ++ codes " : " ++ net_name b)) }
 {
     write!(text, "n{s} ? n{a} : n{b}")?;
     Ok(())
 }
 
 fn put_slice(text: &mut String, a: u32, high: u8, low: u8) -> Result<(), NoMemory>
-    ensures { OnOk result (string_bytes text.new ≡ string_bytes text.old ++ (net_name a ++ codes "[" ++ decimal high ++ codes ":" ++ decimal low ++ codes "]")) }
+    ensures { OnOk result
+        (string_bytes text.new
+        ≡ string_bytes text.old ++ (net_name a ++ codes "[" ++ decimal high ++ codes ":" ++ decimal low ++ codes "]")) }
 {
     write!(text, "n{a}[{high}:{low}]")?;
     Ok(())
 }
 
 fn put_read(text: &mut String, memory: u32, address: u32) -> Result<(), NoMemory>
-    ensures { OnOk result (string_bytes text.new ≡ string_bytes text.old ++ (memory_name memory ++ codes "[" ++ net_name address ++ codes "]")) }
+    ensures { OnOk result
+        (string_bytes text.new ≡ string_bytes text.old ++ (memory_name memory ++ codes "[" ++ net_name address ++ codes "]")) }
 {
     write!(text, "m{memory}[n{address}]")?;
     Ok(())
@@ -269,7 +275,10 @@ fn put_clocked_lines(text: &mut String, module: &Module) -> Result<(), NoMemory>
 }
 
 fn put_write(text: &mut String, number: u32, memory: &MemLine) -> Result<(), NoMemory>
-    ensures { OnOk result (string_bytes text.new ≡ string_bytes text.old ++ write_line number (record { enable = memory.now.enable; address = memory.now.address; word = memory.now.word })) }
+    ensures { OnOk result
+        (string_bytes text.new
+        ≡ string_bytes text.old
+        ++ write_line number (record { enable = memory.now.enable; address = memory.now.address; word = memory.now.word })) }
 {
     let (enable, address, word) = (memory.enable, memory.address, memory.word);
     write!(
@@ -290,7 +299,9 @@ fn put_writes(text: &mut String, module: &Module) -> Result<(), NoMemory>
 }
 
 fn put_assign(text: &mut String, name: &str, net: u32) -> Result<(), NoMemory>
-    ensures { OnOk result (string_bytes text.new ≡ string_bytes text.old ++ (codes "  assign " ++ name.now ++ codes " = " ++ net_name net ++ codes ";\n")) }
+    ensures { OnOk result
+        (string_bytes text.new
+        ≡ string_bytes text.old ++ (codes "  assign " ++ name.now ++ codes " = " ++ net_name net ++ codes ";\n")) }
 {
     write!(text, "  assign {name} = n{net};\n")?;
     Ok(())
@@ -298,7 +309,8 @@ fn put_assign(text: &mut String, name: &str, net: u32) -> Result<(), NoMemory>
 
 fn put_assigns(text: &mut String, module: &Module) -> Result<(), NoMemory>
     requires { IsModule «module».now }
-    ensures { OnOk result (string_bytes text.new ≡ string_bytes text.old ++ assigns_text «module».now.ports «module».now.drivers) }
+    ensures { OnOk result
+        (string_bytes text.new ≡ string_bytes text.old ++ assigns_text «module».now.ports «module».now.drivers) }
 {
     for (k, port) in module.ports().iter().enumerate() {
         if port.output {
@@ -336,7 +348,8 @@ pub fn memory_is_spelled()
 
 /// A line of each kind.
 pub fn lines_are_spelled()
-    ensures input { net_line (record { name = codes "a$i$d"; width = 8; output = false } ∷ []) 0 (line_of 8 (Equation.Input 0)) ≡ codes "  wire [7:0] n0 = a$i$d;\n" }
+    ensures input { net_line (record { name = codes "a$i$d"; width = 8; output = false } ∷ []) 0 (line_of 8 (Equation.Input 0))
+        ≡ codes "  wire [7:0] n0 = a$i$d;\n" }
     ensures constant { net_line [] 1 (line_of 8 (Equation.Constant (word 8 165))) ≡ codes "  wire [7:0] n1 = 8'ha5;\n" }
     ensures and { net_line [] 12 (line_of 8 (Equation.And 2 11)) ≡ codes "  wire [7:0] n12 = n2 & n11;\n" }
     ensures or { net_line [] 3 (line_of 8 (Equation.Or 1 2)) ≡ codes "  wire [7:0] n3 = n1 | n2;\n" }
@@ -351,11 +364,15 @@ pub fn lines_are_spelled()
     ensures choice { net_line [] 3 (line_of 8 (Equation.Mux 0 1 2)) ≡ codes "  wire [7:0] n3 = n0 ? n1 : n2;\n" }
     ensures slice { net_line [] 3 (line_of 4 (Equation.Slice 1 6 3)) ≡ codes "  wire [3:0] n3 = n1[6:3];\n" }
     ensures register { net_line [] 3 (line_of 8 (Equation.Reg (word 8 165) 4)) ≡ codes "  reg [7:0] n3;\n" }
-    ensures clocked { clocked_line 3 (Equation.Reg (word 8 165) 4) ≡ codes "  always @(posedge clk) if (reset) n3 <= 8'ha5; else n3 <= n4;\n" }
-    ensures memory { memory_line 12 (memory_of (record { width = 8; address_bits = 10; enable = 1; address = 2; word = 3 })) ≡ codes "  reg [7:0] m12 [0:1023];\n" }
+    ensures clocked { clocked_line 3 (Equation.Reg (word 8 165) 4)
+        ≡ codes "  always @(posedge clk) if (reset) n3 <= 8'ha5; else n3 <= n4;\n" }
+    ensures memory { memory_line 12 (memory_of (record { width = 8; address_bits = 10; enable = 1; address = 2; word = 3 }))
+        ≡ codes "  reg [7:0] m12 [0:1023];\n" }
     ensures read { net_line [] 3 (line_of 8 (Equation.Read 12 1)) ≡ codes "  wire [7:0] n3 = m12[n1];\n" }
-    ensures write { write_line 12 (record { enable = 1; address = 2; word = 3 }) ≡ codes "  always @(posedge clk) if (n1) m12[n2] <= n3;\n" }
-    ensures output { assign_line (record { name = codes "a$i$q"; width = 8; output = true }) (Some 3) ≡ codes "  assign a$i$q = n3;\n" }
+    ensures write { write_line 12 (record { enable = 1; address = 2; word = 3 })
+        ≡ codes "  always @(posedge clk) if (n1) m12[n2] <= n3;\n" }
+    ensures output { assign_line (record { name = codes "a$i$q"; width = 8; output = true }) (Some 3)
+        ≡ codes "  assign a$i$q = n3;\n" }
 {}
 
 /// A constant has a digit for each four bits of its width or part of four.

@@ -25,7 +25,8 @@ digits_for width = (width + 3) / 4
 
 -- as many digits as the width needs, of a number that fits it
 abbrev pub is_spelled : ℕ → List ℕ → Bool
-is_spelled width text = length text == digits_for width && (list_all is_digit text && nat_lt (number_behind 16 0 text) (2 ^ width))
+is_spelled width text =
+    length text == digits_for width && (list_all is_digit text && nat_lt (number_behind 16 0 text) (2 ^ width))
 
 -- the value of a width that a text writes
 abbrev pub value_in : ℕ → List ℕ → Option Word

@@ -5,7 +5,9 @@ use Rattle.waves.specs.Digits.{is_decimal, number_behind}
 
 -- up to five decimal digits without a zero at the front, of a number up to 65,536
 abbrev pub is_count : List ℕ → Bool
-is_count digits = nat_lt (length digits) 6 && (list_all is_decimal digits && (not (slice_index digits 0 == 48) && nat_lt (number_behind 10 0 digits) 65537))
+is_count digits =
+    nat_lt (length digits) 6
+    && (list_all is_decimal digits && (not (slice_index digits 0 == 48) && nat_lt (number_behind 10 0 digits) 65537))
 
 -- `cycles` and a count behind one blank
 abbrev pub is_header : List ℕ → Bool

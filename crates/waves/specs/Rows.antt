@@ -33,4 +33,5 @@ row_of widths line = values widths (texts line)
 
 -- what is wrong with a line of values
 abbrev pub row_rule : List ℕ → List ℕ → Option WavesRule
-row_rule widths line = if length (texts line) == length widths then (if is_some (row_of widths line) then None else Some Spelling) else Some Values
+row_rule widths line =
+    if length (texts line) == length widths then (if is_some (row_of widths line) then None else Some Spelling) else Some Values

@@ -9,27 +9,33 @@ ghost use Rattle.waves.specs.declared.faults.WavesFault.TheVariants.{Refused};
 
 /// Each file has rows or a first fault.
 pub fn rows_or_fault()
-    ensures { (widths bytes : List ℕ) → ((rows : List (List Word)) × IsWavesOf widths bytes rows) ⊎ ((line : ℕ) × (rule : WavesRule) × IsFaultOf widths bytes (Refused line rule)) }
+    ensures { (widths bytes : List ℕ)
+        → ((rows : List (List Word)) × IsWavesOf widths bytes rows)
+        ⊎ ((line : ℕ) × (rule : WavesRule) × IsFaultOf widths bytes (Refused line rule)) }
 {}
 
 /// A file is refused or has rows, and never both.
 pub fn never_both()
-    ensures { (widths bytes : List ℕ) (rows : List (List Word)) (line : ℕ) (rule : WavesRule) → IsWavesOf widths bytes rows → ¬ (IsFaultOf widths bytes (Refused line rule)) }
+    ensures { (widths bytes : List ℕ) (rows : List (List Word)) (line : ℕ) (rule : WavesRule) → IsWavesOf widths bytes rows
+        → ¬ (IsFaultOf widths bytes (Refused line rule)) }
 {}
 
 /// The bytes of a file are waves of one list of rows at most.
 pub fn no_two_readings()
-    ensures { (widths bytes : List ℕ) (one other : List (List Word)) → IsWavesOf widths bytes one → IsWavesOf widths bytes other → one ≡ other }
+    ensures { (widths bytes : List ℕ) (one other : List (List Word)) → IsWavesOf widths bytes one → IsWavesOf widths bytes other
+        → one ≡ other }
 {}
 
 /// A file has one first fault at most: one line and one rule.
 pub fn no_two_first_faults()
-    ensures { (widths bytes : List ℕ) (line other : ℕ) (rule second : WavesRule) → IsFaultOf widths bytes (Refused line rule) → IsFaultOf widths bytes (Refused other second) → (line ≡ other) × (rule ≡ second) }
+    ensures { (widths bytes : List ℕ) (line other : ℕ) (rule second : WavesRule) → IsFaultOf widths bytes (Refused line rule)
+        → IsFaultOf widths bytes (Refused other second) → (line ≡ other) × (rule ≡ second) }
 {}
 
 /// Files that are read.
 pub fn read_files()
-    ensures two_inputs { IsWavesOf (1 ∷ 8 ∷ []) (codes "cycles 2\n0 1f\r\n1 a0") ((word 1 0 ∷ word 8 31 ∷ []) ∷ (word 1 1 ∷ word 8 160 ∷ []) ∷ []) }
+    ensures two_inputs { IsWavesOf (1 ∷ 8 ∷ []) (codes "cycles 2\n0 1f\r\n1 a0")
+        ((word 1 0 ∷ word 8 31 ∷ []) ∷ (word 1 1 ∷ word 8 160 ∷ []) ∷ []) }
     ensures no_inputs { IsWavesOf [] (codes "cycles 2\n\n\n") ([] ∷ [] ∷ []) }
 {}
 

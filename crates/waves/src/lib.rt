@@ -1,4 +1,5 @@
-//! What lines say: the inputs of a module, cycle by cycle, as a file states them, and the words of a scenario, with the numbers, flags and patterns
+//! What lines say: the inputs of a module, cycle by cycle, as a file states them, and the words of a scenario, with the numbers,
+//! flags and patterns
 //! that words spell.
 #![tactic(auto)]
 

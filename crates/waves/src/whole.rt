@@ -83,7 +83,8 @@ fn starts_of(
     requires within { from ≤ length bytes.now }
     requires few { due ≤ 65536 }
     ensures count { IfOk result (λ starts. length starts.items ≡ due) }
-    ensures rows { IfOk result (λ starts. map (row_of widths.now) (lines (drop from bytes.now)) ≡ map Some (map (row_at widths.now bytes.now) starts.items)) }
+    ensures rows { IfOk result (λ starts. map (row_of widths.now) (lines (drop from bytes.now))
+        ≡ map Some (map (row_at widths.now bytes.now) starts.items)) }
     ensures each { IfOk result (λ starts. All (IsStart widths.now bytes.now) starts.items) }
     ensures fault { IfErr result (λ fault. IsFaultIn widths.now due (lines (drop from bytes.now)) fault) }
 {

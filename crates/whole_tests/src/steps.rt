@@ -123,7 +123,8 @@ fn shows(sim: &Sim, values: &[u128]) -> bool
     same && rest.is_empty()
 }
 
-/// What the host gives (address, read, write, word, byte enables), what the agent gives (wait, word, valid), what the host sees (wait, word,
+/// What the host gives (address, read, write, word, byte enables), what the agent gives (wait, word, valid), what the host sees
+/// (wait, word,
 /// valid), and what the agent sees (address, read, write, word, byte enables, grant).
 fn cycles() -> [([u64; 5], [u64; 3], [u128; 9]); 11] {
     [

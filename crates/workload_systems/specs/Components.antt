@@ -41,7 +41,8 @@ agent_name exponent = one_of (codes "s8") (codes "s16") (codes "s32") (codes "s6
 -- a word of one byte has no byte enables
 unfoldable pub enables : List ℕ → List ℕ → ℕ → Lines
 enables interface direction exponent =
-    if exponent == 0 then [] else port interface (codes "byteenable") direction (one_of (codes "1") (codes "2") (codes "4") (codes "8") exponent) ∷ []
+    if exponent == 0 then []
+    else port interface (codes "byteenable") direction (one_of (codes "1") (codes "2") (codes "4") (codes "8") exponent) ∷ []
 
 -- what a host gives its agents, or an agent takes
 unfoldable pub command_ports : List ℕ → List ℕ → List ℕ → ℕ → Lines
@@ -77,7 +78,8 @@ agent_lines exponent =
 
 -- the bits of 1 to 4 symbols
 abbrev pub beat_bits : ℕ → List ℕ
-beat_bits symbols = if symbols == 1 then codes "8" else (if symbols == 2 then codes "16" else (if symbols == 3 then codes "24" else codes "32"))
+beat_bits symbols =
+    if symbols == 1 then codes "8" else (if symbols == 2 then codes "16" else (if symbols == 3 then codes "24" else codes "32"))
 
 -- one symbol needs no `empty`
 unfoldable pub empties : List ℕ → List ℕ → ℕ → Lines
@@ -120,4 +122,6 @@ one_to_four = 1 ∷ 2 ∷ 3 ∷ 4 ∷ []
 
 -- the component scripts, which are the same for all numbers
 abbrev pub component_lines : List Lines
-component_lines = map host_lines four ++ map agent_lines four ++ map (source_lines 0) one_to_four ++ map (source_lines 1) one_to_four ++ map sink_lines one_to_four
+component_lines =
+    map host_lines four ++ map agent_lines four ++ map (source_lines 0) one_to_four ++ map (source_lines 1) one_to_four
+    ++ map sink_lines one_to_four

@@ -88,7 +88,8 @@ fn agent_of_plan<'a>(
     })
 }
 
-/// The agents of a plan, each before the first cycle of its script, with room for so many cycles. `header` is that of the plan's module.
+/// The agents of a plan, each before the first cycle of its script, with room for so many cycles. `header` is that of the plan's
+/// module.
 pub fn agents_of_plan<'a>(
     alloc: Global,
     plan: &'a Plan,
@@ -100,7 +101,8 @@ pub fn agents_of_plan<'a>(
     requires told { AreTold plan.now.system ports.now }
     requires header { header.now ≡ ports_of plan.now.system }
     requires count { length scripts.now ≡ length (agents_of plan.now.system) }
-    requires scripts { (a : ℕ) (port : Record) (script : Sequence Statement) → IsAgentAt plan.now.system a port → slice_get scripts.now a ≡ Some script → IsAgentScript port script }
+    requires scripts { (a : ℕ) (port : Record) (script : Sequence Statement) → IsAgentAt plan.now.system a port
+        → slice_get scripts.now a ≡ Some script → IsAgentScript port script }
     requires few { cycles ≤ 65536 }
     ensures { IfOk result (λ agents. AreFirstAgents plan.now.system scripts.now cycles agents.items) }
 {
@@ -130,8 +132,10 @@ pub fn answer_all(agents: &[BenchAgent], sim: &Simulator, row: &mut InputRow)
 
 /// Whether one of them gives a word in the very cycle in which it takes the read.
 pub fn any_gives_at_once(agents: &[BenchAgent]) -> bool
-    ensures none { IsFalse result → (a : ℕ) (agent : BenchAgentValue) → slice_get agents.now a ≡ Some agent → IsFalse (gives_at_once agent) }
-    ensures some { IsTrue result → (a : ℕ) × (agent : BenchAgentValue) × (slice_get agents.now a ≡ Some agent) × IsTrue (gives_at_once agent) }
+    ensures none { IsFalse result → (a : ℕ) (agent : BenchAgentValue) → slice_get agents.now a ≡ Some agent
+        → IsFalse (gives_at_once agent) }
+    ensures some { IsTrue result
+        → (a : ℕ) × (agent : BenchAgentValue) × (slice_get agents.now a ≡ Some agent) × IsTrue (gives_at_once agent) }
 {
     'agents: for agent in agents {
         if agent.gives_at_once() {

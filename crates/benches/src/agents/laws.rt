@@ -30,51 +30,78 @@ use agent_stand_ins::stand_ins_stand_for_runs;
 use port_rows::agent_ends::{agents_are_commanded, agents_are_shown, shown_agents_fit};
 use trace_lines::agents_are_told_by_their_ports;
 
-/// An agent of a system's module can take part in its simulation. What it sets has room in a row where it fits its ports, and where it
+/// An agent of a system's module can take part in its simulation. What it sets has room in a row where it fits its ports, and
+/// where it
 /// stands in the row, the run shows it. What the run commands it is what stands at the outputs that command it.
 pub fn agents_take_part()
-    ensures fit { (system : SystemTable) (number : ℕ) (agent : BenchAgentValue) (sim : SimValue) → HasKnownPorts system → sim.netlist.ports ≡ ports_of system → IsAgentOf system number agent
+    ensures fit { (system : SystemTable) (number : ℕ) (agent : BenchAgentValue) (sim : SimValue) → HasKnownPorts system
+        → sim.netlist.ports ≡ ports_of system → IsAgentOf system number agent
         → IsBoundedAgent agent.stand_in.port → agent.stand_in.cycle < agent.stand_in.cycles → Fits agent sim }
-    ensures room { (system : SystemTable) (row : List Bits) (number : ℕ) (agent : BenchAgentValue) (answer : CodedWord) → HasKnownPorts system → widths_of row ≡ input_widths (ports_of system)
-        → IsAgentOf system number agent → FitsPorts agent.stand_in.port (levels_with agent answer) → AllFit row (agent_levels agent.places (levels_with agent answer)) }
-    ensures shown { (system : SystemTable) (netlist : Netlist) (run : Run) (c : ℕ) (row : List Bits) (number : ℕ) (agent : BenchAgentValue) (answer : CodedWord) (of : IsAgentOf system number agent) → HasKnownPorts system
-        → IsGivenRow system netlist run c row → FitsPorts agent.stand_in.port (levels_with agent answer) → AllStand row (agent_levels agent.places (levels_with agent answer))
-        → AreShownBy (agent_view netlist run agent.stand_in.port.word_bytes (name_at system of.at.end)) c (levels_with agent answer) }
-    ensures commanded { (system : SystemTable) (netlist : Netlist) (run : Run) (c : ℕ) (sim : SimValue) (number : ℕ) (agent : BenchAgentValue) (of : IsAgentOf system number agent) → netlist.ports ≡ ports_of system
+    ensures room { (system : SystemTable) (row : List Bits) (number : ℕ) (agent : BenchAgentValue) (answer : CodedWord)
+        → HasKnownPorts system → widths_of row ≡ input_widths (ports_of system)
+        → IsAgentOf system number agent → FitsPorts agent.stand_in.port (levels_with agent answer)
+        → AllFit row (agent_levels agent.places (levels_with agent answer)) }
+    ensures shown { (system : SystemTable) (netlist : Netlist) (run : Run) (c : ℕ) (row : List Bits) (number : ℕ)
+        (agent : BenchAgentValue) (answer : CodedWord) (of : IsAgentOf system number agent)
+        → HasKnownPorts system
+        → IsGivenRow system netlist run c row → FitsPorts agent.stand_in.port (levels_with agent answer)
+        → AllStand row (agent_levels agent.places (levels_with agent answer))
+        → AreShownBy (agent_view netlist run agent.stand_in.port.word_bytes (name_at system of.at.end)) c
+        (levels_with agent answer) }
+    ensures commanded { (system : SystemTable) (netlist : Netlist) (run : Run) (c : ℕ) (sim : SimValue) (number : ℕ)
+        (agent : BenchAgentValue) (of : IsAgentOf system number agent)
+        → netlist.ports ≡ ports_of system
         → sim.netlist ≡ netlist → IsPresent run c sim
-        → levels_at (agent_view netlist run agent.stand_in.port.word_bytes (name_at system of.at.end)).signals c ≡ commanded agent sim }
-    ensures granted { (system : SystemTable) (netlist : Netlist) (run : Run) (c : ℕ) (sim : SimValue) (number : ℕ) (agent : BenchAgentValue) (of : IsAgentOf system number agent) → netlist.ports ≡ ports_of system
+        → levels_at (agent_view netlist run agent.stand_in.port.word_bytes (name_at system of.at.end)).signals c
+        ≡ commanded agent sim }
+    ensures granted { (system : SystemTable) (netlist : Netlist) (run : Run) (c : ℕ) (sim : SimValue) (number : ℕ)
+        (agent : BenchAgentValue) (of : IsAgentOf system number agent)
+        → netlist.ports ≡ ports_of system
         → sim.netlist ≡ netlist → IsPresent run c sim
-        → (agent_view netlist run agent.stand_in.port.word_bytes (name_at system of.at.end)).grant c ≡ level_now sim 0 agent.ports.grant }
+        → (agent_view netlist run agent.stand_in.port.word_bytes (name_at system of.at.end)).grant c
+        ≡ level_now sim 0 agent.ports.grant }
 {
     agents_are_shown();
     agents_are_commanded();
 }
 
-/// Where a view shows what an agent shows and is commanded, what is told and counted of the agent is what the definitions tell and count
+/// Where a view shows what an agent shows and is commanded, what is told and counted of the agent is what the definitions tell
+/// and count
 /// of the view, and behind the cycle the agent still stands for it.
 pub fn agents_are_told()
-    ensures lines { (script : List AgentStatement) (view : AgentView) (sim : SimValue) (agent : BenchAgentValue) → StandsFor script agent.stand_in view → IsSeen view sim agent
-        → tells agent sim agent.stand_in.cycle ≡ told_of_agent agent.stand_in.cycle (record { name = agent.name; side = agent_side agent.stand_in.port; view = view }) }
-    ensures counted { (script : List AgentStatement) (view : AgentView) (sim : SimValue) (agent : BenchAgentValue) → StandsFor script agent.stand_in view → IsSeen view sim agent
-        → beats_taken agent (commanded agent sim) ≡ beats_taken_in agent.stand_in.cycle (record { name = agent.name; side = agent_side agent.stand_in.port; view = view }) }
-    ensures stays { (system : SystemTable) (number : ℕ) (agent after : BenchAgentValue) (sim : SimValue) → IsAgentOf system number agent → Follows agent sim after → IsAgentOf system number after }
-    ensures goes_on { (script : List AgentStatement) (view : AgentView) (sim : SimValue) (agent after : BenchAgentValue) → StandsFor script agent.stand_in view → IsSeen view sim agent → Follows agent sim after
+    ensures lines { (script : List AgentStatement) (view : AgentView) (sim : SimValue) (agent : BenchAgentValue)
+        → StandsFor script agent.stand_in view → IsSeen view sim agent
+        → tells agent sim agent.stand_in.cycle
+        ≡ told_of_agent agent.stand_in.cycle (record { name = agent.name; side = agent_side agent.stand_in.port; view = view }) }
+    ensures counted { (script : List AgentStatement) (view : AgentView) (sim : SimValue) (agent : BenchAgentValue)
+        → StandsFor script agent.stand_in view → IsSeen view sim agent
+        → beats_taken agent (commanded agent sim)
+        ≡ beats_taken_in agent.stand_in.cycle (record { name = agent.name; side = agent_side agent.stand_in.port; view = view }) }
+    ensures stays { (system : SystemTable) (number : ℕ) (agent after : BenchAgentValue) (sim : SimValue)
+        → IsAgentOf system number agent → Follows agent sim after → IsAgentOf system number after }
+    ensures goes_on { (script : List AgentStatement) (view : AgentView) (sim : SimValue) (agent after : BenchAgentValue)
+        → StandsFor script agent.stand_in view → IsSeen view sim agent → Follows agent sim after
         → StandsFor script after.stand_in view }
 {
     agents_are_told_by_their_ports();
     stand_ins_stand_for_runs();
 }
 
-/// What an agent sets fits its ports, at first and once its command is known. A view that shows it does what the agent's script says.
+/// What an agent sets fits its ports, at first and once its command is known. A view that shows it does what the agent's script
+/// says.
 pub fn agents_show()
-    ensures fits { (script : List AgentStatement) (view : AgentView) (agent : BenchAgentValue) → IsBoundedAgent agent.stand_in.port → IsAgentScript agent.stand_in.port script → AllHoldBytes script
-        → StandsFor script agent.stand_in view → (IsFalse agent.stand_in.port.reads → (d : ℕ) → d ≤ agent.stand_in.cycle → view.signals.read d ≡ 0)
+    ensures fits { (script : List AgentStatement) (view : AgentView) (agent : BenchAgentValue)
+        → IsBoundedAgent agent.stand_in.port → IsAgentScript agent.stand_in.port script → AllHoldBytes script
+        → StandsFor script agent.stand_in view
+        → (IsFalse agent.stand_in.port.reads → (d : ℕ) → d ≤ agent.stand_in.cycle → view.signals.read d ≡ 0)
         → FitsPorts agent.stand_in.port (levels_with agent (first_word agent)) }
-    ensures fits_answered { (script : List AgentStatement) (view : AgentView) (sim : SimValue) (agent : BenchAgentValue) → IsBoundedAgent agent.stand_in.port → IsAgentScript agent.stand_in.port script → AllHoldBytes script
-        → StandsFor script agent.stand_in view → (IsFalse agent.stand_in.port.reads → (d : ℕ) → d ≤ agent.stand_in.cycle → view.signals.read d ≡ 0)
+    ensures fits_answered { (script : List AgentStatement) (view : AgentView) (sim : SimValue) (agent : BenchAgentValue)
+        → IsBoundedAgent agent.stand_in.port → IsAgentScript agent.stand_in.port script → AllHoldBytes script
+        → StandsFor script agent.stand_in view
+        → (IsFalse agent.stand_in.port.reads → (d : ℕ) → d ≤ agent.stand_in.cycle → view.signals.read d ≡ 0)
         → IsSeen view sim agent → FitsPorts agent.stand_in.port (levels_with agent (word_answered agent sim)) }
-    ensures as_defined { (script : List AgentStatement) (view : AgentView) (sim : SimValue) (agent : BenchAgentValue) → StandsFor script agent.stand_in view
+    ensures as_defined { (script : List AgentStatement) (view : AgentView) (sim : SimValue) (agent : BenchAgentValue)
+        → StandsFor script agent.stand_in view
         → commanded agent sim ≡ levels_at view.signals agent.stand_in.cycle
         → AreShownBy view agent.stand_in.cycle (levels_with agent (word_answered agent sim))
         → AgentShows agent.stand_in.port script view agent.stand_in.cycle }

@@ -84,7 +84,8 @@ fn first_host<'a>(
     requires header { header.now ≡ ports_of plan.now.system }
     requires end { (number : ℕ) × (slice_get (hosts_of plan.now.system) number ≡ Some end) }
     requires script { (port : Port) → known_at plan.now.system end ≡ Host port → IsHostScript port script.now }
-    ensures { (number : ℕ) → slice_get (hosts_of plan.now.system) number ≡ Some end → IsFirstHost plan.now.system number script.now result }
+    ensures { (number : ℕ) → slice_get (hosts_of plan.now.system) number ≡ Some end
+        → IsFirstHost plan.now.system number script.now result }
 {
     ends_are_known();
     plan.well_made();
@@ -109,7 +110,8 @@ pub fn hosts_of_plan<'a>(
     requires told { AreTold plan.now.system ports.now }
     requires header { header.now ≡ ports_of plan.now.system }
     requires count { length scripts.now ≡ length (hosts_of plan.now.system) }
-    requires scripts { (h : ℕ) (port : Port) (script : Sequence Statement) → IsHostAt plan.now.system h port → slice_get scripts.now h ≡ Some script → IsHostScript port script }
+    requires scripts { (h : ℕ) (port : Port) (script : Sequence Statement) → IsHostAt plan.now.system h port
+        → slice_get scripts.now h ≡ Some script → IsHostScript port script }
     ensures { IfOk result (λ hosts. AreFirstHosts plan.now.system scripts.now hosts.items) }
 {
     let mut hosts = Vec::new(alloc);

@@ -24,15 +24,20 @@ ghost use Rattle.benches.specs.Hosts.{BenchHostValue, IsHostOf, IsSeen, Fits, be
 
 use port_rows::host_ends::{hosts_are_answered, hosts_are_shown};
 
-/// A host of a plan can take part in every cycle: the outputs that answer it are there, what it shows has room in a row, and where that stands there,
+/// A host of a plan can take part in every cycle: the outputs that answer it are there, what it shows has room in a row, and
+/// where that stands there,
 /// the run shows it.
 pub fn hosts_take_part()
-    ensures fit { (system : SystemTable) (number : ℕ) (host : BenchHostValue) (sim : SimValue) → HasKnownPorts system → sim.netlist.ports ≡ ports_of system
+    ensures fit { (system : SystemTable) (number : ℕ) (host : BenchHostValue) (sim : SimValue) → HasKnownPorts system
+        → sim.netlist.ports ≡ ports_of system
         → IsHostOf system number host → Fits host sim }
-    ensures room { (system : SystemTable) (row : List Bits) (number : ℕ) (host : BenchHostValue) → HasKnownPorts system → widths_of row ≡ input_widths (ports_of system)
+    ensures room { (system : SystemTable) (row : List Bits) (number : ℕ) (host : BenchHostValue) → HasKnownPorts system
+        → widths_of row ≡ input_widths (ports_of system)
         → IsHostOf system number host → FitsPorts host.stand_in.port (shown_by host) → AllFit row (sets host) }
-    ensures seen { (system : SystemTable) (netlist : Netlist) (run : Run) (c : ℕ) (row : List Bits) (sim : SimValue) (number : ℕ) (host : BenchHostValue)
-        (of : IsHostOf system number host) → HasKnownPorts system → IsGivenRow system netlist run c row → sim.netlist ≡ netlist → IsPresent run c sim
+    ensures seen { (system : SystemTable) (netlist : Netlist) (run : Run) (c : ℕ) (row : List Bits) (sim : SimValue) (number : ℕ)
+        (host : BenchHostValue)
+        (of : IsHostOf system number host) → HasKnownPorts system → IsGivenRow system netlist run c row → sim.netlist ≡ netlist
+        → IsPresent run c sim
         → FitsPorts host.stand_in.port (shown_by host) → AllStand row (sets host)
         → IsSeen (host_view netlist run host.stand_in.port.word_bytes (name_at system of.at.end)) c sim host }
 {
@@ -46,7 +51,9 @@ pub fn hosts_are_told()
         → tells host sim c ≡ told_of_host c (record { name = host.name; side = host_side host.stand_in.port; view = view }) }
     ensures counted { (view : HostView) (c : ℕ) (sim : SimValue) (host : BenchHostValue) → IsSeen view c sim host
         → one_if (is_given host sim) ≡ one_if (gives_word (host_side host.stand_in.port) view c) }
-    ensures stays { (system : SystemTable) (number : ℕ) (host : BenchHostValue) (sim : SimValue) → IsHostOf system number host → IsHostOf system number (behind host sim) }
+    ensures stays { (system : SystemTable) (number : ℕ) (host : BenchHostValue) (sim : SimValue) → IsHostOf system number host
+        → IsHostOf system number (behind host sim) }
     ensures left { (view : HostView) (c : ℕ) (sim : SimValue) (host : BenchHostValue) (steps : List Step) → IsSeen view c sim host
-        → host.stand_in.left ≡ left_before steps view.waitrequest c → (behind host sim).stand_in.left ≡ left_before steps view.waitrequest (suc c) }
+        → host.stand_in.left ≡ left_before steps view.waitrequest c
+        → (behind host sim).stand_in.left ≡ left_before steps view.waitrequest (suc c) }
 {}

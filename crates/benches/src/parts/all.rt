@@ -34,8 +34,12 @@ pub fn tell_all<C: Component, K: Sink>(
 ) -> bool
     requires stepped { sim.now.stepped ≡ true }
     requires fits { (k : ℕ) (component : C) → slice_get components.now k ≡ Some component → C.fits component sim.now }
-    ensures all { OnTrue result (K.held sink.new ≡ with_more (K.held sink.old) (text_of (flat_map (λ (c : C). C.tells c sim.now cycle) components.now))) }
-    ensures part { OnFalse result (HoldsPart (K.held sink.old) (K.held sink.new) (text_of (flat_map (λ (c : C). C.tells c sim.now cycle) components.now))) }
+    ensures all { OnTrue result
+        (K.held sink.new
+        ≡ with_more (K.held sink.old) (text_of (flat_map (λ (c : C). C.tells c sim.now cycle) components.now))) }
+    ensures part { OnFalse result
+        (HoldsPart (K.held sink.old) (K.held sink.new)
+        (text_of (flat_map (λ (c : C). C.tells c sim.now cycle) components.now))) }
     ensures rose { OnFalse result (Rose (K.faults sink.old) (K.faults sink.new)) }
     ensures grows { K.faults sink.old ≤ K.faults sink.new }
     ensures below { K.faults sink.old < 2 ^ 64 → K.faults sink.new < 2 ^ 64 }
@@ -53,7 +57,8 @@ pub fn end_cycle_of_all<C: Component>(components: &mut [C], sim: &Simulator)
     requires stepped { sim.now.stepped ≡ true }
     requires fits { (k : ℕ) (component : C) → slice_get components.old k ≡ Some component → C.fits component sim.now }
     ensures count { length components.new ≡ length components.old }
-    ensures each { (k : ℕ) (before after : C) → slice_get components.old k ≡ Some before → slice_get components.new k ≡ Some after → C.follows before sim.now after }
+    ensures each { (k : ℕ) (before after : C) → slice_get components.old k ≡ Some before → slice_get components.new k ≡ Some after
+        → C.follows before sim.now after }
 {
     'components: for component in components.iter_mut() {
         component.end_cycle(sim);

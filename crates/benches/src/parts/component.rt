@@ -17,7 +17,8 @@ pub trait Component {
     /// What it sets in the row of this cycle's inputs.
     ghost sets: { Self → Sequence Given };
 
-    /// It can take part in the present cycle of this simulator: the ports that it reads are outputs of its module, as wide as they are
+    /// It can take part in the present cycle of this simulator: the ports that it reads are outputs of its module, as wide as
+    /// they are
     /// to be, and a further cycle has room.
     ghost fits: { Self → SimValue → Type 0 };
 

@@ -51,7 +51,8 @@ pub(crate) fn links_are_few()
 
 /// The ends of each stream of a plan are ends of its module, and their records are sound.
 pub(crate) fn links_are_sound()
-    ensures { (plan : PlanTable) → IsPlan plan → (number : ℕ) (link : StreamConnection) → slice_get (stream_connections plan.system) number ≡ Some link → IsSoundLink plan.system number link }
+    ensures { (plan : PlanTable) → IsPlan plan → (number : ℕ) (link : StreamConnection)
+        → slice_get (stream_connections plan.system) number ≡ Some link → IsSoundLink plan.system number link }
 {
     streams_are_numbered();
     links_keep_rules();
@@ -60,19 +61,29 @@ pub(crate) fn links_are_sound()
 
 /// An output of few bits has at most any larger number of bits.
 pub(crate) fn outputs_are_within()
-    ensures { (netlist : Netlist) (few most : ℕ) (port : Option ℕ) → few ≤ most → IsOutputIf netlist few port → IsOutputIf netlist most port }
+    ensures { (netlist : Netlist) (few most : ℕ) (port : Option ℕ) → few ≤ most → IsOutputIf netlist few port
+        → IsOutputIf netlist most port }
 {}
 
-/// The streams of a plan can take part in a simulation of its module; what they set has room in a row, and where it stands there, the run shows it.
+/// The streams of a plan can take part in a simulation of its module; what they set has room in a row, and where it stands there,
+/// the run shows it.
 pub fn streams_take_part()
-    ensures fit { (plan : PlanTable) (number : ℕ) (script : Sequence Pattern) (stream : BenchStreamValue) (sim : SimValue) → IsPlan plan → HasKnownPorts plan.system
-        → sim.netlist.ports ≡ ports_of plan.system → IsStreamOf plan.system number script stream → stream.cycle < 65536 → Fits stream sim }
-    ensures room { (system : SystemTable) (row : Sequence Bits) (number : ℕ) (script : Sequence Pattern) (stream : BenchStreamValue) → HasKnownPorts system → IsSystem system
-        → widths_of row ≡ input_widths (ports_of system) → IsStreamOf system number script stream → FitsSource stream.source (unwrap_or (shown_by stream) no_beat)
+    ensures fit { (plan : PlanTable) (number : ℕ) (script : Sequence Pattern) (stream : BenchStreamValue) (sim : SimValue)
+        → IsPlan plan → HasKnownPorts plan.system
+        → sim.netlist.ports ≡ ports_of plan.system → IsStreamOf plan.system number script stream → stream.cycle < 65536
+        → Fits stream sim }
+    ensures room { (system : SystemTable) (row : Sequence Bits) (number : ℕ) (script : Sequence Pattern)
+        (stream : BenchStreamValue)
+        → HasKnownPorts system → IsSystem system
+        → widths_of row ≡ input_widths (ports_of system) → IsStreamOf system number script stream
+        → FitsSource stream.source (unwrap_or (shown_by stream) no_beat)
         → FitsReady stream.sink (is_ready stream) → AllFit row (sets stream) }
-    ensures seen { (system : SystemTable) (netlist : Netlist) (run : Run) (row : Sequence Bits) (sim : SimValue) (number : ℕ) (script : Sequence Pattern) (stream : BenchStreamValue)
-        (of : IsStreamOf system number script stream) → HasKnownPorts system → IsSystem system → IsGivenRow system netlist run stream.cycle row → sim.netlist ≡ netlist
-        → IsPresent run stream.cycle sim → FitsSource stream.source (unwrap_or (shown_by stream) no_beat) → FitsReady stream.sink (is_ready stream) → AllStand row (sets stream)
+    ensures seen { (system : SystemTable) (netlist : Netlist) (run : Run) (row : Sequence Bits) (sim : SimValue) (number : ℕ)
+        (script : Sequence Pattern) (stream : BenchStreamValue)
+        (of : IsStreamOf system number script stream) → HasKnownPorts system → IsSystem system
+        → IsGivenRow system netlist run stream.cycle row → sim.netlist ≡ netlist
+        → IsPresent run stream.cycle sim → FitsSource stream.source (unwrap_or (shown_by stream) no_beat)
+        → FitsReady stream.sink (is_ready stream) → AllStand row (sets stream)
         → IsSeen (stream_view system netlist run of.link.source_end) (stream_view system netlist run of.link.sink_end)
         (dropped_signal netlist run (name_at system of.link.sink_end)) sim stream }
 {
@@ -87,14 +98,19 @@ pub fn streams_take_part()
 
 /// What is told of a stream and counted, as its ends show it; and how it stands behind a cycle.
 pub fn streams_are_told()
-    ensures lines { (source sink : EndView) (dropped : ℕ → ℕ) (sim : SimValue) (stream : BenchStreamValue) → IsSeen source sink dropped sim stream
+    ensures lines { (source sink : EndView) (dropped : ℕ → ℕ) (sim : SimValue) (stream : BenchStreamValue)
+        → IsSeen source sink dropped sim stream
         → tells stream sim stream.cycle ≡ told_of_stream stream.cycle (ends_of_bench stream source sink dropped) }
-    ensures counted { (source sink : EndView) (dropped : ℕ → ℕ) (sim : SimValue) (stream : BenchStreamValue) → IsSeen source sink dropped sim stream
+    ensures counted { (source sink : EndView) (dropped : ℕ → ℕ) (sim : SimValue) (stream : BenchStreamValue)
+        → IsSeen source sink dropped sim stream
         → ((counts stream sim).delivered ≡ symbols_delivered_in stream.cycle (ends_of_bench stream source sink dropped))
         × ((counts stream sim).dropped ≡ one_if (is_high dropped stream.cycle)) }
-    ensures stays { (system : SystemTable) (number : ℕ) (script : Sequence Pattern) (stream : BenchStreamValue) (sim : SimValue) → IsStreamOf system number script stream
+    ensures stays { (system : SystemTable) (number : ℕ) (script : Sequence Pattern) (stream : BenchStreamValue) (sim : SimValue)
+        → IsStreamOf system number script stream
         → IsStreamOf system number script (behind stream sim) }
-    ensures keeping { (source sink : EndView) (dropped : ℕ → ℕ) (sim : SimValue) (stream : BenchStreamValue) (statements : Sequence SourceStatement) → ready_latency stream.source ≤ 8
+    ensures keeping { (source sink : EndView) (dropped : ℕ → ℕ) (sim : SimValue) (stream : BenchStreamValue)
+        (statements : Sequence SourceStatement)
+        → ready_latency stream.source ≤ 8
         → IsSeen source sink dropped sim stream → stream.keeping ≡ keeping_at stream.source statements source stream.cycle
         → (behind stream sim).keeping ≡ keeping_at stream.source statements source (stream.cycle + 1) }
 {
@@ -103,12 +119,18 @@ pub fn streams_are_told()
 
 /// What a stream shows is what its scripts say, and fits its ports.
 pub fn streams_show()
-    ensures source_fits { (stream : BenchStreamValue) (statements : Sequence SourceStatement) (view : EndView) → IsSourceScript stream.source statements → ready_latency stream.source ≤ 8
-        → stream.keeping ≡ keeping_at stream.source statements view stream.cycle → FitsSource stream.source (unwrap_or (shown_by stream) no_beat) }
-    ensures as_defined { (stream : BenchStreamValue) (statements : Sequence SourceStatement) (view : EndView) → IsSourceScript stream.source statements → ready_latency stream.source ≤ 8
-        → stream.keeping ≡ keeping_at stream.source statements view stream.cycle → shown_by stream ≡ beat_shown stream.source statements view stream.cycle }
-    ensures ready_fits { (stream : BenchStreamValue) → IsSinkScript stream.sink stream.script → FitsReady stream.sink (is_ready stream) }
-    ensures short_latency { (plan : PlanTable) (number : ℕ) (script : Sequence Pattern) (stream : BenchStreamValue) → IsPlan plan → IsStreamOf plan.system number script stream
+    ensures source_fits { (stream : BenchStreamValue) (statements : Sequence SourceStatement) (view : EndView)
+        → IsSourceScript stream.source statements → ready_latency stream.source ≤ 8
+        → stream.keeping ≡ keeping_at stream.source statements view stream.cycle
+        → FitsSource stream.source (unwrap_or (shown_by stream) no_beat) }
+    ensures as_defined { (stream : BenchStreamValue) (statements : Sequence SourceStatement) (view : EndView)
+        → IsSourceScript stream.source statements → ready_latency stream.source ≤ 8
+        → stream.keeping ≡ keeping_at stream.source statements view stream.cycle
+        → shown_by stream ≡ beat_shown stream.source statements view stream.cycle }
+    ensures ready_fits { (stream : BenchStreamValue) → IsSinkScript stream.sink stream.script
+        → FitsReady stream.sink (is_ready stream) }
+    ensures short_latency { (plan : PlanTable) (number : ℕ) (script : Sequence Pattern) (stream : BenchStreamValue) → IsPlan plan
+        → IsStreamOf plan.system number script stream
         → ready_latency stream.source ≤ 8 }
 {
     links_are_sound();

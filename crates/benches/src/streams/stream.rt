@@ -37,7 +37,8 @@ use stream_stand_ins::{SourceStandIn, is_ready};
 use system_tables::EndId;
 use trace_lines::{BeatMoved, Counts, EndName, ShownBeat, dropped_line, got_line, sent_line};
 
-/// A stream of a test bench: what stands in for its source and its sink, where their signals stand, and which outputs they are given.
+/// A stream of a test bench: what stands in for its source and its sink, where their signals stand, and which outputs they are
+/// given.
 #[derive(Drop)]
 pub struct BenchStream<'a> {
     source_name: EndName<'a>,
@@ -93,8 +94,10 @@ fn first_stream<'a>(
     requires told { AreTold plan.now.system ports.now }
     requires header { header.now ≡ ports_of plan.now.system }
     requires link { slice_get (stream_connections plan.now.system) number ≡ Some link.now }
-    requires statements { (of : Link) → slice_get (stream_connections plan.now.system) number ≡ Some of → IsSourceScript of.source statements.now }
-    requires script { (of : Link) → slice_get (stream_connections plan.now.system) number ≡ Some of → IsSinkScript of.sink script.now }
+    requires statements { (of : Link) → slice_get (stream_connections plan.now.system) number ≡ Some of
+        → IsSourceScript of.source statements.now }
+    requires script { (of : Link) → slice_get (stream_connections plan.now.system) number ≡ Some of
+        → IsSinkScript of.sink script.now }
     ensures { IsFirstStream plan.now.system number statements.now script.now result }
 {
     plan.well_made();
@@ -127,9 +130,11 @@ pub fn streams_of_plan<'a>(
     requires header { header.now ≡ ports_of plan.now.system }
     requires sources { length sources.now ≡ length (stream_connections plan.now.system) }
     requires sinks { length sinks.now ≡ length (stream_connections plan.now.system) }
-    requires statements { (s : ℕ) (link : Link) (script : Sequence Statement) → slice_get (stream_connections plan.now.system) s ≡ Some link → slice_get sources.now s ≡ Some script
+    requires statements { (s : ℕ) (link : Link) (script : Sequence Statement)
+        → slice_get (stream_connections plan.now.system) s ≡ Some link → slice_get sources.now s ≡ Some script
         → IsSourceScript link.source script }
-    requires patterns { (s : ℕ) (link : Link) (script : Sequence Stalls) → slice_get (stream_connections plan.now.system) s ≡ Some link → slice_get sinks.now s ≡ Some script
+    requires patterns { (s : ℕ) (link : Link) (script : Sequence Stalls)
+        → slice_get (stream_connections plan.now.system) s ≡ Some link → slice_get sinks.now s ≡ Some script
         → IsSinkScript link.sink script }
     ensures { IfOk result (λ streams. AreFirstStreams plan.now.system sources.now sinks.now streams.items) }
 {
@@ -264,7 +269,9 @@ impl BenchStream<'_> {
     fn sent(&self, cycle: u32, sim: &Simulator) -> Option<Line>
         requires stepped { sim.now.stepped ≡ true }
         requires fits { Fits self.now sim.now }
-        ensures { line_if result ≡ only_if (is_sent self.now sim.now) (sent_line cycle self.now.source_name (told_beat self.now.source (unwrap_or (shown_by self.now) no_beat))) }
+        ensures { line_if result
+            ≡ only_if (is_sent self.now sim.now)
+            (sent_line cycle self.now.source_name (told_beat self.now.source (unwrap_or (shown_by self.now) no_beat))) }
     {
         let beat = self.stand_in.shown()?;
         if !self.may_send(sim) {
@@ -281,7 +288,9 @@ impl BenchStream<'_> {
     fn got(&self, cycle: u32, sim: &Simulator) -> Option<Line>
         requires stepped { sim.now.stepped ≡ true }
         requires fits { Fits self.now sim.now }
-        ensures { line_if result ≡ only_if (is_got self.now sim.now) (got_line cycle self.now.sink_name (told_beat self.now.sink (beat_now self.now sim.now))) }
+        ensures { line_if result
+            ≡ only_if (is_got self.now sim.now)
+            (got_line cycle self.now.sink_name (told_beat self.now.sink (beat_now self.now sim.now))) }
     {
         if !self.is_got(sim) {
             return None;

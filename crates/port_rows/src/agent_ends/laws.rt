@@ -30,35 +30,48 @@ use agent_stand_ins::codes_fit_their_port;
 
 /// Levels that fit an agent's ports have room in a row, and where they stand there, the run shows them.
 pub fn agents_are_shown()
-    ensures shown { (system : SystemTable) (netlist : Netlist) (run : Run) (c : ℕ) (row : List Bits) → HasKnownPorts system → IsGivenRow system netlist run c row
-        → (end : EndId) (port : AgentPort) (levels : AgentLevels) → Among end (ends_of system) → known_at system end ≡ Agent port → FitsPorts port levels
+    ensures shown { (system : SystemTable) (netlist : Netlist) (run : Run) (c : ℕ) (row : List Bits) → HasKnownPorts system
+        → IsGivenRow system netlist run c row
+        → (end : EndId) (port : AgentPort) (levels : AgentLevels) → Among end (ends_of system) → known_at system end ≡ Agent port
+        → FitsPorts port levels
         → AllStand row (agent_levels (agent_places system end) levels)
         → AreShownBy (agent_view netlist run port.word_bytes (name_at system end)) c levels }
-    ensures room { (system : SystemTable) (row : List Bits) → HasKnownPorts system → widths_of row ≡ input_widths (ports_of system)
-        → (end : EndId) (port : AgentPort) (levels : AgentLevels) → Among end (ends_of system) → known_at system end ≡ Agent port → FitsPorts port levels
+    ensures room { (system : SystemTable) (row : List Bits) → HasKnownPorts system
+        → widths_of row ≡ input_widths (ports_of system)
+        → (end : EndId) (port : AgentPort) (levels : AgentLevels) → Among end (ends_of system) → known_at system end ≡ Agent port
+        → FitsPorts port levels
         → AllFit row (agent_levels (agent_places system end) levels) }
 {
     inputs_are_driven();
 }
 
-/// What a run commands an agent is the levels of the nets at its outputs, and so is `grant`. An agent that doesn't read is never read.
+/// What a run commands an agent is the levels of the nets at its outputs, and so is `grant`. An agent that doesn't read is never
+/// read.
 pub fn agents_are_commanded()
-    ensures levels { (system : SystemTable) (netlist : Netlist) (run : Run) (c bytes : ℕ) (end : EndId) → netlist.ports ≡ ports_of system
-        → levels_at (agent_view netlist run bytes (name_at system end)).signals c ≡ commanded netlist run c bytes (agent_outputs system end) }
-    ensures grant { (system : SystemTable) (netlist : Netlist) (run : Run) (c bytes : ℕ) (end : EndId) → netlist.ports ≡ ports_of system
-        → (agent_view netlist run bytes (name_at system end)).grant c ≡ level_of netlist run c 0 (agent_outputs system end).grant }
-    ensures unread { (system : SystemTable) (netlist : Netlist) (run : Run) (c bytes : ℕ) (end : EndId) (port : AgentPort) → HasKnownPorts system → netlist.ports ≡ ports_of system
+    ensures levels { (system : SystemTable) (netlist : Netlist) (run : Run) (c bytes : ℕ) (end : EndId)
+        → netlist.ports ≡ ports_of system
+        → levels_at (agent_view netlist run bytes (name_at system end)).signals c
+        ≡ commanded netlist run c bytes (agent_outputs system end) }
+    ensures grant { (system : SystemTable) (netlist : Netlist) (run : Run) (c bytes : ℕ) (end : EndId)
+        → netlist.ports ≡ ports_of system
+        → (agent_view netlist run bytes (name_at system end)).grant c
+        ≡ level_of netlist run c 0 (agent_outputs system end).grant }
+    ensures unread { (system : SystemTable) (netlist : Netlist) (run : Run) (c bytes : ℕ) (end : EndId) (port : AgentPort)
+        → HasKnownPorts system → netlist.ports ≡ ports_of system
         → Among end (ends_of system) → known_at system end ≡ Agent port → IsFalse port.reads
         → (agent_view netlist run bytes (name_at system end)).signals.read c ≡ 0 }
 {
     outputs_are_those_of_nets();
 }
 
-/// What an agent's stand-in shows fits the agent's ports, where an agent that doesn't read was never read. It still does without its word and code.
+/// What an agent's stand-in shows fits the agent's ports, where an agent that doesn't read was never read. It still does without
+/// its word and code.
 pub fn shown_agents_fit()
-    ensures shown { (port : AgentPort) (script : List AgentStatement) (view : AgentView) (c : ℕ) → IsBoundedAgent port → IsAgentScript port script → AllHoldBytes script
+    ensures shown { (port : AgentPort) (script : List AgentStatement) (view : AgentView) (c : ℕ) → IsBoundedAgent port
+        → IsAgentScript port script → AllHoldBytes script
         → (IsFalse port.reads → (d : ℕ) → d ≤ c → view.signals.read d ≡ 0) → FitsPorts port (stand_in_levels port script view c) }
-    ensures wordless { (port : AgentPort) (levels : AgentLevels) → FitsPorts port levels → FitsPorts port (record levels { word = 0; code = 0 }) }
+    ensures wordless { (port : AgentPort) (levels : AgentLevels) → FitsPorts port levels
+        → FitsPorts port (record levels { word = 0; code = 0 }) }
 {
     codes_fit_their_port();
 }
@@ -66,6 +79,8 @@ pub fn shown_agents_fit()
 /// What an agent that reads alone sets in a row.
 pub fn driven_levels()
     ensures given { set_levels reader_row (agent_levels reader seven_given) ≡ word 1 0 ∷ word 32 7 ∷ word 1 1 ∷ word 2 2 ∷ [] }
-    ensures in_order { ¬ (set_levels reader_row (agent_levels reader seven_given) ≡ word 1 1 ∷ word 32 7 ∷ word 1 0 ∷ word 2 2 ∷ []) }
-    ensures without_code { ¬ (set_levels reader_row (agent_levels reader seven_given) ≡ word 1 0 ∷ word 32 7 ∷ word 1 1 ∷ word 2 0 ∷ []) }
+    ensures in_order { ¬ (set_levels reader_row (agent_levels reader seven_given)
+        ≡ word 1 1 ∷ word 32 7 ∷ word 1 0 ∷ word 2 2 ∷ []) }
+    ensures without_code { ¬ (set_levels reader_row (agent_levels reader seven_given)
+        ≡ word 1 0 ∷ word 32 7 ∷ word 1 1 ∷ word 2 0 ∷ []) }
 {}

@@ -25,7 +25,8 @@ pub struct AgentLevels {
     pub code: u8,
 }
 
-/// Where `waitrequest`, `readdatavalid`, `readdata` and `response` of an agent stand in a row of values; None where a port is absent.
+/// Where `waitrequest`, `readdatavalid`, `readdata` and `response` of an agent stand in a row of values; None where a port is
+/// absent.
 #[derive(Clone, Copy)]
 pub struct AgentPlaces {
     pub wait: Option<usize>,

@@ -28,7 +28,8 @@ ghost use Rattle.port_rows.specs.WorkedHosts.{seven_at_four, writer, writer_row}
 
 use crate::{inputs_are_those_of_rows, inputs_have_places, outputs_are_those_of_nets};
 
-/// What stands in a row at the place of an input is what the run shows there; absent inputs show what is stated for them. What has room at a port has it in a row.
+/// What stands in a row at the place of an input is what the run shows there; absent inputs show what is stated for them. What
+/// has room at a port has it in a row.
 pub fn inputs_are_driven()
     ensures shown { InputsAreShown }
     ensures room { InputsHaveRoom }
@@ -41,12 +42,16 @@ pub fn inputs_are_driven()
 
 /// Levels that fit a host's ports have room in a row, and where they stand there, the run shows them.
 pub fn hosts_are_shown()
-    ensures shown { (system : SystemTable) (netlist : Netlist) (run : Run) (c : ℕ) (row : List Bits) → HasKnownPorts system → IsGivenRow system netlist run c row
-        → (end : EndId) (port : HostPort) (levels : Levels) → Among end (ends_of system) → known_at system end ≡ Host port → FitsPorts port levels
+    ensures shown { (system : SystemTable) (netlist : Netlist) (run : Run) (c : ℕ) (row : List Bits) → HasKnownPorts system
+        → IsGivenRow system netlist run c row
+        → (end : EndId) (port : HostPort) (levels : Levels) → Among end (ends_of system) → known_at system end ≡ Host port
+        → FitsPorts port levels
         → AllStand row (host_levels (host_places system end) levels)
         → levels_at (host_view netlist run port.word_bytes (name_at system end)).signals c ≡ levels }
-    ensures room { (system : SystemTable) (row : List Bits) → HasKnownPorts system → widths_of row ≡ input_widths (ports_of system)
-        → (end : EndId) (port : HostPort) (levels : Levels) → Among end (ends_of system) → known_at system end ≡ Host port → FitsPorts port levels
+    ensures room { (system : SystemTable) (row : List Bits) → HasKnownPorts system
+        → widths_of row ≡ input_widths (ports_of system)
+        → (end : EndId) (port : HostPort) (levels : Levels) → Among end (ends_of system) → known_at system end ≡ Host port
+        → FitsPorts port levels
         → AllFit row (host_levels (host_places system end) levels) }
 {
     inputs_are_driven();
@@ -54,21 +59,30 @@ pub fn hosts_are_shown()
 
 /// What a run shows a host in answer is the levels of the nets at its outputs, and 0 where one is absent.
 pub fn hosts_are_answered()
-    ensures wait { (system : SystemTable) (netlist : Netlist) (run : Run) (c bytes : ℕ) (end : EndId) → netlist.ports ≡ ports_of system
-        → (host_view netlist run bytes (name_at system end)).waitrequest c ≡ level_of netlist run c 0 (host_outputs system end).wait }
-    ensures valid { (system : SystemTable) (netlist : Netlist) (run : Run) (c bytes : ℕ) (end : EndId) → netlist.ports ≡ ports_of system
-        → (host_view netlist run bytes (name_at system end)).readdatavalid c ≡ level_of netlist run c 0 (host_outputs system end).valid }
-    ensures word { (system : SystemTable) (netlist : Netlist) (run : Run) (c bytes : ℕ) (end : EndId) → netlist.ports ≡ ports_of system
-        → (host_view netlist run bytes (name_at system end)).readdata c ≡ level_of netlist run c 0 (host_outputs system end).word }
-    ensures response { (system : SystemTable) (netlist : Netlist) (run : Run) (c bytes : ℕ) (end : EndId) → netlist.ports ≡ ports_of system
-        → (host_view netlist run bytes (name_at system end)).response c ≡ level_of netlist run c 0 (host_outputs system end).response }
+    ensures wait { (system : SystemTable) (netlist : Netlist) (run : Run) (c bytes : ℕ) (end : EndId)
+        → netlist.ports ≡ ports_of system
+        → (host_view netlist run bytes (name_at system end)).waitrequest c
+        ≡ level_of netlist run c 0 (host_outputs system end).wait }
+    ensures valid { (system : SystemTable) (netlist : Netlist) (run : Run) (c bytes : ℕ) (end : EndId)
+        → netlist.ports ≡ ports_of system
+        → (host_view netlist run bytes (name_at system end)).readdatavalid c
+        ≡ level_of netlist run c 0 (host_outputs system end).valid }
+    ensures word { (system : SystemTable) (netlist : Netlist) (run : Run) (c bytes : ℕ) (end : EndId)
+        → netlist.ports ≡ ports_of system
+        → (host_view netlist run bytes (name_at system end)).readdata c
+        ≡ level_of netlist run c 0 (host_outputs system end).word }
+    ensures response { (system : SystemTable) (netlist : Netlist) (run : Run) (c bytes : ℕ) (end : EndId)
+        → netlist.ports ≡ ports_of system
+        → (host_view netlist run bytes (name_at system end)).response c
+        ≡ level_of netlist run c 0 (host_outputs system end).response }
 {
     outputs_are_those_of_nets();
 }
 
 /// Whatever `waitrequest` is, what a host's stand-in shows fits the host's ports.
 pub fn shown_hosts_fit()
-    ensures { (port : HostPort) (script : List HostStatement) (waitrequest : ℕ → ℕ) (c : ℕ) → IsBoundedHost port → IsHostScript port script
+    ensures { (port : HostPort) (script : List HostStatement) (waitrequest : ℕ → ℕ) (c : ℕ) → IsBoundedHost port
+        → IsHostScript port script
         → FitsPorts port (shown port (left_before (all_steps port script) waitrequest c)) }
 {}
 

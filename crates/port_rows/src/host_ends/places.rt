@@ -27,7 +27,8 @@ pub struct HostPlaces {
     pub count: Option<usize>,
 }
 
-/// The numbers, in the header, of the outputs that answer a host: `waitrequest`, `readdatavalid`, `readdata` and `response`. None where a port is absent.
+/// The numbers, in the header, of the outputs that answer a host: `waitrequest`, `readdatavalid`, `readdata` and `response`. None
+/// where a port is absent.
 #[derive(Clone, Copy)]
 pub struct HostPorts {
     pub wait: Option<u32>,

@@ -12,14 +12,16 @@ use crate::inputs_have_places;
 
 /// Where each input is given once, no place of the row is set twice.
 pub fn inputs_given_once_are_apart()
-    ensures { (system : SystemTable) (given : List Given) → HasKnownPorts system → AreGivenOnce system given → AreApart (given_levels system given) }
+    ensures { (system : SystemTable) (given : List Given) → HasKnownPorts system → AreGivenOnce system given
+        → AreApart (given_levels system given) }
 {
     inputs_have_places();
 }
 
 /// Where each end of the system is given some of its inputs, each once, no place of the row is set twice.
 pub fn inputs_of_ends_are_apart()
-    ensures { (system : SystemTable) (ends : List EndLevels) → HasKnownPorts system → map (λ (given : EndLevels). given.end) ends ≡ ends_of system → AllAreEndInputs system ends
+    ensures { (system : SystemTable) (ends : List EndLevels) → HasKnownPorts system
+        → map (λ (given : EndLevels). given.end) ends ≡ ends_of system → AllAreEndInputs system ends
         → AreApart (flat_map (end_levels system) ends) }
 {
     inputs_have_places();

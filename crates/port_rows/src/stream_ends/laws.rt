@@ -36,11 +36,16 @@ use crate::outputs_are_those_of_nets;
 
 /// A beat that fits a source's ports has room in a row, and where it stands there, or nothing does, the run shows that.
 pub fn sources_are_shown()
-    ensures shown { (system : SystemTable) (netlist : Netlist) (run : Run) (c : ℕ) (row : List Bits) → HasKnownPorts system → IsGivenRow system netlist run c row
-        → (end : EndId) (port : StreamPort) (beat : Option Beat) → Among end (ends_of system) → known_at system end ≡ Source port → FitsSource port (unwrap_or beat no_beat)
-        → AllStand row (source_levels (source_places system end) beat) → Shows (view_of (end_signals netlist run (name_at system end))) c beat }
-    ensures room { (system : SystemTable) (row : List Bits) → HasKnownPorts system → widths_of row ≡ input_widths (ports_of system)
-        → (end : EndId) (port : StreamPort) (beat : Option Beat) → Among end (ends_of system) → known_at system end ≡ Source port → FitsSource port (unwrap_or beat no_beat)
+    ensures shown { (system : SystemTable) (netlist : Netlist) (run : Run) (c : ℕ) (row : List Bits) → HasKnownPorts system
+        → IsGivenRow system netlist run c row
+        → (end : EndId) (port : StreamPort) (beat : Option Beat) → Among end (ends_of system) → known_at system end ≡ Source port
+        → FitsSource port (unwrap_or beat no_beat)
+        → AllStand row (source_levels (source_places system end) beat)
+        → Shows (view_of (end_signals netlist run (name_at system end))) c beat }
+    ensures room { (system : SystemTable) (row : List Bits) → HasKnownPorts system
+        → widths_of row ≡ input_widths (ports_of system)
+        → (end : EndId) (port : StreamPort) (beat : Option Beat) → Among end (ends_of system) → known_at system end ≡ Source port
+        → FitsSource port (unwrap_or beat no_beat)
         → AllFit row (source_levels (source_places system end) beat) }
 {
     inputs_are_driven();
@@ -56,11 +61,16 @@ pub fn sources_are_answered()
 
 /// A level of `ready` that fits a sink's port has room in a row, and where it stands there, the run shows it.
 pub fn sinks_are_shown()
-    ensures shown { (system : SystemTable) (netlist : Netlist) (run : Run) (c : ℕ) (row : List Bits) → HasKnownPorts system → IsGivenRow system netlist run c row
-        → (end : EndId) (port : StreamPort) (ready : Bool) → Among end (ends_of system) → known_at system end ≡ Sink port → FitsReady port ready
-        → AllStand row (level_if (place_at system end Ready) (one_if ready)) → (view_of (end_signals netlist run (name_at system end))).ready c ≡ one_if ready }
-    ensures room { (system : SystemTable) (row : List Bits) → HasKnownPorts system → widths_of row ≡ input_widths (ports_of system)
-        → (end : EndId) (port : StreamPort) (ready : Bool) → Among end (ends_of system) → known_at system end ≡ Sink port → FitsReady port ready
+    ensures shown { (system : SystemTable) (netlist : Netlist) (run : Run) (c : ℕ) (row : List Bits) → HasKnownPorts system
+        → IsGivenRow system netlist run c row
+        → (end : EndId) (port : StreamPort) (ready : Bool) → Among end (ends_of system) → known_at system end ≡ Sink port
+        → FitsReady port ready
+        → AllStand row (level_if (place_at system end Ready) (one_if ready))
+        → (view_of (end_signals netlist run (name_at system end))).ready c ≡ one_if ready }
+    ensures room { (system : SystemTable) (row : List Bits) → HasKnownPorts system
+        → widths_of row ≡ input_widths (ports_of system)
+        → (end : EndId) (port : StreamPort) (ready : Bool) → Among end (ends_of system) → known_at system end ≡ Sink port
+        → FitsReady port ready
         → AllFit row (level_if (place_at system end Ready) (one_if ready)) }
 {
     inputs_are_driven();
@@ -69,10 +79,12 @@ pub fn sinks_are_shown()
 /// What a run shows a sink is the levels of the nets at its outputs, and 0 where one is absent.
 pub fn sinks_are_answered()
     ensures valid { (system : SystemTable) (netlist : Netlist) (run : Run) (c : ℕ) (end : EndId) → netlist.ports ≡ ports_of system
-        → (view_of (end_signals netlist run (name_at system end))).valid c ≡ level_of netlist run c 0 (sink_outputs system end).valid }
+        → (view_of (end_signals netlist run (name_at system end))).valid c
+        ≡ level_of netlist run c 0 (sink_outputs system end).valid }
     ensures beat { (system : SystemTable) (netlist : Netlist) (run : Run) (c : ℕ) (end : EndId) → netlist.ports ≡ ports_of system
         → beat_at (view_of (end_signals netlist run (name_at system end))) c ≡ beat_of netlist run c (sink_outputs system end) }
-    ensures dropped { (system : SystemTable) (netlist : Netlist) (run : Run) (c : ℕ) (end : EndId) → netlist.ports ≡ ports_of system
+    ensures dropped { (system : SystemTable) (netlist : Netlist) (run : Run) (c : ℕ) (end : EndId)
+        → netlist.ports ≡ ports_of system
         → dropped_signal netlist run (name_at system end) c ≡ level_of netlist run c 0 (sink_outputs system end).dropped }
 {
     outputs_are_those_of_nets();
@@ -80,13 +92,15 @@ pub fn sinks_are_answered()
 
 /// Whenever the module is ready, what a source shows by its script fits its ports.
 pub fn shown_beats_fit()
-    ensures { (port : StreamPort) (script : List SourceStatement) (view : EndView) (c : ℕ) (may_show : Bool) → IsSourceScript port script
+    ensures { (port : StreamPort) (script : List SourceStatement) (view : EndView) (c : ℕ) (may_show : Bool)
+        → IsSourceScript port script
         → FitsSource port (unwrap_or (next_beat may_show (left_before (port_pace port) (steps_of script) view c)) no_beat) }
 {}
 
 /// What a sink shows by its script fits its port.
 pub fn shown_ready_fits()
-    ensures { (port : StreamPort) (script : List Pattern) (c : ℕ) → IsSinkScript port script → FitsReady port (ready_in script c) }
+    ensures { (port : StreamPort) (script : List Pattern) (c : ℕ) → IsSinkScript port script
+        → FitsReady port (ready_in script c) }
 {}
 
 /// What a source sets in a row, with a beat and without one.

@@ -30,7 +30,8 @@ pub struct SourcePlaces {
     pub empty: Option<usize>,
 }
 
-/// The numbers, in the header, of the outputs that a sink is given: `first` is `startofpacket` and `last` is `endofpacket`. None where a port is absent.
+/// The numbers, in the header, of the outputs that a sink is given: `first` is `startofpacket` and `last` is `endofpacket`. None
+/// where a port is absent.
 #[derive(Clone, Copy)]
 pub struct SinkPorts {
     pub valid: Option<u32>,

@@ -9,9 +9,12 @@ use system_plan::accepted_or_refused;
 
 /// Transactions are done on the system of files or refused, never both, and for one reason.
 pub fn bridged_or_refused()
-    ensures either { (files : List (List ℕ)) (bytes : List ℕ) (cycles : ℕ) → 1 ≤ length files → CanBridge files bytes cycles ⊎ ((fault : Fault) × IsBridgeFault files bytes cycles fault) }
-    ensures never_both { (files : List (List ℕ)) (bytes : List ℕ) (cycles : ℕ) (fault : Fault) → CanBridge files bytes cycles → ¬ IsBridgeFault files bytes cycles fault }
-    ensures one_fault { (files : List (List ℕ)) (bytes : List ℕ) (cycles : ℕ) (one other : Fault) → IsBridgeFault files bytes cycles one → IsBridgeFault files bytes cycles other → one ≡ other }
+    ensures either { (files : List (List ℕ)) (bytes : List ℕ) (cycles : ℕ) → 1 ≤ length files
+        → CanBridge files bytes cycles ⊎ ((fault : Fault) × IsBridgeFault files bytes cycles fault) }
+    ensures never_both { (files : List (List ℕ)) (bytes : List ℕ) (cycles : ℕ) (fault : Fault) → CanBridge files bytes cycles
+        → ¬ IsBridgeFault files bytes cycles fault }
+    ensures one_fault { (files : List (List ℕ)) (bytes : List ℕ) (cycles : ℕ) (one other : Fault)
+        → IsBridgeFault files bytes cycles one → IsBridgeFault files bytes cycles other → one ≡ other }
 {
     accepted_or_refused();
     reads_have_one_answer();

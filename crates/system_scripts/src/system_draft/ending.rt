@@ -245,7 +245,8 @@ impl SystemDraft {
         ensures created { OnOk result (IsSome self.new.name) }
         ensures system { IfOk result (λ tables. (name : List ℕ) → self.new.name ≡ Some name
             → IsSystem (kept_table name self.new.stages tables.0 self.new.instances tables.1)
-            × (system_over library.now commands.now ≡ Ok (kept_table name self.new.stages tables.0 self.new.instances tables.1))) }
+            × (system_over library.now commands.now
+            ≡ Ok (kept_table name self.new.stages tables.0 self.new.instances tables.1))) }
         ensures refused { IfErr result (λ fault. IsFaultOf fault (system_over library.now commands.now)) }
     {
         self.take_all(alloc, commands, library)?;
