@@ -1,8 +1,8 @@
 ghost use Rattle.std.specs.Prelude.{◌≡◌, codes, decimal, ◌++◌};
 ghost use Rattle.answer_lines.specs.Lines.{status_of, line_of, script_line, link_line, limit_line, verilog_line, scenario_line, dump_line, packet_line};
 
+use av_base::lines::Line;
 use av_base::{NoMemory, Place};
-use byte_lines::Line;
 use link_rules::LinkRule;
 use script_words::ScriptRule;
 use system_plan::Refusal;

@@ -2,6 +2,7 @@
 #![tactic(auto)]
 
 mod faults;
+pub mod lines;
 mod lists;
 mod value;
 

@@ -5,9 +5,9 @@ use Rattle.link_rules.specs.Plans.{PlanTable}
 use Rattle.replays.specs.declared.faults.ReplayFault.{ReplayFault}
 use Rattle.replays.specs.declared.faults.ReplayFault.TheVariants as fault
 use Rattle.replays.specs.Texts.{CanReplayText, IsReplayOfText, IsReplayTextFault}
-use Rattle.undumps.specs.declared.UndumpFault.{UndumpFault}
-use Rattle.undumps.specs.declared.UndumpFault.TheVariants as undump
-use Rattle.undumps.specs.Undumps.{CanUndump, IsUndumpOf, IsUndumpFault}
+use Rattle.vcd_reader.specs.declared.undumps.UndumpFault.{UndumpFault}
+use Rattle.vcd_reader.specs.declared.undumps.UndumpFault.TheVariants as undump
+use Rattle.vcd_reader.specs.Undumps.{CanUndump, IsUndumpOf, IsUndumpFault}
 use Rattle.system_plan.specs.declared.faults.Refusal.{Refusal}
 use Rattle.system_plan.specs.declared.faults.Refusal.TheVariants as refusal
 use Rattle.system_plan.specs.Plans.{IsPlanned, IsAccepted, IsRefusedBy, IsCause}

@@ -11,11 +11,11 @@ use Rattle.waves.specs.Rules.{number_of}
 use Rattle.replays.specs.declared.faults.ReplayFault.{ReplayFault}
 use Rattle.replays.specs.declared.faults.ReplayFault.TheVariants as fault
 use Rattle.replays.specs.Texts.{CanReplayText, IsReplayOfText, IsReplayTextFault}
-use Rattle.replay_dumps.specs.Dumps.{IsDumpOfText}
+use Rattle.dumps.specs.Dumps.{IsDumpOfText}
 use Rattle.vcd_reader.specs.Rules.{number_of as rule_number}
-use Rattle.undumps.specs.declared.UndumpFault.{UndumpFault}
-use Rattle.undumps.specs.declared.UndumpFault.TheVariants as undump
-use Rattle.undumps.specs.Undumps.{CanUndump, IsUndumpOf, IsUndumpFault}
+use Rattle.vcd_reader.specs.declared.undumps.UndumpFault.{UndumpFault}
+use Rattle.vcd_reader.specs.declared.undumps.UndumpFault.TheVariants as undump
+use Rattle.vcd_reader.specs.Undumps.{CanUndump, IsUndumpOf, IsUndumpFault}
 use Rattle.routed_modules.specs.declared.routed.Routed.{Routed}
 use Rattle.routed_modules.specs.Routed.{IsRoutedModule}
 use Rattle.scenario_runs.specs.Prepared.{IsTraceOf}

@@ -8,10 +8,10 @@ ghost use Rattle.avalon_top.specs.Loading.{StopsFiles};
 use crate::answer::answer_of;
 use answer_lines::Exit;
 use av_base::Bytes;
-use replay_dumps::{dump, texts_are_dumped_as_replayed};
+use dumps::replayed::{dump, texts_are_dumped_as_replayed};
 use replays::texts_are_replayed_or_refused;
 use std::alloc::Global;
-use undumps::{UndumpFault, dumps_are_written_or_refused, undump};
+use vcd_reader::undumps::{UndumpFault, dumps_are_written_or_refused, undump};
 
 /// The dump of all ports of the module of a text in each cycle of waves, or the answer that the two files call for.
 pub(crate) fn dump_files(alloc: Global, files: &[Bytes]) -> Result<Bytes, Exit>

@@ -10,7 +10,7 @@ use replays::texts_are_replayed_or_refused;
 use scenario_runs::bridges::bridged_or_refused;
 use scenario_runs::simulated_or_refused;
 use system_plan::accepted_or_refused;
-use undumps::dumps_are_written_or_refused;
+use vcd_reader::undumps::dumps_are_written_or_refused;
 
 /// The files of a task call for one answer and for no other.
 pub fn files_call_for_one_answer()

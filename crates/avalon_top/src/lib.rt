@@ -14,7 +14,7 @@ mod systems;
 
 pub use answer::run;
 pub use answer_lines::{Exit, StepRule};
-pub use byte_lines::Line;
+pub use av_base::lines::Line;
 pub use laws::files_call_for_one_answer;
 pub use link_rules::LinkRule;
 pub use process::status_of_process;

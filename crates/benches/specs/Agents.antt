@@ -14,8 +14,8 @@ use Rattle.port_rows.specs.Levels.{Level}
 use Rattle.scenario_tables.specs.declared.statements.AgentStatement.{AgentStatement}
 use Rattle.scenario_tables.specs.Scenarios.{IsAgentAt}
 use Rattle.scenario_tables.specs.Statements.{all_lanes}
-use Rattle.agent_stand_ins.specs.StandIns.{stalls_in}
-use Rattle.agent_stand_ins.specs.Whole.{AgentStandInValue, IsFirst, IsBehind, accepts, address_shown, gives, word_shown, word_now, code_shown, code_now}
+use Rattle.stand_ins.specs.StandIns.{stalls_in}
+use Rattle.stand_ins.specs.Whole.{AgentStandInValue, IsFirst, IsBehind, accepts, address_shown, gives, word_shown, word_now, code_shown, code_now}
 use Rattle.port_rows.specs.declared.agent_ends.places.AgentLevels.{AgentLevels}
 use Rattle.port_rows.specs.declared.agent_ends.places.AgentPlaces.{AgentPlaces}
 use Rattle.port_rows.specs.declared.agent_ends.places.AgentPorts.{AgentPorts}

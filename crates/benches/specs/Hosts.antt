@@ -10,8 +10,8 @@ use Rattle.memory_runs.specs.Views.{Levels, HostView, levels_at}
 use Rattle.port_rows.specs.Levels.{Level}
 use Rattle.scenario_tables.specs.declared.statements.HostStatement.{HostStatement}
 use Rattle.scenario_tables.specs.Scenarios.{IsHostAt}
-use Rattle.host_stand_ins.specs.Steps.{all_steps, shown, left_after}
-use Rattle.host_stand_ins.specs.StandIns.{HostStandInValue}
+use Rattle.stand_ins.specs.Steps.{all_steps, shown, left_after}
+use Rattle.stand_ins.specs.HostsStandIns.{HostStandInValue}
 use Rattle.port_rows.specs.declared.host_ends.places.HostPlaces.{HostPlaces}
 use Rattle.port_rows.specs.declared.host_ends.places.HostPorts.{HostPorts}
 use Rattle.port_rows.specs.Hosts.{host_places, host_outputs, host_levels}

@@ -9,9 +9,9 @@ use Rattle.link_rules.specs.PlanConnections.{IsStreamConnection}
 use Rattle.port_tables.specs.Ends.{IsAnEnd}
 use Rattle.scenario_tables.specs.declared.statements.Pattern.{Pattern}
 use Rattle.scenario_tables.specs.Statements.{IsPattern}
-use Rattle.stream_stand_ins.specs.Step.{Step}
-use Rattle.stream_stand_ins.specs.Step.Step.{Quiet, Sends}
-use Rattle.stream_stand_ins.specs.Sources.{Keeping}
+use Rattle.stand_ins.specs.Step.{Step}
+use Rattle.stand_ins.specs.Step.Step.{Quiet, Sends}
+use Rattle.stand_ins.specs.Sources.{Keeping}
 use Rattle.port_rows.specs.Sinks.{IsSinkEnd}
 
 -- a beat that the step sends has at most so many bits of data

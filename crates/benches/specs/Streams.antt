@@ -17,8 +17,8 @@ use Rattle.port_tables.specs.PortMaps.{port_at}
 use Rattle.port_rows.specs.Levels.{Level, level_if}
 use Rattle.scenario_tables.specs.declared.statements.SourceStatement.{SourceStatement}
 use Rattle.scenario_tables.specs.declared.statements.Pattern.{Pattern}
-use Rattle.stream_stand_ins.specs.Sources.{Keeping, Shows, beat_kept, keeping_at, keeping_behind, no_beat, port_pace}
-use Rattle.stream_stand_ins.specs.Sinks.{ready_in}
+use Rattle.stand_ins.specs.Sources.{Keeping, Shows, beat_kept, keeping_at, keeping_behind, no_beat, port_pace}
+use Rattle.stand_ins.specs.Sinks.{ready_in}
 use Rattle.port_rows.specs.Inputs.{place_at}
 use Rattle.port_rows.specs.declared.stream_ends.places.SourcePlaces.{SourcePlaces}
 use Rattle.port_rows.specs.declared.stream_ends.places.SinkPorts.{SinkPorts}

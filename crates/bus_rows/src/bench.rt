@@ -1,6 +1,6 @@
 //! Hosts and agents at the ports of a module, and what happens at them.
 
-use bus_ends::{Agent, Answer, Command, Driver, Event, HostWork, Log, Memory, Row, Rule, Tally};
+use crate::ends::{Agent, Answer, Command, Driver, Event, HostWork, Log, Memory, Row, Rule, Tally};
 use iface_roles::Role;
 use netlist::Module;
 use row_steps::{Bench, Inputs, Outputs, System, port_that_ends};

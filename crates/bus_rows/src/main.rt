@@ -4,10 +4,11 @@
 #![tactic(auto)]
 
 mod bench;
+pub mod ends;
 mod steps;
 
+use crate::ends::{Row, push_tally};
 use av_base::NoMemory;
-use bus_ends::{Row, push_tally};
 use row_words::{Answers, answer_lines};
 use std::alloc::Global;
 use std::io;

@@ -1,8 +1,8 @@
 //! From a row to its module, and the module stepped.
 
 use crate::bench::Ends;
+use crate::ends::{Row, Tally, files_of};
 use av_base::NoMemory;
-use bus_ends::{Row, Tally, files_of};
 use row_steps::{System, run_cycles, system_of};
 use std::alloc::Global;
 

@@ -4,7 +4,7 @@ use Rattle.std.specs.Prelude.{find, position, is_some, IsTrue, All, ◌&&◌}
 use Rattle.std.proofs.lemmas.Bool.{not-false}
 use Rattle.std.proofs.lemmas.List.{map-append, at_drop_more, at_drop_all, length-map, get_or-map}
 use Rattle.system_tables.specs.declared.tables.InterfaceTable.{InterfaceTable}
-use Rattle.component_types.specs.Tables.{ComponentTable}
+use Rattle.component_scripts.specs.Tables.{ComponentTable}
 use Rattle.av_base.specs.declared.faults.Place.{Place}
 use Rattle.std.proofs.lemmas.List.Elements.{All-push}
 use Rattle.std.specs.List.{position_or_len}

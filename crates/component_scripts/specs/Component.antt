@@ -34,7 +34,7 @@ use Rattle.script_words.specs.Names.{is_empty, place_of}
 use Rattle.script_words.specs.Numbers.{number_of}
 use Rattle.script_words.specs.Package.{package_checks}
 use Rattle.system_tables.specs.declared.tables.InterfaceTable.{InterfaceTable}
-use Rattle.component_types.specs.Tables.{ComponentTable}
+use Rattle.component_scripts.specs.Tables.{ComponentTable}
 use Rattle.script_words.specs.Judgements.{counted, first_some, judged}
 use Rattle.script_words.specs.Words.{text_at, place_at, check, refused_at, refusal_of, is_misdirected}
 

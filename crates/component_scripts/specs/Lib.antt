@@ -1,1 +1,4 @@
 pub mod Component
+pub mod Catalog
+pub mod Library
+pub mod Tables

@@ -3,8 +3,8 @@ ghost use Rattle.component_scripts.specs.Component.{component_of};
 ghost use Rattle.script_words.specs.Judgements.{IsFaultOf};
 
 use crate::component_draft::ComponentDraft;
+use crate::types::Component;
 use av_base::{Place, Text};
-use component_types::Component;
 use iface_roles::Interface;
 use script_words::ScriptFault;
 use std::alloc::Global;

@@ -3,15 +3,15 @@ ghost use Rattle.iface_roles.specs.Proper.{IsProper};
 ghost use Rattle.iface_roles.specs.Records.{finished};
 ghost use Rattle.component_scripts.specs.Component.{interface_table, declared_as};
 ghost use Rattle.system_tables.specs.Names.{is_name};
-ghost use Rattle.component_types.specs.Tables.{IsSound};
+ghost use Rattle.component_scripts.specs.Tables.{IsSound};
 
 use crate::component::{ComponentCommand, DeclaredInterface};
 use crate::component_words::{
     component_command, has_role, judge_port_property, kind_and_side, lacks_role, names_type, takes,
 };
 use crate::settings::{is_misread, is_not_known, is_outside, set_as, with_role};
+use crate::types::{Component, is_name};
 use av_base::{NoMemory, Place, Text};
-use component_types::{Component, is_name};
 use iface_roles::{Finished, Interface, Kind, Property, Side};
 use script_words::values::{direction_named, kind_named, number_of, property_named, same_kind};
 use script_words::words::{check, is_misdirected, place, refusal_of, refused_at, text};
@@ -58,7 +58,7 @@ impl ComponentDraft {
     ghost use Rattle.script_words.specs.Words.{is_misdirected};
     ghost use Rattle.std.specs.Prelude.{◌++◌, ◌∷◌, [], map, All, Ok, IsSome, is_some, false};
     ghost use Rattle.system_tables.specs.Names.{is_name};
-    ghost use Rattle.component_types.specs.Tables.{IsSound};
+    ghost use Rattle.component_scripts.specs.Tables.{IsSound};
     ghost use Rattle.script_words.specs.Words.{refusal_of, IsRefusal};
     ghost use Rattle.iface_roles.specs.Proper.{IsProper};
     ghost use Rattle.iface_roles.specs.Records.{finished};

@@ -5,5 +5,6 @@ mod component;
 mod component_draft;
 mod component_words;
 mod settings;
+pub mod types;
 
 pub use component::read_component;

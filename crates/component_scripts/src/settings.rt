@@ -7,8 +7,8 @@ ghost use Rattle.script_words.specs.Kinds.{property_named};
 ghost use Rattle.script_words.specs.Words.{text_at};
 
 use crate::component::DeclaredInterface;
+use crate::types::is_name;
 use av_base::{NoMemory, Text};
-use component_types::is_name;
 use iface_roles::{PortDirection, Property, PropertyId, Values};
 use script_words::values::{direction_named, number_of, property_named, role_named};
 use script_words::words::text;

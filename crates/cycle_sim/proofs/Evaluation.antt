@@ -11,7 +11,7 @@ use Rattle.netlist.specs.declared.line.Equation.TheVariants.{Input, Constant, An
 use Rattle.netlist.specs.Netlists.{Netlist, IsModule, IsSound, IsValue, input_net, is_input}
 use Rattle.netlist.specs.Runs.{value_of, IsValuation, WordsFit}
 use Rattle.cycle_sim.specs.Sims.{AreNets, AreWords, bits_at, cycle_with, place_of}
-use Rattle.net_readers.specs.Readers.{Reads}
+use Rattle.cycle_sim.specs.Readers.{Reads}
 use Rattle.cycle_sim.specs.Settled.{AreSettled}
 use Rattle.cycle_sim.proofs.Values.{slice_get-some, slice_get-set, bits_at-is}
 use Rattle.cycle_sim.proofs.Inputs.{input_stands}

@@ -9,12 +9,12 @@ use Rattle.netlist.specs.declared.line.Line.{Line}
 use Rattle.netlist.specs.declared.line.Equation.{Equation}
 use Rattle.netlist.specs.declared.line.Equation.TheVariants.{Reg}
 use Rattle.netlist.specs.Netlists.{Netlist, IsModule, IsValue, is_register, next_of, width_at}
-use Rattle.net_readers.specs.declared.registers.Register.{Register}
+use Rattle.cycle_sim.specs.declared.reading.registers.Register.{Register}
 use Rattle.cycle_sim.specs.declared.order.Change.{Change}
 use Rattle.cycle_sim.specs.Sims.{AreNets, bits_at}
 use Rattle.cycle_sim.specs.Orders.{IsChangeOf, IsChanged}
-use Rattle.net_readers.specs.Registers.{IsRegisterOf, HasRegister, AreRegisters}
-use Rattle.net_readers.specs.Readers.{AreNetReaders, AreStale, StayStale, list_at}
+use Rattle.cycle_sim.specs.Registers.{IsRegisterOf, HasRegister, AreRegisters}
+use Rattle.cycle_sim.specs.Readers.{AreNetReaders, AreStale, StayStale, list_at}
 use Rattle.cycle_sim.specs.Settled.{AreSettled}
 use Rattle.cycle_sim.proofs.Values.{split_more, slice_get-some, slice_get-set, slice_get-push, slice_get-front, slice_get-last, width_at-line, bits_at-is, bits_at-set_same, bits_at-set_other}
 use Rattle.cycle_sim.proofs.Runs.{register_of_next}

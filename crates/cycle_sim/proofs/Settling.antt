@@ -14,7 +14,7 @@ use Rattle.netlist.specs.declared.line.Equation.TheVariants.{Input, Reg, Read}
 use Rattle.netlist.specs.Netlists.{Netlist, IsModule, IsSound, is_input, memory_of}
 use Rattle.netlist.specs.Runs.{value_of, word_after}
 use Rattle.cycle_sim.specs.Sims.{AreNets, bits_at, cycle_with, place_of}
-use Rattle.net_readers.specs.Readers.{AreMemoryReaders, AreNetReaders, AreStale, Reads, StayStale, block_of, block_count, list_at}
+use Rattle.cycle_sim.specs.Readers.{AreMemoryReaders, AreNetReaders, AreStale, Reads, StayStale, block_of, block_count, list_at}
 use Rattle.cycle_sim.specs.Settled.{AreSettled, HasGiven, is_state}
 use Rattle.cycle_sim.proofs.Values.{split_more, slice_get-set, bits_at-set_same, bits_at-set_other}
 use Rattle.cycle_sim.proofs.Blocks.{block_ends, block_is, fresh_before, same_or_other, stay_further, stay_same}

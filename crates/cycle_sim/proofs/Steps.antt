@@ -9,7 +9,7 @@ use Rattle.netlist.specs.declared.line.Equation.TheVariants.{Input, Reg}
 use Rattle.netlist.specs.Netlists.{Netlist, IsModule, IsInputPort, IsValue, is_input, is_register, input_net, line_of, width_at}
 use Rattle.cycle_sim.specs.Sims.{AreInputs, AreNets, bits_at, given_to}
 use Rattle.cycle_sim.specs.Given.{IsGiven}
-use Rattle.net_readers.specs.Readers.{AreNetReaders, AreStale, StayStale, list_at}
+use Rattle.cycle_sim.specs.Readers.{AreNetReaders, AreStale, StayStale, list_at}
 use Rattle.cycle_sim.specs.Settled.{AreSettled, StateStays, is_state}
 use Rattle.cycle_sim.proofs.Values.{split_more, width_at-line, bits_at-is, bits_at-set_same, bits_at-set_other}
 use Rattle.cycle_sim.proofs.Inputs.{input_line, input_value, line_of_value}

@@ -1,7 +1,7 @@
 -- What registers take at the clock's edge.
 use Rattle.std.specs.Prelude.{◌≡◌, ℕ, ◌<◌, List, slice_get, Some}
 use Rattle.av_base.specs.Word.{Word}
-use Rattle.net_readers.specs.declared.registers.Register.{Register}
+use Rattle.cycle_sim.specs.declared.reading.registers.Register.{Register}
 use Rattle.cycle_sim.specs.declared.order.Change.{Change}
 
 -- the change gives a register the value of its next net

@@ -6,7 +6,7 @@ use Rattle.netlist.specs.declared.line.Equation.{Equation}
 use Rattle.netlist.specs.declared.line.Equation.TheVariants.{Input, Reg}
 use Rattle.netlist.specs.Netlists.{Netlist, is_input}
 use Rattle.netlist.specs.Runs.{value_of}
-use Rattle.net_readers.specs.Readers.{block_of, block_count}
+use Rattle.cycle_sim.specs.Readers.{block_of, block_count}
 use Rattle.cycle_sim.specs.Sims.{bits_at, cycle_with}
 
 -- net n has what its equation gives from these values of nets and words

@@ -7,6 +7,7 @@ mod laws;
 mod nets;
 mod order;
 mod put;
+pub mod reading;
 mod sim;
 
 pub use laws::{follow, one_run};

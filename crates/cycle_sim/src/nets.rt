@@ -7,15 +7,15 @@ ghost use Rattle.netlist.specs.Netlists.{IsModule, IsInputPort, input_net, is_in
 ghost use Rattle.netlist.specs.Runs.{IsValuation, reset_of};
 ghost use Rattle.cycle_sim.specs.Sims.{AreInputs, AreNets, AreWords, ArePlaces, bits_at, cycle_with, given_to, input_widths, widths_of};
 ghost use Rattle.cycle_sim.specs.Given.{IsGiven};
-ghost use Rattle.net_readers.specs.Registers.{AreRegisters};
-ghost use Rattle.net_readers.specs.Readers.{AreReaders, StayStale, block_count};
+ghost use Rattle.cycle_sim.specs.Registers.{AreRegisters};
+ghost use Rattle.cycle_sim.specs.Readers.{AreReaders, StayStale, block_count};
 ghost use Rattle.cycle_sim.specs.Settled.{AreSettled, StateStays};
 
 use crate::cells::{Cells, zero};
 use crate::order::{Change, gather};
 use crate::put::put;
+use crate::reading::{BLOCK, Readers, Register, block_count};
 use av_base::{NoMemory, Val};
-use net_readers::{BLOCK, Readers, Register, block_count};
 use netlist::{Equation, Module, PortLine};
 use std::alloc::Global;
 

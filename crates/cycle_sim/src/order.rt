@@ -4,11 +4,11 @@ ghost use Rattle.std.specs.Prelude.{◌≡◌, ◌<◌, ◌≤◌, ◌⊎◌, �
 ghost use Rattle.netlist.specs.Netlists.{IsModule};
 ghost use Rattle.cycle_sim.specs.Sims.{AreNets, bits_at};
 ghost use Rattle.cycle_sim.specs.Orders.{IsChangeOf, IsChanged};
-ghost use Rattle.net_readers.specs.declared.registers.Register.{Register};
-ghost use Rattle.net_readers.specs.Registers.{AreRegisters};
+ghost use Rattle.cycle_sim.specs.declared.reading.registers.Register.{Register};
+ghost use Rattle.cycle_sim.specs.Registers.{AreRegisters};
 
+use crate::reading::Register;
 use av_base::Val;
-use net_readers::Register;
 use netlist::Module;
 
 /// What a register's net takes at the clock's edge.

@@ -3,11 +3,11 @@
 ghost use Rattle.std.specs.Prelude.{◌≡◌, ◌≢◌, ◌<◌, ℕ, length, slice_get, slice_set, Some, IfSome};
 ghost use Rattle.netlist.specs.declared.line.Memory.{Memory};
 ghost use Rattle.netlist.specs.Netlists.{IsModule};
-ghost use Rattle.net_readers.specs.Readers.{AreReaders, AreStale, StayStale, block_count, list_at};
+ghost use Rattle.cycle_sim.specs.Readers.{AreReaders, AreStale, StayStale, block_count, list_at};
 ghost use Rattle.cycle_sim.specs.Sims.{bits_at, AreNets};
 
+use crate::reading::{Readers, mark};
 use av_base::Val;
-use net_readers::{Readers, mark};
 use netlist::Module;
 
 /// Gives a net a value, and makes the blocks that read it stale where it had another.

@@ -9,8 +9,8 @@ use crate::cells::{Cells, zero};
 use crate::nets::{are_inputs, evaluate, first_nets, take_next};
 use crate::order::Change;
 use crate::put::mark_written;
+use crate::reading::{Readers, Register, block_count, registers_of};
 use av_base::{NoMemory, Val};
-use net_readers::{Readers, Register, block_count, registers_of};
 use netlist::{Module, agree};
 use std::alloc::Global;
 use std::marker::Model;
@@ -33,8 +33,8 @@ pub struct Sim {
 impl Model for Sim {
     ghost use Rattle.std.specs.Prelude.{◌≡◌, length};
     ghost use Rattle.cycle_sim.specs.Sims.{SimValue, IsSim, ArePlaces};
-    ghost use Rattle.net_readers.specs.Registers.{AreRegisters};
-    ghost use Rattle.net_readers.specs.Readers.{AreReaders};
+    ghost use Rattle.cycle_sim.specs.Registers.{AreRegisters};
+    ghost use Rattle.cycle_sim.specs.Readers.{AreReaders};
     ghost use Rattle.cycle_sim.specs.Settled.{AreSettled};
 
     ghost Value = { SimValue };

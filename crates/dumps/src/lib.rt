@@ -3,6 +3,7 @@
 
 mod gathered;
 mod laws;
+pub mod replayed;
 mod rows;
 mod traces;
 

@@ -1,7 +1,7 @@
 ghost use Rattle.system_tables.specs.Tables.{IsLogic};
 
 use component_scripts::read_component;
-use component_types::{Catalog, Component};
+use component_scripts::types::{Catalog, Component};
 use std::alloc::Global;
 use std::test::Fail;
 use system_scripts::read_system;

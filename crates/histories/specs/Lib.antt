@@ -1,3 +1,11 @@
 pub mod Below
 pub mod History
 pub mod Laws
+pub mod Window
+pub mod Path
+pub mod Junction
+pub mod Turns
+pub mod Holes
+pub mod Ahead
+pub mod Sizes
+pub mod RanksLaws

@@ -1,6 +1,8 @@
 //! Histories of a run: what the cycles before a given one add, in order, and laws about them.
 #![tactic(auto)]
 
+pub mod ranks;
+
 ghost use Rattle.std.specs.Prelude.{ℕ, suc, ◌≡◌, ◌≤◌, ◌<◌, ◌+◌, ◌++◌, ◌∷◌, [], Bool, List, length};
 ghost use Rattle.histories.specs.History.{before, IsPrefix, KeepsItems, first_shown, all_accepted, standing, unreached};
 

@@ -9,7 +9,7 @@ use Rattle.netlist.specs.declared.line.PortLine.{PortLine}
 use Rattle.netlist.specs.Netlists.{Netlist, IsInputPort}
 use Rattle.netlist.specs.Runs.{Cycle, Run, cycle_of, IsRun, Always, InputsFit}
 use Rattle.netlist.specs.Signals.{port_net}
-use Rattle.fed_runs.specs.Fed.{GoesOnFed}
+use Rattle.netlist.specs.Fed.{GoesOnFed}
 use Rattle.stream_runs.specs.Ends.{signal_or}
 use Rattle.histories.specs.History.{is_raised}
 use Rattle.memory_runs.specs.Views.{Signals, Levels, HostView, AgentView, System, Run as MemoryRun, levels_at}
@@ -17,7 +17,7 @@ use Rattle.memory_runs.specs.Beginnings.{RunsAgreeBefore}
 use Rattle.memory_runs.specs.Commands.{shows, is_held}
 use Rattle.memory_runs.specs.Legal.{host_accepts}
 use Rattle.memory_runs.specs.Whole.{IsLegalRun}
-use Rattle.memory_going.specs.Going.{waits_on, HostRests, AgentRests, AreAtRest}
+use Rattle.memory_runs.specs.Going.{waits_on, HostRests, AgentRests, AreAtRest}
 use Rattle.iface_roles.specs.declared.records.Finished.{Finished}
 use Rattle.iface_roles.specs.declared.records.Finished.TheVariants.{Host, Agent, Source, Sink, Other}
 use Rattle.iface_roles.specs.declared.records.HostPort.{HostPort}

@@ -15,7 +15,7 @@ use Rattle.netlist.specs.declared.line.PortLine.{PortLine}
 use Rattle.netlist.specs.Nets.{NetValue, net_of}
 use Rattle.netlist.specs.Netlists.{Netlist, IsInputPort, input_net}
 use Rattle.net_parts.specs.Nets.{IsBit, IsNetOfWidth}
-use Rattle.memory_sides.specs.Sides.{burst_width}
+use Rattle.memory_runs.specs.Sides.{burst_width}
 use Rattle.command_nets.specs.Ports.{HasNet}
 use Rattle.mm_host.specs.declared.nets.HostNets.{HostNets}
 use Rattle.mm_host.specs.Hosts.{AreHostNets, bursts}

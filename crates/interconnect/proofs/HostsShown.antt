@@ -11,7 +11,7 @@ use Rattle.netlist.specs.Netlists.{Netlist, IsInputPort, IsWellMade, driver_of, 
 use Rattle.netlist.specs.Runs.{Cycle, Run, cycle_of}
 use Rattle.netlist.specs.Signals.{port_net, port_named}
 use Rattle.stream_runs.specs.Ends.{signal_or}
-use Rattle.memory_sides.specs.Sides.{burst_width}
+use Rattle.memory_runs.specs.Sides.{burst_width}
 use Rattle.memory_runs.specs.Views.{Levels, HostView, AgentView, levels_at}
 use Rattle.command_nets.specs.Ports.{HasNet, value_or}
 use Rattle.mm_host.specs.Hosts.{bursts}

@@ -5,8 +5,8 @@ ghost use Rattle.netlist.specs.Netlists.{Netlist, IsWellMade};
 ghost use Rattle.port_tables.specs.Ports.{ports_of};
 ghost use Rattle.interconnect.specs.Going.{LegalRunsGoOn};
 
-use fed_runs::{inputs_fit, runs_can_be_fed};
 use link_rules::Plan;
+use netlist::fed::{inputs_fit, runs_can_be_fed};
 use netlist::signals;
 use port_tables::ports_are_known;
 
@@ -20,5 +20,5 @@ pub fn legal_runs_go_on(plan: &Plan)
     signals();
     inputs_fit();
     runs_can_be_fed();
-    memory_going::legal_runs_go_on();
+    memory_runs::going::legal_runs_go_on();
 }

@@ -10,7 +10,7 @@ use address_map::{ends_are_joined, ends_have_one_number};
 use av_base::NoMemory;
 use iface_roles::proper_records_are_bounded;
 use link_rules::{Plan, memory_connections_are_numbered};
-use memory_packed::agree::packed_runs_agree;
+use memory_awake::packed::agree::packed_runs_agree;
 use memory_plans::{links_are_connections, plans_are_memory_plans};
 use memory_runs::{memory_is_read_back, same_beginnings};
 use mm_fabric::{fabrics_are_served, fabrics_ignore_words, links_are_few};

@@ -5,12 +5,12 @@ ghost use Rattle.scenario_tables.specs.Scenarios.{IsScenario};
 
 use crate::row::Row;
 use av_base::{List, NoMemory};
-use campaigns::count_lanes;
 use interconnect::{Built, build};
 use lane_sim::Lanes;
 use link_rules::Plan;
 use scenario_tables::Scenario;
 use scenarios::{ScenarioFault, read_scenario};
+use simulations::campaigns::count_lanes;
 use std::alloc::Global;
 use trace_lines::Counts;
 use workload_systems::workload_plan;

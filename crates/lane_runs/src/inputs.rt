@@ -1,10 +1,10 @@
 //! Inputs that look random.
 
 ghost use Rattle.std.specs.Prelude.{◌≡◌, ℕ, ◌<◌, IfSome};
-ghost use Rattle.lane_words.specs.LaneWords.{word_in};
+ghost use Rattle.lane_sim.specs.LaneWords.{word_in};
 
 use av_base::{NoMemory, Val};
-use lane_words::LaneVal;
+use lane_sim::planes::LaneVal;
 use netlist::PortLine;
 use std::alloc::Global;
 

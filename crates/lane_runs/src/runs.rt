@@ -6,7 +6,7 @@ use crate::inputs::{Inputs, Random};
 use av_base::{NoMemory, Val};
 use cycle_sim::Sim;
 use lane_sim::Lanes;
-use lane_words::LaneVal;
+use lane_sim::planes::LaneVal;
 use netlist::Module;
 use std::alloc::Global;
 

@@ -4,7 +4,7 @@ use Rattle.std.proofs.Math.Nat.{div-add-mod, mod-lt}
 use Rattle.std.proofs.lemmas.Bool.{cases_lt, false≢true}
 use Rattle.std.proofs.lemmas.List.{get_or-set_same, get_or-set_other, get_or-replicate, get_or_past, length-set, length-replicate}
 use Rattle.std.proofs.lemmas.Option.{slice_get_within, get_or_from_slice_get, same_Some}
-use Rattle.net_readers.specs.Readers.{HasBesides, IsListed, StayStale, AreStale, block_of, list_at}
+use Rattle.cycle_sim.specs.Readers.{HasBesides, IsListed, StayStale, AreStale, block_of, list_at}
 use Rattle.lane_sim.proofs.Values.{slice_get-some, slice_get-front, slice_get-last, slice_get-push}
 
 pub same_or_other : (n k : ℕ) → (n ≡ k) ⊎ (n ≢ k)

@@ -6,7 +6,7 @@ use Rattle.std.proofs.lemmas.Option.{get_or_from_slice_get}
 use Rattle.netlist.specs.declared.line.Memory.{Memory}
 use Rattle.netlist.specs.Netlists.{Netlist}
 use Rattle.cycle_sim.specs.Sims.{bits_at}
-use Rattle.lane_words.specs.LaneWords.{LaneWord}
+use Rattle.lane_sim.specs.LaneWords.{LaneWord}
 use Rattle.lane_sim.specs.LaneSims.{AreCells, AreLaneCells, CellsValue, cells_at, lane_words, no_cells}
 use Rattle.lane_sim.proofs.Values.{slice_get-some, slice_get-front, slice_get-last, split_more}
 use Rattle.lane_sim.proofs.Runs.{PutsWords}

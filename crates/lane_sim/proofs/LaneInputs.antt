@@ -5,7 +5,7 @@ use Rattle.std.proofs.lemmas.List as lists
 use Rattle.av_base.specs.Word.{Word}
 use Rattle.netlist.specs.declared.line.PortLine.{PortLine}
 use Rattle.cycle_sim.specs.Sims.{input_widths, widths_of}
-use Rattle.lane_words.specs.LaneWords.{LaneWord, value_at}
+use Rattle.lane_sim.specs.LaneWords.{LaneWord, value_at}
 use Rattle.lane_sim.specs.LaneSims.{lane_words, widths_in}
 use Rattle.lane_sim.proofs.Inputs.{at_turn}
 use Rattle.lane_sim.proofs.LaneLists.{lane_count, lane_widths}

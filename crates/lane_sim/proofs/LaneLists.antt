@@ -10,7 +10,7 @@ use Rattle.av_base.specs.Word.{Word, word}
 use Rattle.netlist.specs.declared.line.Line.{Line}
 use Rattle.netlist.specs.Netlists.{width_at}
 use Rattle.cycle_sim.specs.Sims.{bits_at, widths_of}
-use Rattle.lane_words.specs.LaneWords.{LaneWord, value_at}
+use Rattle.lane_sim.specs.LaneWords.{LaneWord, value_at}
 use Rattle.lane_sim.specs.LaneSims.{AreLaneNets, lane_words, widths_in}
 use Rattle.lane_sim.specs.Changes.{WordChange, lane_changes}
 use Rattle.lane_sim.specs.declared.order.Change.{Change}

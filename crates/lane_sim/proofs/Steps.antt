@@ -10,7 +10,7 @@ use Rattle.netlist.specs.Netlists.{Netlist, IsModule, IsInputPort, IsValue, is_i
 use Rattle.cycle_sim.specs.Sims.{AreInputs, AreNets, bits_at, given_to}
 use Rattle.cycle_sim.specs.Given.{IsGiven}
 use Rattle.cycle_sim.specs.Settled.{AreSettled, StateStays, is_state}
-use Rattle.net_readers.specs.Readers.{AreNetReaders, AreStale, StayStale, list_at}
+use Rattle.cycle_sim.specs.Readers.{AreNetReaders, AreStale, StayStale, list_at}
 use Rattle.lane_sim.proofs.Values.{split_more, width_at-line, bits_at-is, bits_at-set_same, bits_at-set_other}
 use Rattle.lane_sim.proofs.Inputs.{input_line, input_value, line_of_value}
 use Rattle.lane_sim.proofs.Evaluation.{set_net}

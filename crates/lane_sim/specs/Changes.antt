@@ -1,8 +1,8 @@
 -- What registers take at the clock's edge.
 use Rattle.std.specs.Prelude.{◌≡◌, ℕ, ◌<◌, List, slice_get, Some, map}
 use Rattle.av_base.specs.Word.{Word}
-use Rattle.net_readers.specs.declared.registers.Register.{Register}
-use Rattle.lane_words.specs.LaneWords.{value_at}
+use Rattle.cycle_sim.specs.declared.reading.registers.Register.{Register}
+use Rattle.lane_sim.specs.LaneWords.{value_at}
 use Rattle.lane_sim.specs.declared.order.Change.{Change}
 
 -- what a register's net takes in one lane

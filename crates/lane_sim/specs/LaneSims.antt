@@ -9,8 +9,8 @@ use Rattle.netlist.specs.Runs.{Cycle, Run, IsValuation, Steps, SameInputs, SameS
 use Rattle.cycle_sim.specs.Sims.{SimValue, AreNets, AreWords, ArePlaces, IsSim, given_to, input_widths, present}
 use Rattle.cycle_sim.specs.Standing.{IsClearedRun, StandsFor, with_cycle}
 use Rattle.cycle_sim.specs.Settled.{AreSettled}
-use Rattle.net_readers.specs.Readers.{AreReaders}
-use Rattle.lane_words.specs.LaneWords.{LaneWord, value_at}
+use Rattle.cycle_sim.specs.Readers.{AreReaders}
+use Rattle.lane_sim.specs.LaneWords.{LaneWord, value_at}
 
 -- the values in a lane
 abbrev pub lane_words : ℕ → List LaneWord → List Word

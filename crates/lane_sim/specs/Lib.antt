@@ -1,2 +1,4 @@
 pub mod LaneSims
 pub mod Changes
+pub mod Planes
+pub mod LaneWords

@@ -7,10 +7,10 @@ ghost use Rattle.netlist.specs.Netlists.{IsModule};
 ghost use Rattle.netlist.specs.Runs.{word_after};
 ghost use Rattle.cycle_sim.specs.Sims.{AreNets, AreWords, ArePlaces, bits_at, cycle_with, place_of};
 ghost use Rattle.lane_sim.specs.LaneSims.{AreCells, AreLaneNets, AreLaneCells, cells_at, lane_words};
-ghost use Rattle.lane_words.specs.LaneWords.{value_at};
+ghost use Rattle.lane_sim.specs.LaneWords.{value_at};
 
+use crate::planes::LaneVal;
 use av_base::{NoMemory, Val};
-use lane_words::LaneVal;
 use netlist::Module;
 use std::alloc::Global;
 use std::marker::Model;

@@ -4,6 +4,7 @@
 mod cells;
 mod nets;
 mod order;
+pub mod planes;
 mod put;
 mod sim;
 

@@ -8,17 +8,17 @@ ghost use Rattle.netlist.specs.Runs.{IsValuation, reset_of};
 ghost use Rattle.cycle_sim.specs.Sims.{bits_at, cycle_with, given_to, input_widths};
 ghost use Rattle.cycle_sim.specs.Given.{IsGiven};
 ghost use Rattle.cycle_sim.specs.Settled.{AreSettled, StateStays};
-ghost use Rattle.net_readers.specs.Registers.{AreRegisters};
-ghost use Rattle.net_readers.specs.Readers.{AreReaders, StayStale, block_count};
-ghost use Rattle.lane_words.specs.LaneWords.{value_at};
+ghost use Rattle.cycle_sim.specs.Registers.{AreRegisters};
+ghost use Rattle.cycle_sim.specs.Readers.{AreReaders, StayStale, block_count};
+ghost use Rattle.lane_sim.specs.LaneWords.{value_at};
 ghost use Rattle.lane_sim.specs.LaneSims.{AreLaneInputs, AreLaneNets, AreLaneCells, AreLanesSettled, cells_at, lane_words, widths_in};
 
 use crate::cells::{Cells, words_at, zero};
 use crate::order::{Change, gather};
+use crate::planes::LaneVal;
 use crate::put::put;
 use av_base::{NoMemory, Val};
-use lane_words::LaneVal;
-use net_readers::{BLOCK, Readers, Register, block_count};
+use cycle_sim::reading::{BLOCK, Readers, Register, block_count};
 use netlist::{Equation, Module, PortLine};
 use std::alloc::Global;
 

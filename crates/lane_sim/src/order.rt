@@ -3,13 +3,13 @@
 ghost use Rattle.std.specs.Prelude.{◌≡◌, ◌<◌, ◌≤◌, ◌⊎◌, ℕ, length, slice_get, Some};
 ghost use Rattle.netlist.specs.Netlists.{IsModule};
 ghost use Rattle.cycle_sim.specs.Sims.{bits_at};
-ghost use Rattle.net_readers.specs.declared.registers.Register.{Register};
-ghost use Rattle.net_readers.specs.Registers.{AreRegisters};
+ghost use Rattle.cycle_sim.specs.declared.reading.registers.Register.{Register};
+ghost use Rattle.cycle_sim.specs.Registers.{AreRegisters};
 ghost use Rattle.lane_sim.specs.LaneSims.{AreLaneNets, lane_words};
 ghost use Rattle.lane_sim.specs.Changes.{WordChange, IsChangeOf, IsChanged, lane_changes};
 
-use lane_words::LaneVal;
-use net_readers::Register;
+use crate::planes::LaneVal;
+use cycle_sim::reading::Register;
 use netlist::Module;
 
 /// What a register's net takes at the clock's edge.

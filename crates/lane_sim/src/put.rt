@@ -4,13 +4,13 @@ ghost use Rattle.std.specs.Prelude.{◌≡◌, ◌≢◌, ◌<◌, ℕ, true, le
 ghost use Rattle.netlist.specs.declared.line.Memory.{Memory};
 ghost use Rattle.netlist.specs.Netlists.{IsModule};
 ghost use Rattle.cycle_sim.specs.Sims.{bits_at};
-ghost use Rattle.net_readers.specs.Readers.{AreReaders, AreStale, StayStale, block_count, list_at};
-ghost use Rattle.lane_words.specs.LaneWords.{value_at};
+ghost use Rattle.cycle_sim.specs.Readers.{AreReaders, AreStale, StayStale, block_count, list_at};
+ghost use Rattle.lane_sim.specs.LaneWords.{value_at};
 ghost use Rattle.lane_sim.specs.LaneSims.{AreLaneNets, lane_words};
 
+use crate::planes::LaneVal;
 use av_base::Val;
-use lane_words::LaneVal;
-use net_readers::{Readers, mark};
+use cycle_sim::reading::{Readers, mark};
 use netlist::Module;
 
 /// Gives a net a value, and makes the blocks that read it stale where it had another in some lane.

@@ -9,10 +9,10 @@ ghost use Rattle.lane_sim.specs.LaneSims.{AreLaneInputs, AreLanesSims, IsEdge, I
 use crate::cells::{Cells, first_cells, write_cells, zero};
 use crate::nets::{are_inputs, evaluate, first_nets, take_next};
 use crate::order::Change;
+use crate::planes::LaneVal;
 use crate::put::mark_written;
 use av_base::{NoMemory, Val};
-use lane_words::LaneVal;
-use net_readers::{Readers, Register, block_count, registers_of};
+use cycle_sim::reading::{Readers, Register, block_count, registers_of};
 use netlist::{Module, agree};
 use std::alloc::Global;
 use std::marker::Model;
@@ -34,8 +34,8 @@ pub struct Lanes {
 
 impl Model for Lanes {
     ghost use Rattle.std.specs.Prelude.{◌≡◌, length};
-    ghost use Rattle.net_readers.specs.Registers.{AreRegisters};
-    ghost use Rattle.net_readers.specs.Readers.{AreReaders};
+    ghost use Rattle.cycle_sim.specs.Registers.{AreRegisters};
+    ghost use Rattle.cycle_sim.specs.Readers.{AreReaders};
     ghost use Rattle.lane_sim.specs.LaneSims.{LanesValue, AreLanesSims, AreLanesSettled};
 
     ghost Value = { LanesValue };

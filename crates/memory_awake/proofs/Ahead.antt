@@ -2,7 +2,7 @@
 use Rattle.std.proofs.Common.{ℕ, zero, suc, ◌<◌, ◌≤◌, ◌≡◌, ◌+◌, Bool, true, false, not, ◌||◌, ◌&&◌, List, [], ◌∷◌, arith, refl, sym, ap, subst, ◌∙◌, nat_eq, length, IsTrue, IsFalse, tests, inl, inr}
 use Rattle.std.proofs.lemmas.Bool.{and_parts, both_ways}
 use Rattle.std.specs.List.{list_any, list_all}
-use Rattle.ranks.specs.Turns.{AllShare}
+use Rattle.histories.specs.Turns.{AllShare}
 use Rattle.memory_runs.specs.Views.{System, Run, Shape}
 use Rattle.memory_runs.specs.Commands.{shows, agent_accepts}
 use Rattle.memory_runs.specs.Order.{taken, of_host, issued, is_joined}

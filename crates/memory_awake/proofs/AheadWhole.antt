@@ -1,7 +1,7 @@
 -- Reads travel while others are owed in a whole system.
 use Rattle.std.proofs.Common.{ℕ, ◌<◌, ◌≤◌, ◌+◌, arith, IsTrue, lt-ltb}
 use Rattle.std.specs.List.{list_all}
-use Rattle.ranks.specs.Turns.{AllShare}
+use Rattle.histories.specs.Turns.{AllShare}
 use Rattle.memory_runs.specs.Views.{System, Run}
 use Rattle.memory_runs.specs.Commands.{agent_accepts}
 use Rattle.memory_runs.specs.Legal.{IsLegalHost}

@@ -8,8 +8,8 @@ use Rattle.memory_machines.specs.Link.{Port, Marked, takes, taken_at, marked_at,
 use Rattle.memory_machines.specs.Lines.{TaggedPort}
 use Rattle.memory_machines.specs.Rank.{is_unclosed, is_last_write}
 use Rattle.memory_machines.specs.Turns.{seats_of, chosen, choice_by, choice_of, grant_before, asks_at, ends_at, open_after, Grant}
-use Rattle.ranks.specs.Turns.{Seat, Round, Turn, turn_of, next_asking, IsOfAsker, AllShare, IsRoundOf, round_after, is_seated, last_host}
-use Rattle.ranks.specs.Turns.Turn.{Nobody, Begins}
+use Rattle.histories.specs.Turns.{Seat, Round, Turn, turn_of, next_asking, IsOfAsker, AllShare, IsRoundOf, round_after, is_seated, last_host}
+use Rattle.histories.specs.Turns.Turn.{Nobody, Begins}
 use Rattle.memory_parts.specs.Steps.{IsArbiterPart}
 use Rattle.memory_awake.proofs.Bits.{last_joined_end, last_write_end, none_taken, one_taken, not_shown, shown_again, holds, no_true}
 

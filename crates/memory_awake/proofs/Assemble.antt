@@ -13,10 +13,10 @@ use Rattle.memory_machines.specs.Link.{Target, Port, takes, taken_at, shown_at, 
 use Rattle.memory_machines.specs.Shorter.{legal_at_before}
 use Rattle.memory_machines.specs.Rank.{link_part, has_commands, moves_commands, is_unclosed, is_owed, is_last_write, may_rest}
 use Rattle.memory_machines.specs.Turns.{seats_of}
-use Rattle.ranks.specs.Turns.{AllShare}
-use Rattle.ranks.specs.Path.{works, excused, stands, writing, AnswersFlow}
-use Rattle.ranks.specs.Window.{Part, moves_before, KeepsRank, Budget, AllKeep, Keeps, allowances}
-use Rattle.ranks.specs.Junction.{Junctions, IsStuck, IsSoundJunction, all_budgets, budgets, budgets_of_hosts, upper_budget, lower_budget, arbiter_budget, moment, is_among, waits_for, any_below, asks, arbiter_works, arbiter_excused}
+use Rattle.histories.specs.Turns.{AllShare}
+use Rattle.histories.specs.Path.{works, excused, stands, writing, AnswersFlow}
+use Rattle.histories.specs.Window.{Part, moves_before, KeepsRank, Budget, AllKeep, Keeps, allowances}
+use Rattle.histories.specs.Junction.{Junctions, IsStuck, IsSoundJunction, all_budgets, budgets, budgets_of_hosts, upper_budget, lower_budget, arbiter_budget, moment, is_among, waits_for, any_below, asks, arbiter_works, arbiter_excused}
 use Rattle.memory_links.specs.Going.{KeepsGoing, is_untaken}
 use Rattle.memory_awake.specs.Ways.{Ways, Standings, count_in, KeepsAwake, IsAtWork, longest, window, all_hosts, tagged, links_at, lower_at, moves_at, agent_moves}
 use Rattle.memory_awake.proofs.Arbiter.{TurnLaws, Idles, idles, Idles.beat_stands, Idles.rests, Idles.nothing}

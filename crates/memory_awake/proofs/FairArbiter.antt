@@ -9,8 +9,8 @@ use Rattle.memory_runs.specs.Awake.{next_host, turns_of, HasFullTurns}
 use Rattle.memory_machines.specs.Link.{Port, takes}
 use Rattle.memory_machines.specs.Lines.{TaggedPort}
 use Rattle.memory_machines.specs.Turns.{Grant, Choice, chosen, choice_by, choice_of, grant_before, grant_after, asks_at, ends_at, seats_of}
-use Rattle.ranks.specs.Turns.{Seat, Round, Turn, turn_of, next_asking, last_host, AllShare}
-use Rattle.ranks.specs.Turns.{Nobody, Begins}
+use Rattle.histories.specs.Turns.{Seat, Round, Turn, turn_of, next_asking, last_host, AllShare}
+use Rattle.histories.specs.Turns.{Nobody, Begins}
 use Rattle.memory_parts.specs.Steps.{IsArbiterPart}
 use Rattle.memory_awake.specs.Fair.{are_apart, hosts_taken, AllAskPlainly, AreAmong}
 use Rattle.memory_awake.proofs.Arbiter.{TurnLaws, chosen_asks}

@@ -7,7 +7,7 @@ use Rattle.memory_runs.specs.Awake.{shares_of_others}
 use Rattle.memory_machines.specs.Link.{Port}
 use Rattle.memory_machines.specs.Lines.{TaggedPort}
 use Rattle.memory_machines.specs.Turns.{AsksInVain, IsKeptAsking, others_begun, seats_of}
-use Rattle.ranks.specs.Turns as turns
+use Rattle.histories.specs.Turns as turns
 use Rattle.memory_parts.specs.Steps.{IsArbiterPart}
 use Rattle.memory_awake.proofs.Arbiter.{seated_if_joined}
 

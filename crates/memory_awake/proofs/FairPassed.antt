@@ -3,7 +3,7 @@ use Rattle.std.proofs.Common.{ℕ, zero, suc, ◌<◌, ◌≤◌, ◌≡◌, ◌
 use Rattle.std.specs.Prelude.{MatchOption, is_none}
 use Rattle.std.proofs.lemmas.Bool.{and_parts, both_ways}
 use Rattle.histories.specs.History.{only_if, one_if}
-use Rattle.ranks.specs.Turns.{Round}
+use Rattle.histories.specs.Turns.{Round}
 use Rattle.memory_runs.specs.Views.{System}
 use Rattle.memory_runs.specs.Commands.{shows}
 use Rattle.memory_machines.specs.Link.{Port, takes, marked_at, closes}

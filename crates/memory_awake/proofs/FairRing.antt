@@ -3,8 +3,8 @@ use Rattle.std.proofs.Common.{◌≡◌, ℕ, ◌-◌, ◌<◌, Bool, true, fals
 use Rattle.std.specs.Prelude.{⊤}
 use Rattle.std.proofs.lemmas.Bool.{and_parts, or_right}
 use Rattle.std.specs.List.{list_any}
-use Rattle.ranks.specs.Turns.{Seat, Round, Turn, turn_of, next_asking, last_host, round_after, AllShare}
-use Rattle.ranks.specs.Turns.Turn.{Nobody, Begins}
+use Rattle.histories.specs.Turns.{Seat, Round, Turn, turn_of, next_asking, last_host, round_after, AllShare}
+use Rattle.histories.specs.Turns.Turn.{Nobody, Begins}
 use Rattle.memory_runs.specs.Awake.{next_from, next_host}
 use Rattle.memory_awake.specs.Fair.{are_apart}
 

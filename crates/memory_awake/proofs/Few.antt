@@ -10,9 +10,9 @@ use Rattle.memory_runs.specs.Order.{TaggedBeat, beats_taken, beats_taken_in, is_
 use Rattle.memory_runs.specs.Awake.{owes, serves, is_given_from, is_written_to}
 use Rattle.memory_runs.specs.Legal.{Word}
 use Rattle.memory_machines.specs.Link.{Port, takes, words_at}
-use Rattle.ranks.specs.Sizes.{sum_below}
-use Rattle.ranks.specs.Window.{Budget, allowance, allowances}
-use Rattle.ranks.specs.Junction.{Junctions, budgets, budgets_of_hosts, upper_budget, lower_budget, arbiter_budget}
+use Rattle.histories.specs.Sizes.{sum_below}
+use Rattle.histories.specs.Window.{Budget, allowance, allowances}
+use Rattle.histories.specs.Junction.{Junctions, budgets, budgets_of_hosts, upper_budget, lower_budget, arbiter_budget}
 use Rattle.memory_parts.specs.Steps.{words_from_agent}
 use Rattle.memory_awake.specs.Ways.{Ways, Standings, count_in, longest, window, agent_moves, moves_at}
 use Rattle.memory_awake.specs.Front.{KeepsWhole, IsUnserved}

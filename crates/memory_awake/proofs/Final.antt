@@ -8,7 +8,7 @@ use Rattle.memory_runs.specs.Awake.{count_for, serves, is_given_from, is_written
 use Rattle.memory_runs.specs.Order.{of_host, taken}
 use Rattle.memory_machines.specs.Lines.{host_accepted}
 use Rattle.memory_machines.specs.Turns.{seats_of}
-use Rattle.ranks.specs.Turns.{AllShare}
+use Rattle.histories.specs.Turns.{AllShare}
 use Rattle.memory_awake.specs.Ways.{Ways, Standings, longest}
 use Rattle.memory_awake.specs.Front.{KeepsWhole, Wants, Wants.a_beat as wants_beat, Wants.an_operation as wants_operation, Wants.a_word as wants_word, IsWantedAt, is_bursting, AllowLessThan, IsDefaultFront, WantsDefault, WantsDefault.beat, WantsDefault.word}
 use Rattle.memory_awake.proofs.Wanted.{some_or_none, listed, three_parts}

@@ -2,7 +2,7 @@
 use Rattle.std.proofs.Common.{ℕ, zero, suc, ◌<◌, ◌≤◌, ◌≡◌, ◌+◌, ◌*◌, arith, refl}
 use Rattle.memory_runs.specs.Views.{System}
 use Rattle.memory_runs.specs.Awake.{agent_window}
-use Rattle.ranks.specs.Sizes.{sum_below}
+use Rattle.histories.specs.Sizes.{sum_below}
 use Rattle.memory_awake.specs.Ways.{Ways, Standings}
 use Rattle.memory_awake.specs.Sizes.{allows}
 use Rattle.memory_awake.specs.Slack.{Slacks, AreModest, HasModestLinks, upper_beats, upper_words, link_allows, toll, lower_beats, lower_words, stage_allows, host_allows, all_allow}

@@ -1,8 +1,8 @@
 -- In a cycle in which a host asks and isn't taken, what may be taken before it doesn't grow, and falls by each beat that is taken.
 use Rattle.std.proofs.Common.{◌≡◌, ℕ, suc, ◌+◌, ◌*◌, ◌<◌, ◌≤◌, Bool, true, false, ◌&&◌, nat_eq, if◌then◌else◌, arith, refl, sym, ap, ◌∙◌, subst, IsTrue, IsFalse, inl, inr, ◌⊎◌, tests, Option, Some, None}
 use Rattle.std.proofs.lemmas.Bool.{and_parts}
-use Rattle.ranks.specs.Turns.{Round, Turn, turn_of, is_seated, AllShare, last_host, last_shares, round_after}
-use Rattle.ranks.specs.Turns.Turn.{Nobody, Begins}
+use Rattle.histories.specs.Turns.{Round, Turn, turn_of, is_seated, AllShare, last_host, last_shares, round_after}
+use Rattle.histories.specs.Turns.Turn.{Nobody, Begins}
 use Rattle.memory_machines.specs.Turns.{Grant, chosen, choice_by, choice_of, grant_after, open_after}
 use Rattle.memory_awake.specs.Steps.{beats_of_others, round_allows, open_allows, grant_allows}
 use Rattle.memory_awake.proofs.HostRing.{Lowers, turn_lowers, turn_same, turn_holds, Holds, allows_few}

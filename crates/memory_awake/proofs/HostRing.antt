@@ -1,8 +1,8 @@
 -- A turn lowers how many beats of others may be taken before one of a host that asks.
 use Rattle.std.proofs.Common.{◌≡◌, ℕ, zero, suc, ◌+◌, ◌-◌, ◌*◌, ◌<◌, ◌≤◌, Bool, true, false, ◌&&◌, ◌||◌, List, [], ◌∷◌, ◌++◌, nat_eq, nat_lt, if◌then◌else◌, arith, refl, sym, ap, ◌∙◌, append_assoc, append-nil, IsTrue, inl, inr, ◌⊎◌, tests}
 use Rattle.std.proofs.lemmas.Bool.{and_parts}
-use Rattle.ranks.specs.Turns.{Seat, Round, Turn, next_asking, last_host, last_shares, turn_of, is_seated, AllShare, round_after}
-use Rattle.ranks.specs.Turns.Turn.{Nobody, Begins}
+use Rattle.histories.specs.Turns.{Seat, Round, Turn, next_asking, last_host, last_shares, turn_of, is_seated, AllShare, round_after}
+use Rattle.histories.specs.Turns.Turn.{Nobody, Begins}
 use Rattle.memory_awake.proofs.FairRing.{last_of}
 use Rattle.memory_awake.specs.Steps.{beats_ahead, beats_of_others, round_allows}
 

@@ -8,7 +8,7 @@ use Rattle.memory_runs.specs.Order.{is_joined}
 use Rattle.memory_machines.specs.Link.{Port, takes, taken_at, marked_at, closes, is_last_joined}
 use Rattle.memory_machines.specs.Lines.{TaggedPort}
 use Rattle.memory_machines.specs.Turns.{Grant, seats_of, chosen, grant_before, asks_at, ends_at}
-use Rattle.ranks.specs.Turns.{Seat, AllShare, IsRoundOf, is_seated}
+use Rattle.histories.specs.Turns.{Seat, AllShare, IsRoundOf, is_seated}
 use Rattle.memory_parts.specs.Steps.{IsArbiterPart}
 use Rattle.memory_awake.specs.Ways.{count_in}
 use Rattle.memory_awake.proofs.Arbiter.{TurnLaws, is_round as round_is, chosen_asks, seated_if_joined, open_as, OpenAs, is_left, quiet_if_open}

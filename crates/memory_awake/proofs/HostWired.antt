@@ -15,7 +15,7 @@ use Rattle.memory_machines.specs.Lines.{TaggedPort, target_of, tagged_operations
 use Rattle.memory_machines.specs.Machines.{ShowsFitBeats}
 use Rattle.memory_machines.specs.Rank.{is_owed, is_unclosed}
 use Rattle.memory_machines.specs.Turns.{seats_of, asks_at}
-use Rattle.ranks.specs.Turns.{AllShare}
+use Rattle.histories.specs.Turns.{AllShare}
 use Rattle.memory_parts.specs.Steps.{IsHostPart, IsRoutePart, IsArbiterPart, agent_rank, words_from_agent, place_shown}
 use Rattle.memory_awake.proofs.Fronts.{reaches_top, room_when_given, none_when_given}
 use Rattle.memory_awake.proofs.Standing.{stands}

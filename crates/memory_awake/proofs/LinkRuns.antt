@@ -3,7 +3,7 @@ use Rattle.std.proofs.Common.{◌≡◌, ℕ, zero, suc, ◌*◌, ◌<◌, Bool,
 use Rattle.std.proofs.lemmas.Bool.{both_ways}
 use Rattle.std.proofs.Math.Path.{fun_ext}
 use Rattle.histories.specs.History.{is_raised}
-use Rattle.ranks.specs.Turns.{Seat}
+use Rattle.histories.specs.Turns.{Seat}
 use Rattle.memory_runs.specs.Views.{System, Run, Shape, Responses, HostSide, AgentSide}
 use Rattle.memory_runs.specs.Commands.{shows, longest_burst}
 use Rattle.memory_runs.specs.Order.{is_joined}

@@ -14,9 +14,9 @@ use Rattle.memory_machines.specs.Lines.{target_of, tagged_operations, groups_of,
 use Rattle.memory_machines.specs.Link.{Target, Port, Marked, takes, taken_at, shown_at, marked_at, operations_among, operations_in, AreLegalAt}
 use Rattle.memory_machines.specs.Rank.{is_unclosed, is_owed}
 use Rattle.memory_machines.specs.Turns.{seats_of}
-use Rattle.ranks.specs.Turns.{AllShare}
-use Rattle.ranks.specs.Path.{works, stands}
-use Rattle.ranks.specs.Junction.{Junctions, any_below, has_work, moment, arbiter_works}
+use Rattle.histories.specs.Turns.{AllShare}
+use Rattle.histories.specs.Path.{works, stands}
+use Rattle.histories.specs.Junction.{Junctions, any_below, has_work, moment, arbiter_works}
 use Rattle.memory_parts.specs.Steps.{IsArbiterPart}
 use Rattle.memory_links.specs.Going.{is_untaken, is_behind}
 use Rattle.memory_machines.specs.SideLaws.{taken_is_shown}

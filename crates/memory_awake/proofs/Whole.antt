@@ -1,7 +1,7 @@
 -- A whole system serves what is wanted of it.
 use Rattle.std.proofs.Common.{ℕ, suc, ◌<◌, ◌≤◌, ◌≡◌, ◌+◌, ◌-◌, arith, subst}
 use Rattle.std.proofs.Math.Nat.{lt_of_le_of_lt}
-use Rattle.ranks.specs.Turns.{AllShare}
+use Rattle.histories.specs.Turns.{AllShare}
 use Rattle.memory_runs.specs.Views.{System, Run}
 use Rattle.memory_runs.specs.Awake.{ServesWithin, ServesDefaultWithin, agent_window, window_of}
 use Rattle.memory_machines.specs.Turns.{seats_of}

@@ -5,7 +5,7 @@ use Rattle.memory_runs.specs.Views.{System, Run}
 use Rattle.memory_runs.specs.Whole.{IsLegalRun}
 use Rattle.memory_runs.specs.Awake.{ServesWithin, ServesDefaultWithin, agent_window, window_of}
 use Rattle.memory_machines.specs.Turns.{seats_of}
-use Rattle.ranks.specs.Turns.{AllShare}
+use Rattle.histories.specs.Turns.{AllShare}
 use Rattle.memory_awake.specs.Ways.{Ways, Standings}
 use Rattle.memory_awake.specs.Front.{KeepsWhole, IsDefaultFront}
 use Rattle.memory_awake.specs.Slack.{Slacks, AllPassOn, AreModest}

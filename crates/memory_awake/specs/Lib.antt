@@ -17,3 +17,4 @@ pub mod LinkSystem
 pub mod PipeStages
 pub mod Steps
 pub mod Onward
+pub mod Packed

@@ -4,7 +4,7 @@ use Rattle.histories.specs.History.{is_raised}
 use Rattle.memory_runs.specs.Views.{System}
 use Rattle.memory_runs.specs.Awake.{longest_wait, Throughout}
 use Rattle.memory_machines.specs.Link.{Port, takes}
-use Rattle.ranks.specs.Sizes.{sum_below}
+use Rattle.histories.specs.Sizes.{sum_below}
 use Rattle.memory_awake.specs.Ways.{Ways, Standing, Standings, count_in}
 use Rattle.memory_awake.specs.Sizes.{allows}
 

@@ -1,6 +1,6 @@
 -- How many beats of others an arbiter may take before one of a host that asks.
 use Rattle.std.specs.Prelude.{ℕ, suc, ◌+◌, ◌*◌, ◌<◌, ◌≤◌, Bool, List, [], ◌∷◌, nat_eq, if◌then◌else◌, IsTrue, IsFalse, Option, Some, None}
-use Rattle.ranks.specs.Turns.{Seat, Round, last_host}
+use Rattle.histories.specs.Turns.{Seat, Round, last_host}
 use Rattle.histories.specs.History.{is_raised}
 use Rattle.memory_runs.specs.Commands.{shows}
 use Rattle.memory_machines.specs.Link.{Port, takes, taken_at, marked_at, closes, is_last_joined}

@@ -1,7 +1,7 @@
 -- Whole systems of machines: `IsBuilt` is what `machines_are_awake` asks, `NeverIdles` of `memory_runs` what it gives. Start
 -- here.
 use Rattle.std.specs.Prelude.{◌≡◌, ℕ, suc, ◌+◌, ◌*◌, ◌<◌, ◌≤◌, IsTrue, IsFalse}
-use Rattle.ranks.specs.Turns.{AllShare}
+use Rattle.histories.specs.Turns.{AllShare}
 use Rattle.memory_runs.specs.Views.{System, Run, Responses}
 use Rattle.memory_runs.specs.Order.{is_joined}
 use Rattle.memory_runs.specs.Operations.{pieces}

@@ -8,9 +8,9 @@ use Rattle.memory_runs.specs.Awake.{owes}
 use Rattle.memory_machines.specs.Link.{Target, Port, takes, shown_at, operations_among}
 use Rattle.memory_machines.specs.Lines.{TaggedPort, target_of}
 use Rattle.memory_machines.specs.Rank.{is_unclosed, moves_commands, path_at}
-use Rattle.ranks.specs.Path.{Path}
-use Rattle.ranks.specs.Window.{allowances}
-use Rattle.ranks.specs.Junction.{Junctions, Ranked, all_budgets, has_work}
+use Rattle.histories.specs.Path.{Path}
+use Rattle.histories.specs.Window.{allowances}
+use Rattle.histories.specs.Junction.{Junctions, Ranked, all_budgets, has_work}
 use Rattle.memory_parts.specs.Steps.{IsArbiterPart, IsAgentPart}
 use Rattle.memory_links.specs.Going.{is_behind, KeepsGoing}
 

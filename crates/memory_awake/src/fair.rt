@@ -3,7 +3,7 @@
 ghost use Rattle.std.specs.Prelude.{◌≡◌, ℕ, Bool, suc, List, length, ◌≤◌, ◌<◌, ◌+◌, ◌*◌, IsTrue, IsFalse};
 ghost use Rattle.std.specs.List.{list_all};
 ghost use Rattle.histories.specs.History.{IsPrefix};
-ghost use Rattle.ranks.specs.Turns.{AllShare};
+ghost use Rattle.histories.specs.Turns.{AllShare};
 ghost use Rattle.memory_runs.specs.Views.{System, Run, Responses};
 ghost use Rattle.memory_runs.specs.Whole.{IsLegalRun};
 ghost use Rattle.memory_runs.specs.Commands.{agent_accepts, shows};
@@ -158,7 +158,7 @@ pub fn waiting_commands_are_passed_by_few()
     askers_are_passed_by_few();
     commands_begin_by_turns();
     crate::built::machines_keep_their_records();
-    ranks::turns_keep_seats()
+    histories::ranks::turns_keep_seats()
 }
 
 /// In a system of machines whose links hand plain writes on, hosts that write without gaps take turns at their agent by their
@@ -271,7 +271,7 @@ pub fn asking_hosts_take_full_turns()
         → from + size ≤ end → AllAskPlainly system agent up from size → AreAmong owners down.port from size
         → HasFullTurns system agent (turns_of owners) }
 {
-    ranks::turns_keep_seats()
+    histories::ranks::turns_keep_seats()
 }
 
 /// Where an agent serves in granted order, what has begun there stays begun, in its order.

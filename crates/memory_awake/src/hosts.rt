@@ -1,7 +1,7 @@
 //! No host hangs: a command that is wanted moves on itself.
 
 ghost use Rattle.std.specs.Prelude.{◌≡◌, ℕ, suc, List, IsFalse, ◌≤◌, ◌+◌, ◌*◌, ◌<◌, Bool, IsTrue};
-ghost use Rattle.ranks.specs.Turns.{AllShare};
+ghost use Rattle.histories.specs.Turns.{AllShare};
 ghost use Rattle.memory_runs.specs.Views.{System, Run, Responses};
 ghost use Rattle.memory_runs.specs.Whole.{IsLegalRun};
 ghost use Rattle.memory_runs.specs.Order.{is_joined};
@@ -38,7 +38,7 @@ pub fn waits_are_short()
         → (count_in (takes down.port) from size ≤ beats_of_others longest host (seats_of system agent))
         × (count_in good from size ≤ beats_of_others longest host (seats_of system agent) * (pace + 1) + rank from) }
 {
-    ranks::turns_keep_seats()
+    histories::ranks::turns_keep_seats()
 }
 
 /// In a system of machines, a host that is wired to an agent's arbiter isn't held up, whatever links its neighbours have, as long
@@ -84,7 +84,7 @@ pub fn hosts_beside_links_move_on()
         → IsTrue (is_joined system agent host) → host < system.hosts → 1 ≤ late → IsPrompt system run agent late (end + 2)
         → AcceptsWithin (prompt_by (round_by steps system agent host) system agent late) system run agent host end }
 {
-    ranks::turns_keep_seats();
+    histories::ranks::turns_keep_seats();
     crate::machines_are_awake();
     crate::built::machines_keep_their_records();
     crate::built::machines_settle();
@@ -102,7 +102,7 @@ pub fn routes_take_few_steps()
         (longest_of system host) rest end
         × HasSingleReads (inside.upper host agent (inside.links host agent)) rest end }
 {
-    ranks::turns_keep_seats();
+    histories::ranks::turns_keep_seats();
     crate::machines_are_awake();
     crate::built::machines_keep_their_records();
     memory_parts::joins::routes_show_fit_beats()
@@ -151,7 +151,7 @@ pub fn neighbours_take_few_steps()
         × ((other : ℕ)
         → HasStepsLeft (inside.upper other agent 0) (is_good system run agent) (longest_of system other) (rest other) end) }
 {
-    ranks::turns_keep_seats();
+    histories::ranks::turns_keep_seats();
     crate::machines_are_awake();
     crate::built::machines_keep_their_records();
     routes_take_few_steps()

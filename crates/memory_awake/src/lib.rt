@@ -5,13 +5,14 @@ pub mod built;
 pub mod fair;
 pub mod hosts;
 pub mod links;
+pub mod packed;
 pub mod plain;
 pub mod rows;
 pub mod wired;
 
 ghost use Rattle.std.specs.Prelude.{◌≡◌, ℕ, suc, ◌≤◌, ◌<◌, ◌+◌, ◌-◌, IsTrue, Some};
 ghost use Rattle.histories.specs.History.{IsPrefix};
-ghost use Rattle.ranks.specs.Turns.{AllShare};
+ghost use Rattle.histories.specs.Turns.{AllShare};
 ghost use Rattle.memory_runs.specs.Views.{System, Run, Responses, Kind};
 ghost use Rattle.memory_runs.specs.Whole.{IsLegalRun, IsSafe};
 ghost use Rattle.std.specs.List.{list_all};
@@ -94,8 +95,8 @@ pub fn work_is_short()
         → IsAtWork system run agent ways standings host from size
         → size ≤ longest system run agent ways standings from size }
 {
-    ranks::stuck_is_short();
-    ranks::turns_keep_seats();
+    histories::ranks::stuck_is_short();
+    histories::ranks::turns_keep_seats();
     memory_machines::progress::work_lasts()
 }
 
@@ -228,7 +229,7 @@ pub fn asked_agent_accepts()
         → Throughout from size (CanTakeMore system run agent host)
         → Sometime from size (λ c. IsTrue (agent_accepts (system.agent agent) (run.at_agent agent) c)) }
 {
-    ranks::turns_keep_seats()
+    histories::ranks::turns_keep_seats()
 }
 
 /// Where every part of a system keeps its record, and the parts that lead to the agents with readdatavalid hand on what they are

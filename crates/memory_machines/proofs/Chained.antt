@@ -5,10 +5,10 @@ use Rattle.memory_machines.specs.Link.{Target, Port, takes, taken_at, shown_at, 
 use Rattle.memory_machines.specs.Rank.{is_writing, is_owed, is_unclosed, may_rest, has_commands, LinkRankFalls, commands_at, moves_commands, link_part, link_budget, IsUnhindered, KeepLinkRanks}
 use Rattle.memory_machines.proofs.Lasting.{held_on, untaken_on, joined_on, work_or_move, not_by, four_cases, first_of, second_of}
 use Rattle.memory_machines.proofs.Flow.{answers_flow}
-use Rattle.ranks.specs.Path.{works, excused}
-use Rattle.ranks.specs.Window.{KeepsRank, allowances}
-use Rattle.ranks.specs.Junction.{budgets}
-use Rattle.ranks.specs.Laws.{PathIsShort, third_of, acts_is_active, idle_not}
+use Rattle.histories.specs.Path.{works, excused}
+use Rattle.histories.specs.Window.{KeepsRank, allowances}
+use Rattle.histories.specs.Junction.{budgets}
+use Rattle.histories.specs.RanksLaws.{PathIsShort, third_of, acts_is_active, idle_not}
 use Rattle.std.proofs.lemmas.Bool.{both_ways, or_parts}
 use Rattle.memory_machines.specs.Shorter.{legal_at_before}
 

@@ -4,8 +4,8 @@ use Rattle.histories.specs.History.{one_if}
 use Rattle.memory_runs.specs.Commands.{shows}
 use Rattle.memory_machines.specs.Link.{Port}
 use Rattle.memory_machines.specs.Turns.{choice_by, choice_of, asks_at, grant_before, TakesTurnsByRule, others_begun, IsKeptAsking}
-use Rattle.ranks.specs.Turns.{Seat, Round, Turn, turn_of, passed_by, passes, AllAsk, AllShare, is_seated, may_pass, last_shares, shares_of_others, IsRoundOf, IsOfAsker, round_after}
-use Rattle.ranks.specs.Turns.Turn.{Nobody, Begins}
+use Rattle.histories.specs.Turns.{Seat, Round, Turn, turn_of, passed_by, passes, AllAsk, AllShare, is_seated, may_pass, last_shares, shares_of_others, IsRoundOf, IsOfAsker, round_after}
+use Rattle.histories.specs.Turns.Turn.{Nobody, Begins}
 
 -- what the hosts ask in a cycle in which a command may begin
 abbrev if_free : Option ℕ → (ℕ → Bool) → List (ℕ → Bool)

@@ -3,8 +3,8 @@ use Rattle.std.specs.Prelude.{◌≡◌, ◌++◌, ℕ, suc, ◌+◌, ◌<◌, �
 use Rattle.histories.specs.History.{is_raised, only_if, IsPrefix}
 use Rattle.memory_runs.specs.Commands.{is_held, shows, is_of_reads}
 use Rattle.memory_machines.specs.Link.{Target, Port, Marked, marked_at, AreLegalAt, items, takes, taken_at, shown_at, operations_among, words_at, words_owed, is_last_joined, has_word_ready, read_beats, reads_of, answers_at}
-use Rattle.ranks.specs.Path.{Path, works, excused}
-use Rattle.ranks.specs.Window.{Part, Budget, moves_before}
+use Rattle.histories.specs.Path.{Path, works, excused}
+use Rattle.histories.specs.Window.{Part, Budget, moves_before}
 
 -- by the end of the cycle a word that was asked at a port hasn't come there
 abbrev pub is_owed : Port → ℕ → Bool

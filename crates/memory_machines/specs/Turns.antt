@@ -4,8 +4,8 @@ use Rattle.histories.specs.History.{one_if}
 use Rattle.memory_runs.specs.Views.{System}
 use Rattle.memory_runs.specs.Commands.{shows}
 use Rattle.memory_machines.specs.Link.{Port, takes, marked_at, closes}
-use Rattle.ranks.specs.Turns.{Round, Seat, Turn, turn_of, AllShare, is_seated}
-use Rattle.ranks.specs.Turns.Turn.{Nobody, Begins}
+use Rattle.histories.specs.Turns.{Round, Seat, Turn, turn_of, AllShare, is_seated}
+use Rattle.histories.specs.Turns.Turn.{Nobody, Begins}
 
 -- the host whose beat is shown in a cycle, if any, and the round after it
 pub record Choice : Type 0 where

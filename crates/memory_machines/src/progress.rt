@@ -4,9 +4,9 @@ ghost use Rattle.std.specs.Prelude.{suc, ◌≡◌, ◌<◌, ◌≤◌, ◌+◌,
 ghost use Rattle.histories.specs.History.{IsPrefix};
 ghost use Rattle.memory_machines.specs.Rank.{HoldsOneBeat, LinkRankFalls, link_part, link_budget, is_owed, is_on_its_way, PartRankFalls, IsStuckChain};
 ghost use Rattle.memory_machines.specs.Turns.{IsFairArbiter, AsksInVain, others_begun};
-ghost use Rattle.ranks.specs.Junction.{budgets};
-ghost use Rattle.ranks.specs.Turns.{Seat, shares_of_others};
-ghost use Rattle.ranks.specs.Window.{KeepsRank, allowances};
+ghost use Rattle.histories.specs.Junction.{budgets};
+ghost use Rattle.histories.specs.Turns.{Seat, shares_of_others};
+ghost use Rattle.histories.specs.Window.{KeepsRank, allowances};
 ghost use Rattle.memory_machines.specs.Link.{Target, Port, AreLegalAt, items, shown_at};
 ghost use Rattle.memory_machines.specs.Lines.{AreSingle, are_whole, with_tag};
 ghost use Rattle.memory_machines.specs.PartRanks.{JoinsAlike, are_joined_alike};
@@ -42,7 +42,7 @@ pub fn chain_is_short()
         → IsStuckChain target ports rank largest few n from size
         → size ≤ allowances (budgets (link_budget target ports rank largest few from) n) }
 {
-    ranks::path_is_short()
+    histories::ranks::path_is_short()
 }
 
 /// A register of one place keeps the clause for commands with a rank that is always 0.
@@ -58,9 +58,9 @@ pub fn turn_rule_is_fair()
         → (host from size : ℕ) → AsksInVain seats up down end host from size
         → others_begun seats up down host from size ≤ shares_of_others host seats }
 {
-    ranks::asking_is_passed_by_few();
-    ranks::passes_within_shares();
-    ranks::turns_keep_seats()
+    histories::ranks::asking_is_passed_by_few();
+    histories::ranks::passes_within_shares();
+    histories::ranks::turns_keep_seats()
 }
 
 /// Joined commands are alike behind a route, whose commands are single and bear one tag, and behind an arbiter,

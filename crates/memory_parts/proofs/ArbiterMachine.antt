@@ -15,7 +15,7 @@ use Rattle.memory_machines.specs.Lines.{TaggedPort, Group, Carries, HasLanes, ta
 use Rattle.memory_machines.specs.Blocks.{codes_of}
 use Rattle.memory_machines.specs.Machines.{Raw}
 use Rattle.memory_machines.specs.Turns.{Grant, seats_of}
-use Rattle.ranks.specs.Turns.{Seat}
+use Rattle.histories.specs.Turns.{Seat}
 use Rattle.memory_machines.specs.SideLaws.{all_reached, same_counts}
 use Rattle.memory_machines.specs.SideLaws.{prefix_items}
 use Rattle.memory_machines.specs.SideLaws.{prefix_within, total_front}

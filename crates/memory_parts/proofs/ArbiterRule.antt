@@ -6,7 +6,7 @@ use Rattle.memory_machines.specs.Link.{Port}
 use Rattle.memory_machines.specs.Lines.{TaggedPort}
 use Rattle.memory_machines.specs.Machines.{Raw, raw_at}
 use Rattle.memory_machines.specs.Turns.{Grant, chosen, grant_after, grant_before, asks_at, ends_at, TakesTurnsByRule}
-use Rattle.ranks.specs.Turns.{Seat}
+use Rattle.histories.specs.Turns.{Seat}
 use Rattle.memory_parts.specs.Arbiter.{IsArbiterMachine}
 use Rattle.memory_parts.proofs.Rounds.{GrantFits, ChoiceFits, choice_fits, grant_fits}
 

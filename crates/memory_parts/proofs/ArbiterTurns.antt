@@ -9,7 +9,7 @@ use Rattle.memory_machines.specs.Link.{Port, takes, marked_at, closes}
 use Rattle.memory_machines.specs.Lines.{TaggedPort}
 use Rattle.memory_machines.specs.Machines.{Raw, raw_at, mark}
 use Rattle.memory_machines.specs.Turns.{Grant, chosen, choice_of, open_after, asks_at, ends_at, seats_of}
-use Rattle.ranks.specs.Turns.{Round}
+use Rattle.histories.specs.Turns.{Round}
 use Rattle.memory_machines.specs.SideLaws.{fit_when_shown}
 use Rattle.memory_machines.specs.Lines.{AreFitToAsk}
 use Rattle.memory_parts.specs.Arbiter.{IsArbiterMachine}

@@ -2,7 +2,7 @@
 use Rattle.std.proofs.Common.{◌≡◌, ◌⊎◌, inl, inr, ℕ, zero, suc, ◌<◌, Bool, true, false, not, ◌&&◌, ◌||◌, List, [], ◌∷◌, IsTrue, IsFalse, if◌then◌else◌, nat_eq, nat_lt, refl, sym, ap, ◌∙◌, subst, Option, Some, None, MatchOption}
 use Rattle.std.proofs.lemmas.Bool.{eqb-true, eq-eqb, false≢true}
 use Rattle.histories.specs.History.{is_raised}
-use Rattle.ranks.specs.Turns.{Seat, Round, turn_of}
+use Rattle.histories.specs.Turns.{Seat, Round, turn_of}
 use Rattle.memory_runs.specs.Commands.{shows}
 use Rattle.memory_runs.specs.Order.{is_agent}
 use Rattle.memory_machines.specs.Link.{Port}

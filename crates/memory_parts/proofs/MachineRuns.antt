@@ -3,7 +3,7 @@ use Rattle.std.proofs.Common.{ℕ, zero, suc, ◌<◌, ◌≤◌, ◌≡◌, ◌
 use Rattle.std.proofs.lemmas.Bool.{ne_eqb}
 use Rattle.std.proofs.lemmas.Nat.{pow_pos}
 use Rattle.std.proofs.Math.Nat.{div-add-mod', mul-div_cancel}
-use Rattle.ranks.specs.Turns.{Seat}
+use Rattle.histories.specs.Turns.{Seat}
 use Rattle.histories.specs.History.{is_raised, one_if}
 use Rattle.memory_runs.specs.Views.{Responses, System, HostSide, AgentSide, AgentView, levels_at}
 use Rattle.memory_runs.specs.Commands.{burst_after, burst_before, byte_address, shows}

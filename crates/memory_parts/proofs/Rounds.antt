@@ -6,8 +6,8 @@ use Rattle.std.proofs.lemmas.List.Elements.{All-head, All-tail, All-append, All-
 use Rattle.memory_runs.specs.Views.{System}
 use Rattle.memory_runs.specs.Order.{is_joined}
 use Rattle.memory_machines.specs.Turns.{Grant, choice_by, choice_of, chosen, grant_after, open_after, seats_of}
-use Rattle.ranks.specs.Turns.{Seat, Round, Turn, next_asking, turn_of, last_host}
-use Rattle.ranks.specs.Turns.Turn.{Nobody, Begins}
+use Rattle.histories.specs.Turns.{Seat, Round, Turn, next_asking, turn_of, last_host}
+use Rattle.histories.specs.Turns.Turn.{Nobody, Begins}
 
 module _ (P : ℕ → Type 0) where
   abbrev pub SeatFits : Seat → Type 0

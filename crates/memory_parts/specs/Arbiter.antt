@@ -7,7 +7,7 @@ use Rattle.memory_machines.specs.Link.{Port}
 use Rattle.memory_machines.specs.Lines.{TaggedPort}
 use Rattle.memory_machines.specs.Machines.{raw_at}
 use Rattle.memory_machines.specs.Turns.{Grant, chosen, grant_after, asks_at, ends_at}
-use Rattle.ranks.specs.Turns.{Seat}
+use Rattle.histories.specs.Turns.{Seat}
 
 -- whose beat is shown, by the registers and by who asks. The wait and the answers of the cycle aren't read
 abbrev pub chooses : (ℕ → Grant) → (ℕ → Port) → ℕ → ℕ → Bool

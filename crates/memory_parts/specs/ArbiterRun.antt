@@ -9,7 +9,7 @@ use Rattle.memory_machines.specs.Link.{Port, takes, closes}
 use Rattle.memory_machines.specs.Lines.{TaggedPort}
 use Rattle.memory_machines.specs.Machines.{raw_at, mark, idle}
 use Rattle.memory_machines.specs.Turns.{Grant, chosen, grant_after}
-use Rattle.ranks.specs.Turns.{Seat}
+use Rattle.histories.specs.Turns.{Seat}
 use Rattle.memory_parts.specs.Queue.{by_option}
 use Rattle.memory_parts.specs.Inputs.{Commands, with_wait}
 

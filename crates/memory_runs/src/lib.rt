@@ -1,7 +1,9 @@
 //! What a memory-mapped run must be at the ports of its hosts and agents, and laws about it.
 #![tactic(auto)]
 
+pub mod going;
 mod plain;
+pub mod sides;
 
 ghost use Rattle.std.specs.Prelude.{◌+◌, ◌≡◌, ◌<◌, ◌≤◌, ◌*◌, true, ℕ, Bool, List};
 ghost use Rattle.histories.specs.History.{IsPrefix};

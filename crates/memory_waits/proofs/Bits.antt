@@ -5,7 +5,7 @@ use Rattle.histories.specs.History.{is_raised, numbers}
 use Rattle.memory_runs.specs.Views.{Levels}
 use Rattle.memory_runs.specs.Commands.{is_held, shows}
 use Rattle.memory_machines.specs.Link.{Port, AreLegalAt, takes, taken_at, marked_at}
-use Rattle.ranks.specs.Junction.{any_below}
+use Rattle.histories.specs.Junction.{any_below}
 
 pub no_true : IsTrue false → ⊥
 no_true h = cc

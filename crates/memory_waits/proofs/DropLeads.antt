@@ -13,7 +13,7 @@ use Rattle.memory_waits.proofs.DropCounts.{all_sent, sent_next, words_come}
 use Rattle.memory_waits.proofs.Drops.{IsKeptNow, IsPassed, IsGone, now, goes_in, kept_then, none_kept, none_own, swallows_at, kept_open, none_read, none_gone_above}
 use Rattle.memory_waits.proofs.Leads.{Drains, come_before, operations_grow, owed_grows, since, since_found, not_since, waits_to_drain}
 use Rattle.memory_waits.proofs.Rows.{not_closed}
-use Rattle.ranks.specs.Junction.{any_below}
+use Rattle.histories.specs.Junction.{any_below}
 
 -- ---- one cycle
 

@@ -5,7 +5,7 @@ use Rattle.histories.specs.History.{is_raised, only_if}
 use Rattle.histories.specs.Laws.{prefix_flat_map, prefix_filter, prefix_length, before_prefix}
 use Rattle.memory_runs.specs.Commands.{shows, is_of_reads}
 use Rattle.memory_machines.specs.Link.{Target, Port, Marked, takes, taken_at, marked_at, operations_among, operations_in, words_at, words_owed}
-use Rattle.ranks.specs.Junction.{any_below}
+use Rattle.histories.specs.Junction.{any_below}
 use Rattle.memory_waits.specs.Waits.{LeadsDown}
 use Rattle.memory_waits.specs.Watched.{LeadsBy}
 use Rattle.memory_waits.proofs.Bits.{no_true, no_both, not_by, both, any_of, found_below}

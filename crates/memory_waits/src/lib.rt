@@ -4,6 +4,7 @@
 pub mod hosts;
 pub mod neighbours;
 pub mod prompt;
+pub mod straight;
 
 ghost use Rattle.std.specs.Prelude.{ℕ, ◌+◌, ◌<◌, IsTrue};
 ghost use Rattle.memory_runs.specs.Views.{System, Run, Responses};

@@ -9,7 +9,7 @@ use Rattle.netlist.specs.Runs.{Cycle, IsValuation}
 use Rattle.net_parts.specs.Laws.{bit_fits}
 use Rattle.memory_runs.specs.Commands.{byte_address}
 use Rattle.memory_machines.specs.Machines.{Raw}
-use Rattle.memory_sides.specs.Sides.{bound_of}
+use Rattle.memory_runs.specs.Sides.{bound_of}
 use Rattle.command_nets.specs.declared.nets.CommandNets.{CommandNets}
 use Rattle.mm_agent.specs.declared.nets.AgentNets.{AgentNets}
 use Rattle.mm_agent.specs.declared.nets.AgentMade.{AgentMade}

@@ -16,7 +16,7 @@ use Rattle.memory_runs.specs.Commands.{shows, stood_before}
 use Rattle.memory_machines.specs.Link.{Port}
 use Rattle.memory_parts.specs.Queue.{Entry, QueuesReads, takes_read, head_tag}
 use Rattle.memory_parts.specs.Agent.{AgentState, ShowsToAgent, GivesQueued, GivesFixed, IsAgentMachine, row_places}
-use Rattle.memory_sides.specs.Sides.{agent_side, bound_of, burst_width}
+use Rattle.memory_runs.specs.Sides.{agent_side, bound_of, burst_width}
 use Rattle.command_nets.specs.declared.nets.CommandNets.{CommandNets}
 use Rattle.read_queues.specs.declared.queue.HeldReadQueue.{HeldReadQueue}
 use Rattle.read_queues.specs.declared.queue.ReadTraffic.{ReadTraffic}

@@ -9,7 +9,7 @@ use Rattle.netlist.specs.Longer.{Extends}
 use Rattle.net_parts.specs.Nets.{IsBit, IsNetOfWidth}
 use Rattle.memory_runs.specs.Views.{Shape, Signals, AgentView}
 use Rattle.memory_runs.specs.Commands.{byte_address}
-use Rattle.memory_sides.specs.Sides.{unit_of, burst_width}
+use Rattle.memory_runs.specs.Sides.{unit_of, burst_width}
 use Rattle.command_nets.specs.declared.nets.CommandNets.{CommandNets}
 use Rattle.command_nets.specs.declared.nets.AnswerNets.{AnswerNets}
 use Rattle.command_nets.specs.Nets.{AreAnswerNets}

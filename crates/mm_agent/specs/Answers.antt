@@ -8,7 +8,7 @@ use Rattle.netlist.specs.Runs.{Run, cycle_of, IsRun, Always}
 use Rattle.netlist.specs.Longer.{Extends}
 use Rattle.net_parts.specs.Histories.{earlier}
 use Rattle.memory_parts.specs.Agent.{row_places}
-use Rattle.memory_sides.specs.Sides.{agent_side}
+use Rattle.memory_runs.specs.Sides.{agent_side}
 use Rattle.command_nets.specs.declared.nets.AnswerNets.{AnswerNets}
 use Rattle.command_nets.specs.Ports.{value_or}
 use Rattle.read_queues.specs.declared.queue.HeldReadQueue.{HeldReadQueue}

@@ -13,7 +13,7 @@ use Rattle.memory_machines.specs.Link.{Port}
 use Rattle.memory_machines.specs.Lines.{TaggedPort, ServesKinds}
 use Rattle.memory_parts.specs.Queue.{takes_read}
 use Rattle.memory_parts.specs.Agent.{AgentState, IsAgentMachine}
-use Rattle.memory_sides.specs.Sides.{agent_side}
+use Rattle.memory_runs.specs.Sides.{agent_side}
 use Rattle.command_nets.specs.declared.nets.CommandNets.{CommandNets}
 use Rattle.command_nets.specs.Nets.{port_in, ShowSame}
 use Rattle.command_nets.specs.Ports.{value_or, SameLevel}

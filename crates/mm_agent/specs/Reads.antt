@@ -10,7 +10,7 @@ use Rattle.net_parts.specs.Nets.{IsBit, IsNetOfWidth, StartsLow}
 use Rattle.net_parts.specs.Histories.{TakesBit, takes_lasts}
 use Rattle.net_parts.specs.Laws.{net_lasts}
 use Rattle.memory_parts.specs.Agent.{row_places}
-use Rattle.memory_sides.specs.Sides.{agent_side, bound_of}
+use Rattle.memory_runs.specs.Sides.{agent_side, bound_of}
 use Rattle.command_nets.specs.Ports.{ShowsUnless}
 use Rattle.read_queues.specs.declared.queue.HeldReadQueue.{HeldReadQueue}
 use Rattle.read_queues.specs.Held.{owns_queue, IsQueueMade, queue_lasts}

@@ -7,7 +7,7 @@ ghost use Rattle.netlist.specs.Runs.{Always};
 ghost use Rattle.net_parts.specs.Nets.{IsNetOfWidth};
 ghost use Rattle.net_parts.specs.Growth.{GrowsBy, AddsNets, StillWait};
 ghost use Rattle.memory_parts.specs.Agent.{row_places};
-ghost use Rattle.memory_sides.specs.Sides.{agent_side};
+ghost use Rattle.memory_runs.specs.Sides.{agent_side};
 ghost use Rattle.command_nets.specs.Groups.{IsDelayed};
 ghost use Rattle.command_nets.specs.Nets.{AreAnswerNets};
 ghost use Rattle.mm_agent.specs.Agents.{AreAgentNets, GivesAnswer};

@@ -8,7 +8,7 @@ ghost use Rattle.netlist.specs.Runs.{Always};
 ghost use Rattle.net_parts.specs.Nets.{IsBit, IsNetOfWidth};
 ghost use Rattle.net_parts.specs.Growth.{GrowsBy, AddsNets, StillWait, WaitsBeside, WaitsWithout, AreMadeBetween};
 ghost use Rattle.memory_parts.specs.Agent.{row_places};
-ghost use Rattle.memory_sides.specs.Sides.{agent_side, bound_of};
+ghost use Rattle.memory_runs.specs.Sides.{agent_side, bound_of};
 ghost use Rattle.read_queues.specs.Held.{IsQueueMade};
 ghost use Rattle.mm_agent.specs.Reads.{sets_reads, held_queue, IsReadQueue, AreReadsHeld, TellsWait, CountsOn, RowGoesOn, ReadsGoOn, IsNextCount, hold_nets, finish_nets};
 

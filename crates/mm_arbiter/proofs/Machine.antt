@@ -17,7 +17,7 @@ use Rattle.memory_machines.specs.Machines.{Raw, raw_at}
 use Rattle.memory_machines.specs.Turns.{Grant, Choice, chosen, grant_after, grant_before, asks_at, ends_at, open_after}
 use Rattle.memory_parts.specs.Lone.{IsLoneWire}
 use Rattle.memory_parts.specs.Arbiter.{IsArbiterMachine, chooses}
-use Rattle.ranks.specs.Turns.{Seat, is_seated}
+use Rattle.histories.specs.Turns.{Seat, is_seated}
 use Rattle.command_nets.specs.declared.nets.CommandNets.{CommandNets}
 use Rattle.command_nets.specs.Nets.{port_in, raw_in}
 use Rattle.command_nets.specs.Groups.{nothing_shown, is_shown}

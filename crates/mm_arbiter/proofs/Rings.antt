@@ -1,7 +1,7 @@
 -- The ring of seats with the holder last, and the seats in their order: who begins.
 use Rattle.std.proofs.Common.{◌≡◌, ℕ, suc, ◌+◌, ◌-◌, Bool, true, false, ◌&&◌, ◌⊎◌, List, [], ◌∷◌, ◌++◌, length, map, get_or, nat_lt, if◌then◌else◌, Option, Some, None, append-nil, append_assoc, length-append, inl, inr, refl, sym, ap, ◌∙◌, arith}
-use Rattle.ranks.specs.Turns.{Seat, Round, Turn, next_asking, turn_of, last_host}
-use Rattle.ranks.specs.Turns.Turn.{Nobody, Begins}
+use Rattle.histories.specs.Turns.{Seat, Round, Turn, next_asking, turn_of, last_host}
+use Rattle.histories.specs.Turns.Turn.{Nobody, Begins}
 use Rattle.memory_machines.specs.Turns.{choice_of, choice_by}
 use Rattle.mm_arbiter.specs.Asks.{one_more, first_high, past, or_else, first_after, stays_on, chosen_seat, holder_after, begun_left, left_after}
 

@@ -10,7 +10,7 @@ use Rattle.memory_machines.specs.Link.{Port, takes}
 use Rattle.memory_machines.specs.Lines.{TaggedPort}
 use Rattle.memory_machines.specs.Turns.{Grant}
 use Rattle.memory_parts.specs.Arbiter.{IsArbiterMachine}
-use Rattle.ranks.specs.Turns.{Seat, is_seated}
+use Rattle.histories.specs.Turns.{Seat, is_seated}
 use Rattle.command_nets.specs.declared.nets.CommandNets.{CommandNets}
 use Rattle.command_nets.specs.Nets.{port_in}
 use Rattle.mm_arbiter.specs.declared.asker.Asker.{Asker}

@@ -6,7 +6,7 @@ use Rattle.netlist.specs.Netlists.{Netlist}
 use Rattle.netlist.specs.Longer.{Extends}
 use Rattle.net_parts.specs.Nets.{IsRegister}
 use Rattle.net_parts.specs.Laws.{extends_twice, net_lasts, register_lasts}
-use Rattle.memory_sides.specs.Sides.{burst_width}
+use Rattle.memory_runs.specs.Sides.{burst_width}
 use Rattle.command_nets.specs.declared.nets.CommandNets.{CommandNets}
 use Rattle.command_nets.specs.Nets.{AreCommandNets}
 use Rattle.command_nets.specs.Groups.{command_lasts, answer_lasts}

@@ -15,7 +15,7 @@ use Rattle.memory_machines.specs.Paths.{AnswerView}
 use Rattle.memory_machines.specs.Link.{Port}
 use Rattle.memory_machines.specs.Lines.{TaggedPort}
 use Rattle.memory_parts.specs.Steps.{AreSilentPast}
-use Rattle.ranks.specs.Turns.{is_seated}
+use Rattle.histories.specs.Turns.{is_seated}
 use Rattle.memory_plans.specs.Routes.{routes_of, AreRoutes}
 use Rattle.memory_plans.specs.Systems.{memory_system}
 use Rattle.command_nets.specs.Nets.{port_in}

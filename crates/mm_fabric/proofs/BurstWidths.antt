@@ -1,7 +1,7 @@
 -- The width of a count of bursts.
 use Rattle.std.proofs.Common.{◌≡◌, ℕ, ◌≤◌, Bool, true, false, if◌then◌else◌, nat_eq, refl, arith}
 use Rattle.std.proofs.lemmas.Bool.{eqb-false}
-use Rattle.memory_sides.specs.Sides.{burst_width}
+use Rattle.memory_runs.specs.Sides.{burst_width}
 
 pub some_width : (bits : ℕ) → 1 ≤ burst_width bits
 some_width bits = by (nat_eq bits 0) refl

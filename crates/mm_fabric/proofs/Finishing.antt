@@ -6,7 +6,7 @@ use Rattle.netlist.specs.Netlists.{Netlist, IsWaiting}
 use Rattle.netlist.specs.Longer.{Extends}
 use Rattle.net_parts.specs.Growth.{GrowsInMemory, WaitsWithout, StillWaitForWrite}
 use Rattle.net_parts.specs.Laws.{grows_none, grows_without_memory}
-use Rattle.memory_sides.specs.declared.route.Route.{Route}
+use Rattle.memory_runs.specs.declared.sides.route.Route.{Route}
 use Rattle.mm_route.specs.Forward.{forward_lasts}
 use Rattle.mm_agent.specs.Memories.{memory_grows_within}
 use Rattle.mm_fabric.specs.Trunks.{owns, trunk_lasts}

@@ -1,14 +1,14 @@
 -- The hosts and agents of a fabric by their numbers, what a run shows there, and which hosts are seated at an agent.
 use Rattle.std.proofs.Common.{◌≡◌, ℕ, ◌+◌, ◌<◌, if◌then◌else◌, List, IsTrue, sym, subst, ap, ◌∙◌, arith}
 use Rattle.std.proofs.lemmas.Bool.{lt-ltb}
-use Rattle.ranks.specs.Turns.{is_seated}
-use Rattle.ranks.specs.Turns.{Seat as Turn}
+use Rattle.histories.specs.Turns.{is_seated}
+use Rattle.histories.specs.Turns.{Seat as Turn}
 use Rattle.netlist.specs.Netlists.{Netlist}
 use Rattle.netlist.specs.Runs.{Run, IsEndlessRun, IsValuation, cycle_of}
 use Rattle.netlist.specs.Longer.{Extends}
 use Rattle.link_rules.specs.Plans.{PlanTable}
 use Rattle.memory_runs.specs.Order.{is_joined}
-use Rattle.memory_sides.specs.Sides.{host_side, agent_side}
+use Rattle.memory_runs.specs.Sides.{host_side, agent_side}
 use Rattle.memory_plans.specs.Systems.{memory_system, side_of_host, side_of_agent}
 use Rattle.mm_arbiter.specs.Machine.{AreApart, seats_from}
 use Rattle.memory_awake.specs.Fair.{are_apart}

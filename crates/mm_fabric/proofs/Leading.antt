@@ -12,7 +12,7 @@ use Rattle.iface_roles.specs.Proper.{IsBoundedHost, range_of, span_of}
 use Rattle.link_rules.specs.Plans.{PlanTable}
 use Rattle.netlist.specs.Netlists.{Netlist}
 use Rattle.netlist.specs.Runs.{Always}
-use Rattle.memory_sides.specs.declared.route.Route.{Route}
+use Rattle.memory_runs.specs.declared.sides.route.Route.{Route}
 use Rattle.command_nets.specs.declared.nets.CommandNets.{CommandNets}
 use Rattle.command_nets.specs.Nets.{AreCommandNets, Widths, widths_of}
 use Rattle.mm_host.specs.declared.host.HeldHost.{HeldHost}

@@ -21,12 +21,12 @@ use Rattle.memory_machines.specs.Link.{Port}
 use Rattle.memory_machines.specs.Lines.{IsFit, TaggedPort, target_of}
 use Rattle.memory_machines.specs.Machines.{ShowsFitBeats}
 use Rattle.memory_machines.specs.Turns.{Grant, seats_of}
-use Rattle.ranks.specs.Turns.{Seat, is_seated}
+use Rattle.histories.specs.Turns.{Seat, is_seated}
 use Rattle.memory_parts.specs.Agent.{AgentState, IsAgentMachine}
 use Rattle.memory_parts.specs.Arbiter.{IsArbiterMachine}
 use Rattle.memory_parts.specs.Host.{HostState, IsHostMachine}
 use Rattle.memory_parts.specs.Route.{RouteState, IsRouteMachine}
-use Rattle.memory_sides.specs.Sides.{burst_width}
+use Rattle.memory_runs.specs.Sides.{burst_width}
 use Rattle.memory_plans.specs.Routes.{routes_of, AreRoutes}
 use Rattle.memory_plans.specs.Systems.{memory_system}
 use Rattle.mm_route.specs.Machine.{MapsAs, RunsAsRoute}
@@ -40,7 +40,7 @@ use Rattle.memory_awake.specs.RowSystem.{RowPorts, AreRows, AreIdleWires, IsFair
 use Rattle.memory_awake.specs.RowFront.{IsRowFront, ServeWhatFits, with_agents}
 use Rattle.memory_awake.specs.Theorem.{States, ArePlanned, AreMachines}
 use Rattle.memory_awake.specs.PipeStages.{stage_of}
-use Rattle.memory_packed.specs.Packed.{RowsPack}
+use Rattle.memory_awake.specs.Packed.{RowsPack}
 use Rattle.memory_links.specs.Pipes.{PipeSides}
 use Rattle.mm_width.specs.Pairs.{needs_drop}
 use Rattle.memory_plans.specs.Maps.{IsHostOf, IsAgentOf, RoutesAreMapped}

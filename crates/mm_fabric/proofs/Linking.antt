@@ -21,14 +21,14 @@ use Rattle.address_map.specs.Maps.{is_mm, mm_ends, end_at, IsJoined, hosts_of, a
 use Rattle.link_rules.specs.declared.plan_connections.MemoryConnection.{MemoryConnection}
 use Rattle.link_rules.specs.PlanConnections.{memory_connections, IsMemoryConnection, HasMemoryConnection}
 use Rattle.link_rules.specs.Plans.{PlanTable}
-use Rattle.memory_sides.specs.declared.route.Route.{Route}
+use Rattle.memory_runs.specs.declared.sides.route.Route.{Route}
 use Rattle.memory_plans.specs.Routes.{routes_of, AreRoutes}
 use Rattle.memory_plans.specs.Systems.{memory_system, HasLink}
 use Rattle.memory_runs.specs.Views.{System}
 use Rattle.memory_runs.specs.Order.{is_joined}
 use Rattle.memory_runs.specs.Plan.{IsMemoryPlan}
 use Rattle.memory_machines.specs.Turns.{seats_of}
-use Rattle.ranks.specs.Turns.{Seat as Turn}
+use Rattle.histories.specs.Turns.{Seat as Turn}
 use Rattle.mm_arbiter.specs.declared.asker.Asker.{Asker}
 use Rattle.mm_arbiter.specs.Shown.{AreAskers}
 use Rattle.mm_arbiter.specs.Backs.{HostsFit}

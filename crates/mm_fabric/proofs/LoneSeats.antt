@@ -10,7 +10,7 @@ use Rattle.netlist.specs.Runs.{Run, cycle_of}
 use Rattle.netlist.specs.Longer.{Extends}
 use Rattle.net_parts.specs.Laws.{extends_twice}
 use Rattle.memory_machines.specs.Machines.{Raw}
-use Rattle.memory_sides.specs.declared.route.Route.{Route}
+use Rattle.memory_runs.specs.declared.sides.route.Route.{Route}
 use Rattle.mm_route.specs.declared.back.BackNets.{BackNets}
 use Rattle.mm_host.specs.Reads.{unanswered_in}
 use Rattle.mm_agent.specs.Agents.{counts_words}

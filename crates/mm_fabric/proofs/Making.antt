@@ -8,7 +8,7 @@ use Rattle.iface_roles.specs.declared.records.HostPort.{HostPort}
 use Rattle.address_map.specs.Maps.{agents_of}
 use Rattle.link_rules.specs.Plans.{PlanTable}
 use Rattle.netlist.specs.Netlists.{Netlist}
-use Rattle.memory_sides.specs.declared.route.Route.{Route}
+use Rattle.memory_runs.specs.declared.sides.route.Route.{Route}
 use Rattle.memory_plans.specs.Routes.{routes_of}
 use Rattle.memory_plans.specs.Systems.{memory_system}
 use Rattle.memory_machines.specs.Turns.{seats_of}

@@ -14,7 +14,7 @@ use Rattle.memory_runs.specs.Moment.{Moment, AgentSees, IgnoresReaddata}
 use Rattle.memory_runs.specs.Order.{is_joined}
 use Rattle.memory_runs.specs.Plan.{IsMemoryPlan}
 use Rattle.memory_machines.specs.Machines.{Raw}
-use Rattle.memory_sides.specs.declared.route.Route.{Route}
+use Rattle.memory_runs.specs.declared.sides.route.Route.{Route}
 use Rattle.memory_plans.specs.Routes.{routes_of}
 use Rattle.memory_plans.specs.Systems.{memory_system}
 use Rattle.command_nets.specs.declared.nets.CommandNets.{CommandNets}

@@ -19,7 +19,7 @@ use Rattle.command_nets.specs.Nets.{AreAnswerNets, raw_in, port_in, answer_view}
 use Rattle.command_nets.specs.Groups.{command_lasts, answer_lasts}
 use Rattle.mm_route.specs.declared.back.BackNets.{BackNets}
 use Rattle.mm_width.specs.Pairs.{BearsOneTag, is_wire_pair, needs_drop}
-use Rattle.memory_sides.specs.Sides.{burst_width}
+use Rattle.memory_runs.specs.Sides.{burst_width}
 use Rattle.mm_width.specs.Widths.{BegunWidth, WidthInLonger, RunsAsWidth, inner_shape, command_below, owns_width, stores_width}
 use Rattle.mm_fabric.specs.declared.parts.Asking.{Asking}
 use Rattle.mm_fabric.specs.declared.parts.Seat.{Seat}

@@ -17,7 +17,7 @@ use Rattle.memory_runs.specs.Views.{Shape}
 use Rattle.memory_machines.specs.Lines.{TaggedPort}
 use Rattle.memory_machines.specs.Machines.{Raw}
 use Rattle.memory_parts.specs.Agent.{row_places}
-use Rattle.memory_sides.specs.Sides.{agent_side, bound_of}
+use Rattle.memory_runs.specs.Sides.{agent_side, bound_of}
 use Rattle.command_nets.specs.declared.nets.CommandNets.{CommandNets}
 use Rattle.command_nets.specs.declared.nets.AnswerNets.{AnswerNets}
 use Rattle.command_nets.specs.Nets.{Widths}

@@ -3,8 +3,8 @@ use Rattle.std.proofs.Common.{◌≡◌, ℕ, Bool, true, false, not, ◌&&◌, 
 use Rattle.std.specs.List.{list_any}
 use Rattle.std.proofs.lemmas.Bool.{eqb-true, eq-eqb, false≢true}
 use Rattle.std.proofs.lemmas.Option.{none-some}
-use Rattle.ranks.specs.Turns.{is_seated}
-use Rattle.ranks.specs.Turns.{Seat as Turn}
+use Rattle.histories.specs.Turns.{is_seated}
+use Rattle.histories.specs.Turns.{Seat as Turn}
 use Rattle.netlist.specs.Runs.{Cycle, Run}
 use Rattle.memory_runs.specs.Views.{System, Shape}
 use Rattle.memory_runs.specs.Order.{is_joined}

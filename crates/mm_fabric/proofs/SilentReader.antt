@@ -10,8 +10,8 @@ use Rattle.memory_machines.specs.Link.{Port, takes}
 use Rattle.memory_parts.specs.Host.{HostState, IsHostMachine, is_shut}
 use Rattle.memory_parts.specs.Queue.{takes_read, by_option}
 use Rattle.memory_parts.specs.Route.{RouteState, IsRouteMachine, place_now, read_count}
-use Rattle.memory_sides.specs.Sides.{host_side}
-use Rattle.memory_sides.specs.declared.route.Route.{Route}
+use Rattle.memory_runs.specs.Sides.{host_side}
+use Rattle.memory_runs.specs.declared.sides.route.Route.{Route}
 use Rattle.command_nets.specs.Ports.{value_or}
 use Rattle.mm_host.specs.Hosts.{host_view}
 use Rattle.mm_fabric.specs.declared.parts.HostPart.{HostPart}

@@ -5,7 +5,7 @@ use Rattle.std.proofs.lemmas.Option.{slice_get_within, slice_get-get_or}
 use Rattle.netlist.specs.Netlists.{Netlist}
 use Rattle.netlist.specs.Longer.{Extends}
 use Rattle.net_parts.specs.Laws.{net_lasts}
-use Rattle.memory_sides.specs.declared.route.Route.{Route}
+use Rattle.memory_runs.specs.declared.sides.route.Route.{Route}
 use Rattle.command_nets.specs.Nets.{AreAnswerNets}
 use Rattle.command_nets.specs.Groups.{answer_lasts}
 use Rattle.mm_route.specs.declared.back.BackNets.{BackNets}

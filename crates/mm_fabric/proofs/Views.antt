@@ -11,8 +11,8 @@ use Rattle.net_parts.specs.Nets.{IsNetOfWidth}
 use Rattle.net_parts.specs.Laws.{width_fits}
 use Rattle.memory_runs.specs.Views.{HostSide, HostView, AgentSide, AgentView}
 use Rattle.memory_runs.specs.Plan.{FitsPorts}
-use Rattle.memory_sides.specs.Sides.{host_side, agent_side, burst_width}
-use Rattle.memory_sides.specs.declared.route.Route.{Route}
+use Rattle.memory_runs.specs.Sides.{host_side, agent_side, burst_width}
+use Rattle.memory_runs.specs.declared.sides.route.Route.{Route}
 use Rattle.command_nets.specs.Ports.{HasNet, value_or, all_ones}
 use Rattle.mm_host.specs.Hosts.{bursts}
 use Rattle.mm_fabric.specs.declared.parts.HostPart.{HostPart}

@@ -6,7 +6,7 @@ use Rattle.netlist.specs.Runs.{Cycle, Run}
 use Rattle.memory_runs.specs.Views.{Shape}
 use Rattle.memory_machines.specs.Paths.{AnswerView}
 use Rattle.memory_machines.specs.Link.{Port}
-use Rattle.memory_sides.specs.declared.route.Route.{Route}
+use Rattle.memory_runs.specs.declared.sides.route.Route.{Route}
 use Rattle.memory_plans.specs.Routes.{HasRoute}
 use Rattle.command_nets.specs.declared.nets.CommandNets.{CommandNets}
 use Rattle.command_nets.specs.Nets.{port_in, ShowSame}

@@ -24,7 +24,7 @@ use Rattle.mm_route.specs.declared.back.BackNets.{BackNets}
 use Rattle.mm_burst.specs.CutterNets.{given_widths}
 use Rattle.mm_width.specs.Pairs.{MayAskOf, keeps_beats, bits_between, needs_cut, cutter_between, widths_below}
 use Rattle.mm_width.specs.Widths.{BegunWidth}
-use Rattle.memory_sides.specs.Sides.{burst_width}
+use Rattle.memory_runs.specs.Sides.{burst_width}
 use Rattle.netlist.specs.Nets.{NetValue}
 use Rattle.netlist.specs.Runs.{Always}
 use Rattle.net_parts.specs.Laws.{extends_twice}

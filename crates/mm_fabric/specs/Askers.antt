@@ -5,7 +5,7 @@ use Rattle.iface_roles.specs.declared.records.AgentPort.{AgentPort}
 use Rattle.iface_roles.specs.Proper.{span_of}
 use Rattle.netlist.specs.Netlists.{Netlist}
 use Rattle.netlist.specs.Runs.{Always}
-use Rattle.memory_sides.specs.Sides.{burst_width}
+use Rattle.memory_runs.specs.Sides.{burst_width}
 use Rattle.command_nets.specs.declared.nets.CommandNets.{CommandNets}
 use Rattle.command_nets.specs.Nets.{AreCommandNets, AreAnswerNets, Widths, widths_of}
 use Rattle.net_parts.specs.Nets.{IsBit}

@@ -5,9 +5,9 @@ use Rattle.iface_roles.specs.declared.records.AgentPort.{AgentPort}
 use Rattle.link_rules.specs.declared.plan_connections.MemoryConnection.{MemoryConnection}
 use Rattle.link_rules.specs.PlanConnections.{memory_connections}
 use Rattle.link_rules.specs.Plans.{PlanTable}
-use Rattle.memory_sides.specs.Sides.{agent_side, bound_of}
+use Rattle.memory_runs.specs.Sides.{agent_side, bound_of}
 use Rattle.memory_parts.specs.Agent.{row_places}
-use Rattle.memory_sides.specs.declared.route.Route.{Route}
+use Rattle.memory_runs.specs.declared.sides.route.Route.{Route}
 use Rattle.mm_route.specs.Entries.{is_lone}
 use Rattle.mm_width.specs.Pairs.{is_wire_pair}
 

@@ -5,7 +5,7 @@ use Rattle.address_map.specs.Maps.{hosts_of, agents_of}
 use Rattle.link_rules.specs.declared.plan_connections.MemoryConnection.{MemoryConnection}
 use Rattle.link_rules.specs.PlanConnections.{memory_connections}
 use Rattle.link_rules.specs.Plans.{PlanTable}
-use Rattle.memory_sides.specs.declared.route.Route.{Route}
+use Rattle.memory_runs.specs.declared.sides.route.Route.{Route}
 use Rattle.memory_plans.specs.Routes.{routes_of, HasRoute}
 use Rattle.memory_plans.specs.Systems.{memory_system}
 use Rattle.memory_runs.specs.Order.{is_joined}

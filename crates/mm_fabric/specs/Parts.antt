@@ -6,8 +6,8 @@ use Rattle.iface_roles.specs.Proper.{IsBoundedHost, IsBoundedAgent}
 use Rattle.netlist.specs.Netlists.{Netlist}
 use Rattle.netlist.specs.Runs.{Always}
 use Rattle.net_parts.specs.Nets.{IsRegister}
-use Rattle.memory_sides.specs.declared.route.Route.{Route}
-use Rattle.memory_sides.specs.Sides.{burst_width}
+use Rattle.memory_runs.specs.declared.sides.route.Route.{Route}
+use Rattle.memory_runs.specs.Sides.{burst_width}
 use Rattle.command_nets.specs.declared.nets.CommandNets.{CommandNets}
 use Rattle.command_nets.specs.Nets.{AreCommandNets, raw_in}
 use Rattle.mm_route.specs.declared.back.BackNets.{BackNets}

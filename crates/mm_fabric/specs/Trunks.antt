@@ -4,7 +4,7 @@ use Rattle.std.proofs.Common.{inl, inr}
 use Rattle.iface_roles.specs.declared.records.HostPort.{HostPort}
 use Rattle.netlist.specs.Netlists.{Netlist, IsWaiting}
 use Rattle.netlist.specs.Longer.{Extends}
-use Rattle.memory_sides.specs.Sides.{burst_width}
+use Rattle.memory_runs.specs.Sides.{burst_width}
 use Rattle.mm_route.specs.Forward.{RouteKeeps, keeps_lasts}
 use Rattle.mm_route.specs.Forward.{owns as owned_by_route}
 use Rattle.mm_host.specs.Forms.{IsHeld, IgnoresAnswer, held_lasts}

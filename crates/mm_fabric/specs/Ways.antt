@@ -1,6 +1,6 @@
 -- The ways of a host: to the agents of its routes, each with its command and what comes back.
 use Rattle.std.specs.Prelude.{◌≡◌, List, map}
-use Rattle.memory_sides.specs.declared.route.Route.{Route}
+use Rattle.memory_runs.specs.declared.sides.route.Route.{Route}
 use Rattle.command_nets.specs.declared.nets.CommandNets.{CommandNets}
 use Rattle.mm_route.specs.declared.back.BackNets.{BackNets}
 use Rattle.mm_fabric.specs.declared.parts.Way.{Way}

@@ -17,7 +17,7 @@ use crate::parts::{AgentPart, Asking};
 use command_nets::CommandNets;
 use iface_roles::AgentPort;
 use link_rules::{MemoryConnection, Plan};
-use memory_sides::Route;
+use memory_runs::sides::Route;
 use mm_agent::AgentNets;
 use mm_arbiter::Asker;
 use netlist::{Builder, NetFault};

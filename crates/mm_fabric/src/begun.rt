@@ -13,7 +13,7 @@ use command_nets::CommandNets;
 use iface_roles::HostPort;
 use link_rules::Plan;
 use memory_plans::{host_routes, routes_are_mapped};
-use memory_sides::Route;
+use memory_runs::sides::Route;
 use mm_host::HostNets;
 use netlist::{Builder, NetFault};
 use std::alloc::Global;

@@ -7,7 +7,7 @@ ghost use Rattle.mm_fabric.specs.Bounds.{reads_at, bears_few, bears_link, first_
 use command_nets::lane_bits;
 use iface_roles::{AgentPort, HostPort};
 use link_rules::{MemoryConnection, Plan};
-use memory_sides::Route;
+use memory_runs::sides::Route;
 use mm_route::is_lone;
 use mm_width::is_wire_pair;
 

@@ -18,15 +18,15 @@ ghost use Rattle.memory_awake.specs.Onward.{prompt_window};
 ghost use Rattle.memory_awake.specs.RowSystem.{RowPorts, AreRows, IsFairRow, boundaries_of};
 ghost use Rattle.memory_awake.specs.Theorem.{States, ArePlanned, AreMachines};
 ghost use Rattle.memory_waits.specs.Windows.{host_window};
-ghost use Rattle.memory_packed.specs.Packed.{RowsPack};
+ghost use Rattle.memory_awake.specs.Packed.{RowsPack};
 ghost use Rattle.mm_fabric.specs.Fabrics.{Fabric, IsFabric, seen_in, FabricShows};
 
+use memory_awake::packed::packed_systems_read_words_once;
 use memory_awake::rows::{
     machines_with_links_are_awake, machines_with_links_are_fair, what_rows_carry_fits,
 };
 use memory_awake::wired::pipes_have_stages;
 use memory_links::bursts::cut_shows_fit_beats;
-use memory_packed::packed_systems_read_words_once;
 use memory_parts::joins::routes_show_fit_beats;
 use memory_plans::{
     fit_commands_suit_agents, plans_are_apart, plans_are_memory_plans, routes_are_mapped,

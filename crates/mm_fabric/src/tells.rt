@@ -18,7 +18,7 @@ ghost use Rattle.mm_fabric.specs.Lone.{IsLoneWay};
 use crate::begun::BegunHost;
 use crate::hosts::finish_host_part;
 use crate::parts::{AgentPart, HostPart, Seat};
-use memory_sides::Route;
+use memory_runs::sides::Route;
 use mm_route::BackNets;
 use netlist::{Builder, NetFault};
 use std::alloc::Global;

@@ -5,7 +5,7 @@ ghost use Rattle.iface_roles.specs.Proper.{IsBoundedHost, range_of};
 ghost use Rattle.netlist.specs.Netlists.{IsWaiting};
 ghost use Rattle.net_parts.specs.Nets.{IsBit, IsRegister};
 ghost use Rattle.net_parts.specs.Growth.{GrowsBy, GrowsInMemory, StillWait, WaitsBeside, WaitsWithout, AreMadeBetween, StillWaitForWrite};
-ghost use Rattle.memory_sides.specs.declared.route.Route.{Route};
+ghost use Rattle.memory_runs.specs.declared.sides.route.Route.{Route};
 ghost use Rattle.command_nets.specs.declared.nets.CommandNets.{CommandNets};
 ghost use Rattle.mm_route.specs.Entries.{AreEntries, is_lone};
 ghost use Rattle.mm_route.specs.Shown.{AreCommandsOf, widths_below};
@@ -22,7 +22,7 @@ ghost use Rattle.mm_fabric.specs.Trunks.{owns, IsTrunk};
 
 use command_nets::{AnswerNets, CommandNets, word_bits};
 use iface_roles::HostPort;
-use memory_sides::Route;
+use memory_runs::sides::Route;
 use mm_host::{HeldHost, HostAnswer, HostNets, emit_host, finish_host};
 use mm_route::{BackNets, HeldRoute, emit_route, finish_route};
 use netlist::{Builder, Net, NetFault};

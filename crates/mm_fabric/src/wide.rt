@@ -4,7 +4,7 @@ ghost use Rattle.std.specs.Prelude.{◌≡◌, ◌+◌, ◌*◌, ◌^◌, ◌<�
 ghost use Rattle.std.specs.List.{AllZip};
 ghost use Rattle.net_parts.specs.Growth.{AddsNets};
 ghost use Rattle.mm_arbiter.specs.Shown.{AreCommands};
-ghost use Rattle.memory_sides.specs.Sides.{burst_width};
+ghost use Rattle.memory_runs.specs.Sides.{burst_width};
 ghost use Rattle.mm_fabric.specs.Wide.{ReachWithin, AreWithin, IsWidened};
 
 use command_nets::CommandNets;

@@ -7,7 +7,7 @@ use Rattle.netlist.specs.Netlists.{Netlist}
 use Rattle.netlist.specs.Runs.{Cycle, IsValuation}
 use Rattle.net_parts.specs.Laws.{bit_fits}
 use Rattle.memory_runs.specs.Commands.{byte_address}
-use Rattle.memory_sides.specs.Sides.{host_side, burst_width}
+use Rattle.memory_runs.specs.Sides.{host_side, burst_width}
 use Rattle.memory_machines.specs.Machines.{Raw}
 use Rattle.mm_host.specs.declared.reads.HeldReads.{HeldReads}
 use Rattle.mm_host.specs.declared.reads.HeldReads.TheVariants.{Never, Asks, Counts, Queues, Unbounded}

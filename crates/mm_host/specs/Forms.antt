@@ -11,7 +11,7 @@ use Rattle.net_parts.specs.Laws.{net_lasts}
 use Rattle.memory_runs.specs.Views.{Shape}
 use Rattle.memory_runs.specs.Views.Responses.{AreCodes}
 use Rattle.memory_parts.specs.Host.{HostState, IsHostMachine}
-use Rattle.memory_sides.specs.Sides.{host_side, burst_width}
+use Rattle.memory_runs.specs.Sides.{host_side, burst_width}
 use Rattle.command_nets.specs.declared.nets.CommandNets.{CommandNets}
 use Rattle.command_nets.specs.declared.nets.AnswerNets.{AnswerNets}
 use Rattle.command_nets.specs.Nets.{port_in, ShowSame}

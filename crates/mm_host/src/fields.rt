@@ -7,7 +7,7 @@ ghost use Rattle.netlist.specs.Runs.{Always};
 ghost use Rattle.net_parts.specs.Nets.{IsNetOfWidth};
 ghost use Rattle.net_parts.specs.Growth.{AddsNets};
 ghost use Rattle.memory_runs.specs.Commands.{byte_address};
-ghost use Rattle.memory_sides.specs.Sides.{host_side, burst_width};
+ghost use Rattle.memory_runs.specs.Sides.{host_side, burst_width};
 ghost use Rattle.command_nets.specs.Ports.{value_or, all_ones};
 ghost use Rattle.mm_host.specs.Hosts.{AreHostNets, AreFields, ShowFields};
 

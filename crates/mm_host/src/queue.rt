@@ -8,7 +8,7 @@ ghost use Rattle.netlist.specs.Runs.{Always};
 ghost use Rattle.net_parts.specs.Nets.{IsBit, IsNetOfWidth, StartsLow};
 ghost use Rattle.net_parts.specs.Growth.{GrowsInMemory, AddsNets, StillWait, WaitsBeside, WaitsWithout, StillWaitForWrite, WriteWaitsBeside, WriteWaitsWithout};
 ghost use Rattle.item_queues.specs.Queues.{owns_memories};
-ghost use Rattle.memory_sides.specs.Sides.{burst_width};
+ghost use Rattle.memory_runs.specs.Sides.{burst_width};
 ghost use Rattle.mm_host.specs.Queued.{owns_words, AreWordsHeld, AnswersOldest, WordsGoOn};
 
 use crate::fields::count_bits;

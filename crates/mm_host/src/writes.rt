@@ -7,7 +7,7 @@ ghost use Rattle.netlist.specs.Runs.{Always};
 ghost use Rattle.net_parts.specs.Nets.{IsBit, IsNetOfWidth};
 ghost use Rattle.net_parts.specs.Growth.{GrowsBy, AddsNets, StillWait, WaitsBeside, WaitsWithout, AreMadeBetween};
 ghost use Rattle.iface_roles.specs.Proper.{IsBoundedHost};
-ghost use Rattle.memory_sides.specs.Sides.{burst_width};
+ghost use Rattle.memory_runs.specs.Sides.{burst_width};
 ghost use Rattle.mm_host.specs.Writes.{owns_writes, beats_of, AreWritesHeld, LacksBeats, LacksOn, WritesGoOn};
 
 use crate::fields::count_bits;

@@ -7,7 +7,7 @@ use Rattle.std.proofs.Math.Pow.{pow_mono}
 use Rattle.std.proofs.Math.Nat.{mod-eq_of_lt, div-lt_iff_lt-mul, le-div_iff_mul-le, mul-div_cancel}
 use Rattle.av_base.specs.Word.{IsWord}
 use Rattle.histories.specs.History.{is_raised, one_if}
-use Rattle.memory_sides.specs.declared.route.Route.{Route}
+use Rattle.memory_runs.specs.declared.sides.route.Route.{Route}
 use Rattle.mm_route.specs.Entries.{IsEntry, kind_of, serves, is_inside, holds}
 
 pub power_some : (b : ℕ) → 0 < 2 ^ b

@@ -8,7 +8,7 @@ use Rattle.histories.specs.History.{one_if}
 use Rattle.memory_runs.specs.Views.{Kind}
 use Rattle.memory_runs.specs.Order.{is_agent}
 use Rattle.memory_parts.specs.Route.{is_same_place}
-use Rattle.memory_sides.specs.declared.route.Route.{Route}
+use Rattle.memory_runs.specs.declared.sides.route.Route.{Route}
 use Rattle.mm_route.specs.Entries.{IsEntry, AreEntries, is_inside, holds, serves, hits, place_bits}
 use Rattle.mm_route.specs.Machine.{has_entry, AreHeld, HoldWords}
 use Rattle.mm_route.proofs.Decoding.{same_footprint, power_some}

@@ -17,7 +17,7 @@ use Rattle.memory_parts.specs.Queue.{takes_read, by_option}
 use Rattle.memory_parts.specs.Route.{RouteState, kind_at, place_now, is_open, is_same_place, read_count}
 use Rattle.command_nets.specs.declared.nets.AnswerNets.{AnswerNets}
 use Rattle.command_nets.specs.Nets.{port_in}
-use Rattle.memory_sides.specs.declared.route.Route.{Route}
+use Rattle.memory_runs.specs.declared.sides.route.Route.{Route}
 use Rattle.mm_route.specs.declared.back.BackNets.{BackNets}
 use Rattle.mm_route.specs.declared.wire.HeldWire.{HeldWire}
 use Rattle.mm_route.specs.Entries.{IsEntry, serves, is_inside, holds}

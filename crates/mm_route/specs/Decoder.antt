@@ -5,7 +5,7 @@ use Rattle.netlist.specs.Runs.{Cycle, Always}
 use Rattle.netlist.specs.Longer.{Extends}
 use Rattle.net_parts.specs.Nets.{IsNetOfWidth, IsBit}
 use Rattle.net_parts.specs.Laws.{net_lasts}
-use Rattle.memory_sides.specs.declared.route.Route.{Route}
+use Rattle.memory_runs.specs.declared.sides.route.Route.{Route}
 use Rattle.mm_route.specs.declared.decoder.AskedNets.{AskedNets}
 use Rattle.mm_route.specs.Entries.{kind_of, holds, hits}
 

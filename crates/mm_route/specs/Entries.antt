@@ -5,7 +5,7 @@ use Rattle.histories.specs.History.{is_raised, one_if}
 use Rattle.memory_runs.specs.Views.{Kind}
 use Rattle.memory_runs.specs.Views.Kind.{Reads, Writes}
 use Rattle.memory_runs.specs.Order.{is_agent}
-use Rattle.memory_sides.specs.declared.route.Route.{Route}
+use Rattle.memory_runs.specs.declared.sides.route.Route.{Route}
 
 -- the footprint begins at a multiple of its size, within the range of an address of so many bits
 pub record IsEntry (width : ℕ) (entry : Route) : Type 0 where

@@ -10,7 +10,7 @@ use Rattle.net_parts.specs.Nets.{IsBit}
 use Rattle.net_parts.specs.Groups.{InGroup}
 use Rattle.net_parts.specs.Laws.{net_lasts}
 use Rattle.command_nets.specs.declared.nets.CommandNets.{CommandNets}
-use Rattle.memory_sides.specs.declared.route.Route.{Route}
+use Rattle.memory_runs.specs.declared.sides.route.Route.{Route}
 use Rattle.mm_route.specs.declared.registers.LatchNets.{LatchNets}
 use Rattle.mm_route.specs.declared.registers.RegisterNets.{RegisterNets}
 use Rattle.mm_route.specs.declared.shown.ShownNets.{ShownNets}

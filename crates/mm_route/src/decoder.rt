@@ -11,7 +11,7 @@ ghost use Rattle.mm_route.specs.Decoder.{AreAskedNets, held_in, hits_in};
 
 use av_base::Val;
 use command_nets::both;
-use memory_sides::Route;
+use memory_runs::sides::Route;
 use net_parts::level;
 use netlist::{Builder, Net, NetFault};
 

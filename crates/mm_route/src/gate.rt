@@ -14,7 +14,7 @@ ghost use Rattle.mm_route.specs.Forward.{place_in, IsGate};
 use crate::decoder::{AskedNets, decode};
 use crate::registers::RegisterNets;
 use command_nets::{CommandNets, either, turned};
-use memory_sides::Route;
+use memory_runs::sides::Route;
 use net_parts::choose;
 use netlist::{Builder, Net, NetFault};
 

@@ -5,7 +5,7 @@ ghost use Rattle.netlist.specs.Netlists.{Netlist};
 ghost use Rattle.netlist.specs.Runs.{Cycle, IsValuation};
 ghost use Rattle.command_nets.specs.declared.nets.CommandNets.{CommandNets};
 ghost use Rattle.command_nets.specs.Nets.{ShowSame};
-ghost use Rattle.memory_sides.specs.declared.route.Route.{Route};
+ghost use Rattle.memory_runs.specs.declared.sides.route.Route.{Route};
 ghost use Rattle.mm_route.specs.declared.route.HeldRoute.{HeldRoute};
 ghost use Rattle.mm_route.specs.Forward.{owns, RouteForward};
 ghost use Rattle.mm_route.specs.Machine.{ShowAllSame};

@@ -12,14 +12,14 @@ ghost use Rattle.mm_route.specs.Forward.{owns, forward_nets, RouteKeeps, RouteFo
 ghost use Rattle.mm_route.specs.Backward.{AreBackNets, RouteBackward, backward_nets};
 ghost use Rattle.mm_route.specs.Lone.{RunsAsWire};
 ghost use Rattle.mm_route.specs.Machine.{RunsAsMachine};
-ghost use Rattle.memory_sides.specs.declared.route.Route.{Route};
+ghost use Rattle.memory_runs.specs.declared.sides.route.Route.{Route};
 ghost use Rattle.command_nets.specs.declared.nets.CommandNets.{CommandNets};
 
 use crate::back::BackNets;
 use crate::router::{HeldRouter, emit_router, finish_router};
 use crate::wire::{HeldWire, emit_wire, finish_wire};
 use command_nets::{AnswerNets, CommandNets};
-use memory_sides::Route;
+use memory_runs::sides::Route;
 use netlist::{Builder, Net, NetFault};
 use std::alloc::Global;
 

@@ -13,7 +13,7 @@ ghost use Rattle.mm_route.specs.Shown.{AreShownNets, AreCommandsOf, widths_below
 ghost use Rattle.mm_route.specs.Forward.{router_owns, forward_nets, RouterKeeps, RouterForward};
 ghost use Rattle.mm_route.specs.Backward.{AreBackNets, answer_group, picked, answers_in, WaitsAbove, AnswersAbove, RouterBackward, backward_nets};
 ghost use Rattle.mm_route.specs.Machine.{RunsAsMachine};
-ghost use Rattle.memory_sides.specs.declared.route.Route.{Route};
+ghost use Rattle.memory_runs.specs.declared.sides.route.Route.{Route};
 ghost use Rattle.command_nets.specs.declared.nets.CommandNets.{CommandNets};
 
 use crate::back::{BackNets, pick_answer, pick_wait};
@@ -23,7 +23,7 @@ use crate::next::step_registers;
 use crate::registers::{RegisterNets, make_registers};
 use crate::shown::{ShownNets, show_all};
 use command_nets::{AnswerNets, CommandNets, either, turned};
-use memory_sides::Route;
+use memory_runs::sides::Route;
 use net_parts::constant;
 use netlist::{Builder, Net, NetFault};
 use std::alloc::Global;

@@ -5,7 +5,7 @@ use Rattle.std.proofs.lemmas.Nat.{pow-add}
 use Rattle.std.proofs.Math.Pow.{pow_mono}
 use Rattle.iface_roles.specs.declared.records.HostPort.{HostPort}
 use Rattle.iface_roles.specs.declared.records.AgentPort.{AgentPort}
-use Rattle.memory_sides.specs.Sides.{burst_width}
+use Rattle.memory_runs.specs.Sides.{burst_width}
 use Rattle.mm_burst.specs.CutterNets.{lane_exponent}
 use Rattle.mm_width.specs.Pairs.{MayMeet, needs_drop, keeps_beats, packs, selects, place_bits, bits_between, bits_cut, needs_cut}
 

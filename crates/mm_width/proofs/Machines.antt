@@ -6,7 +6,7 @@ use Rattle.std.proofs.Math.Nat.{mul_left_comm, mod-lt, mul-div_cancel}
 use Rattle.iface_roles.specs.declared.records.HostPort.{HostPort}
 use Rattle.iface_roles.specs.declared.records.AgentPort.{AgentPort}
 use Rattle.iface_roles.specs.Proper.{IsWordSize}
-use Rattle.memory_sides.specs.Sides.{burst_width}
+use Rattle.memory_runs.specs.Sides.{burst_width}
 use Rattle.netlist.specs.Nets.{NetValue}
 use Rattle.netlist.specs.Netlists.{Netlist}
 use Rattle.netlist.specs.Runs.{Run, IsEndlessRun, cycle_of}
@@ -24,7 +24,7 @@ use Rattle.memory_awake.specs.Rows.{IsWired, CutsBursts, FitsWords, DropsBeats, 
 use Rattle.memory_awake.specs.Rows.CutsBursts.{cutter, no_cutter}
 use Rattle.memory_awake.specs.Rows.FitsWords.{selector, gatherer, splitter, no_width}
 use Rattle.memory_awake.specs.Rows.DropsBeats.{dropper, no_dropper}
-use Rattle.memory_packed.specs.Packed.{RowPacks}
+use Rattle.memory_awake.specs.Packed.{RowPacks}
 use Rattle.memory_runs.specs.Commands.{longest_burst}
 use Rattle.command_nets.specs.declared.nets.CommandNets.{CommandNets}
 use Rattle.command_nets.specs.declared.nets.AnswerNets.{AnswerNets}

@@ -3,7 +3,7 @@ use Rattle.std.specs.Prelude.{◌≡◌, ℕ, ◌++◌, Bool, true, List, [], �
 use Rattle.std.proofs.Common.{inl, inr}
 use Rattle.iface_roles.specs.declared.records.HostPort.{HostPort}
 use Rattle.iface_roles.specs.declared.records.AgentPort.{AgentPort}
-use Rattle.memory_sides.specs.Sides.{burst_width}
+use Rattle.memory_runs.specs.Sides.{burst_width}
 use Rattle.netlist.specs.Nets.{NetValue}
 use Rattle.netlist.specs.Netlists.{Netlist, IsWaiting, WaitsForWrite}
 use Rattle.netlist.specs.Runs.{Run, IsEndlessRun}
@@ -16,7 +16,7 @@ use Rattle.command_nets.specs.declared.nets.AnswerNets.{AnswerNets}
 use Rattle.command_nets.specs.Nets.{port_in}
 use Rattle.link_core.specs.declared.row.Begun.{Begun}
 use Rattle.link_core.specs.Rows.{IsBegun, AreBegun, IsOfOne}
-use Rattle.memory_packed.specs.Packed.{RowPacks}
+use Rattle.memory_awake.specs.Packed.{RowPacks}
 pub use Rattle.mm_width.specs.Kept.{WidthKept, owns_width, stores_width}
 use Rattle.mm_width.specs.Kept.{WidthKeeps, WidthCommand, keeps_lasts, command_lasts}
 pub use Rattle.mm_width.specs.Links.{Width, width_of}

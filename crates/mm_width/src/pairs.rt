@@ -1,7 +1,7 @@
 //! What a host and an agent need between them.
 
 ghost use Rattle.std.specs.Prelude.{◌≡◌};
-ghost use Rattle.memory_sides.specs.Sides.{burst_width};
+ghost use Rattle.memory_runs.specs.Sides.{burst_width};
 ghost use Rattle.mm_width.specs.Pairs.{MayMeet, needs_drop, keeps_beats, packs, selects, place_bits, bits_between, needs_cut, is_wire_pair, cutter_between};
 
 use command_nets::lane_bits;

@@ -5,3 +5,4 @@ pub mod Runs
 pub mod Longer
 pub mod Signals
 pub mod Makers
+pub mod Fed

@@ -3,6 +3,7 @@
 
 mod builder;
 mod fault;
+pub mod fed;
 mod laws;
 mod line;
 mod module;

@@ -16,7 +16,7 @@ use Rattle.port_rows.specs.Rows.{level_of}
 use Rattle.scenario_tables.specs.declared.statements.AgentStatement.{AgentStatement}
 use Rattle.scenario_tables.specs.declared.statements.AgentStatement.TheVariants.{Stall, Latency, Fill, Code}
 use Rattle.scenario_tables.specs.Statements.{all_lanes}
-use Rattle.agent_stand_ins.specs.StandIns.{stall_pattern, stalls_in, gives_in, word_in, code_in}
+use Rattle.stand_ins.specs.StandIns.{stall_pattern, stalls_in, gives_in, word_in, code_in}
 use Rattle.port_rows.specs.declared.agent_ends.places.AgentLevels.{AgentLevels}
 use Rattle.port_rows.specs.declared.agent_ends.places.AgentPlaces.{AgentPlaces}
 use Rattle.port_rows.specs.declared.agent_ends.places.AgentPorts.{AgentPorts}

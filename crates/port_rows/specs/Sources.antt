@@ -9,7 +9,7 @@ use Rattle.port_tables.specs.declared.roles.PortRole.TheVariants as role
 use Rattle.port_tables.specs.Ports.{bits_if}
 use Rattle.port_rows.specs.declared.driven.Driven.{Driven}
 use Rattle.port_rows.specs.Levels.{Level, levels_for}
-use Rattle.stream_stand_ins.specs.Sources.{no_beat}
+use Rattle.stand_ins.specs.Sources.{no_beat}
 use Rattle.port_rows.specs.Inputs.{place_at, drives, FitsPort}
 use Rattle.port_rows.specs.declared.stream_ends.places.SourcePlaces.{SourcePlaces}
 

@@ -4,3 +4,7 @@ pub mod Demultiplexed
 pub mod Gathered
 pub mod Laws
 pub mod Rows
+pub mod Beats
+pub mod Multiplexing
+pub mod Demultiplexing
+pub mod Gathering

@@ -2,4 +2,5 @@
 //! their ends show cycle by cycle.
 #![tactic(auto)]
 
+pub mod machines;
 pub mod rows;

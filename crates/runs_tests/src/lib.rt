@@ -2,6 +2,7 @@
 #![tactic(auto)]
 
 pub mod closed;
+pub mod memory;
 #[cfg(test)]
 mod operations;
 #[cfg(test)]

@@ -15,7 +15,7 @@ use Rattle.scenario_tables.specs.Scenarios.{IsScenario}
 use Rattle.drawn_scenarios.specs.Drawn.{drawn_scenario, scenario_for}
 use Rattle.trace_lines.specs.declared.counts.Counts.{Counts}
 use Rattle.simulations.specs.Runs.{no_counts}
-use Rattle.campaigns.specs.Counted.{AreCountedRuns}
+use Rattle.simulations.specs.Counted.{AreCountedRuns}
 use Rattle.scenario_runs.specs.declared.campaign.Campaign.{Campaign}
 use Rattle.scenario_runs.specs.Campaigns.{AreUnstepped, CanRun, IsCampaign, IsTextOfLanes, IsToldInPart, IsToldWhole, campaign_text, lane_line, lane_scenario, lane_scenarios}
 

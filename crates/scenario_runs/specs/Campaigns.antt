@@ -15,7 +15,7 @@ use Rattle.drawn_scenarios.specs.Drawn.{drawn_scenario}
 use Rattle.trace_lines.specs.declared.counts.Counts.{Counts}
 use Rattle.simulations.specs.Runs.{IsCountedRun, no_counts}
 use Rattle.simulations.specs.Traces.{AreCounts}
-use Rattle.campaigns.specs.Counted.{AreCountedRuns}
+use Rattle.simulations.specs.Counted.{AreCountedRuns}
 use Rattle.answer_lines.specs.declared.exit.Exit.{Exit}
 use Rattle.answer_lines.specs.declared.exit.Exit.TheVariants as exit
 use Rattle.scenario_runs.specs.declared.campaign.Campaign.{Campaign}

@@ -5,3 +5,6 @@ pub mod Campaigns
 pub mod Bridged
 pub mod Refused
 pub mod Noting
+pub mod Hosts
+pub mod Commands
+pub mod Stated

@@ -11,7 +11,7 @@ use Rattle.packet_bytes.specs.declared.faults.PacketFault.TheVariants as packet
 use Rattle.packet_bytes.specs.declared.gathering.Packet.{Packet}
 use Rattle.packet_bytes.specs.Streams.{AreRead}
 use Rattle.packet_bytes.specs.Rules.{first_fault, IsFaultOf}
-use Rattle.transfer_scenarios.specs.Hosts.{IsTransferHost, HasNoTransferHost}
+use Rattle.scenario_runs.specs.Hosts.{IsTransferHost, HasNoTransferHost}
 use Rattle.scenario_runs.specs.declared.bridges.faults.BridgeFault.{BridgeFault}
 use Rattle.scenario_runs.specs.declared.bridges.faults.BridgeFault.TheVariants as fault
 

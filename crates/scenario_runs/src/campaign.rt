@@ -7,21 +7,21 @@ ghost use Rattle.scenario_tables.specs.declared.scenario.Scenario.{Scenario as S
 ghost use Rattle.scenario_tables.specs.Scenarios.{IsScenario};
 ghost use Rattle.answer_lines.specs.declared.exit.Exit.TheVariants.{NoMemory as WantOfMemory};
 ghost use Rattle.system_plan.specs.Plans.{IsCause};
-ghost use Rattle.campaigns.specs.Counted.{AreCountedRuns};
+ghost use Rattle.simulations.specs.Counted.{AreCountedRuns};
 ghost use Rattle.scenario_runs.specs.Campaigns.{AreUnstepped, CanRun, EndsCampaign, IsCampaign, campaign_end, campaign_text, lane_line, lane_scenarios};
 
 use crate::read_back::built_module;
 use answer_lines::Exit;
 use arrayvec::ArrayVec;
+use av_base::lines::Line;
 use av_base::{Bytes, NoMemory};
 use av_files::{Sink, put_all};
-use byte_lines::Line;
-use campaigns::count_lanes;
 use drawn_scenarios::draw_scenario;
 use interconnect::{Built, PortMap};
 use lane_sim::Lanes;
 use link_rules::Plan;
 use scenario_tables::Scenario;
+use simulations::campaigns::count_lanes;
 use std::alloc::Global;
 use system_plan::{Refusal, plan_of};
 use trace_lines::Counts;

@@ -9,6 +9,7 @@ mod faults;
 mod laws;
 mod prepared;
 mod read_back;
+pub mod transfers;
 mod workload;
 
 pub use campaign::{Campaign, campaign_module, prepare_campaign};

@@ -5,8 +5,8 @@ ghost use Rattle.scenario_runs.specs.Workloads.{workload_line, IsCounted, IsWork
 ghost use Rattle.scenario_tables.specs.Scenarios.{IsScenario};
 
 use crate::read_back::built_module;
+use av_base::lines::Line;
 use av_base::{Bytes, NoMemory};
-use byte_lines::Line;
 use drawn_scenarios::draw_scenario;
 use link_rules::Plan;
 use scenario_tables::Scenario;

@@ -5,3 +5,6 @@ pub mod Names
 pub mod Numbers
 pub mod Package
 pub mod Words
+pub mod Commands
+pub mod Joints
+pub mod Roots

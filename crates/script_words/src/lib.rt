@@ -5,6 +5,7 @@ mod faults;
 mod judge;
 mod names;
 mod package;
+pub mod system;
 pub mod values;
 pub mod words;
 

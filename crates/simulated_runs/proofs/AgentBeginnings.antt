@@ -7,14 +7,14 @@ use Rattle.memory_runs.specs.Views.{Levels, AgentSide, AgentView, levels_at}
 use Rattle.memory_runs.specs.Operations.{memory_after, own_operations}
 use Rattle.memory_runs.specs.Commands.{Burst, Transfer, stood_before, agent_accepts, burst_before, burst_after, transfer_of, transfer_at, accepted}
 use Rattle.memory_runs.specs.Beginnings.{AgentsAgree}
-use Rattle.memory_sides.specs.Sides.{agent_side}
+use Rattle.memory_runs.specs.Sides.{agent_side}
 use Rattle.scenario_tables.specs.declared.statements.AgentStatement.{AgentStatement}
-use Rattle.agent_stand_ins.specs.Contents.{filled, contents_before}
-use Rattle.agent_stand_ins.specs.declared.waiting.Waiting.{Waiting}
-use Rattle.agent_stand_ins.specs.Codes.{code_at}
-use Rattle.agent_stand_ins.specs.Answers.{takes_read, latency_of, waiting_before, waiting_after, is_due, word_due, word_asked, word_asked_in, word_behind, code_due, code_asked, code_asked_in, code_behind, answer}
-use Rattle.agent_stand_ins.specs.StandIns.{IsAgentStandIn}
-use Rattle.agent_stand_ins.specs.Whole.{AgentStandInValue, StandsFor}
+use Rattle.stand_ins.specs.Contents.{filled, contents_before}
+use Rattle.stand_ins.specs.declared.waiting.Waiting.{Waiting}
+use Rattle.stand_ins.specs.Codes.{code_at}
+use Rattle.stand_ins.specs.Answers.{takes_read, latency_of, waiting_before, waiting_after, is_due, word_due, word_asked, word_asked_in, word_behind, code_due, code_asked, code_asked_in, code_behind, answer}
+use Rattle.stand_ins.specs.StandIns.{IsAgentStandIn}
+use Rattle.stand_ins.specs.Whole.{AgentStandInValue, StandsFor}
 
 module _ (side : AgentSide) (one two : AgentView) (end : ℕ) (agree : AgentsAgree one two end) where
   -- what is shown, and whether it is a write

@@ -11,19 +11,19 @@ use Rattle.cycle_sim.specs.Standing.{IsClearedRun, with_cycle}
 use Rattle.stream_runs.specs.View.{EndView, AgreeBefore}
 use Rattle.memory_runs.specs.Views.{HostView, AgentView, levels_at}
 use Rattle.memory_runs.specs.Beginnings.{HostsAgree, AgentsAgree}
-use Rattle.memory_sides.specs.Sides.{agent_side}
+use Rattle.memory_runs.specs.Sides.{agent_side}
 use Rattle.interconnect.specs.Memory.{host_in, agent_in}
 use Rattle.scenario_tables.specs.declared.statements.HostStatement.{HostStatement}
 use Rattle.scenario_tables.specs.declared.statements.AgentStatement.{AgentStatement}
 use Rattle.scenario_tables.specs.declared.statements.SourceStatement.{SourceStatement}
 use Rattle.scenario_tables.specs.declared.statements.Pattern.{Pattern}
 use Rattle.scenario_tables.specs.declared.scenario.Scenario.{Scenario}
-use Rattle.host_stand_ins.specs.Steps.{all_steps, shown}
-use Rattle.host_stand_ins.specs.StandIns.{left_before, IsHostStandIn}
-use Rattle.agent_stand_ins.specs.Answers.{is_due, word_due, waiting_before, word_behind}
-use Rattle.agent_stand_ins.specs.StandIns.{stall_pattern, stalls_in, code_in, IsAgentStandIn}
-use Rattle.stream_stand_ins.specs.Sources.{beat_shown, Shows, IsSourceStandIn}
-use Rattle.stream_stand_ins.specs.Sinks.{ready_in, IsSinkStandIn}
+use Rattle.stand_ins.specs.Steps.{all_steps, shown}
+use Rattle.stand_ins.specs.HostsStandIns.{left_before, IsHostStandIn}
+use Rattle.stand_ins.specs.Answers.{is_due, word_due, waiting_before, word_behind}
+use Rattle.stand_ins.specs.StandIns.{stall_pattern, stalls_in, code_in, IsAgentStandIn}
+use Rattle.stand_ins.specs.Sources.{beat_shown, Shows, IsSourceStandIn}
+use Rattle.stand_ins.specs.Sinks.{ready_in, IsSinkStandIn}
 use Rattle.simulated_runs.specs.Ends.{stream_view}
 use Rattle.simulated_runs.specs.Simulated.{IsSimulated, AreShown, AgentShows}
 use Rattle.simulated_runs.proofs.Growing.{hosts_agree, agents_agree, streams_agree, grown}

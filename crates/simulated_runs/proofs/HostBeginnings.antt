@@ -5,8 +5,8 @@ use Rattle.iface_roles.specs.declared.records.HostPort.{HostPort}
 use Rattle.memory_runs.specs.Views.{HostView}
 use Rattle.memory_runs.specs.Beginnings.{HostsAgree}
 use Rattle.scenario_tables.specs.declared.statements.HostStatement.{HostStatement}
-use Rattle.host_stand_ins.specs.Steps.{Step, all_steps, shown, left_after}
-use Rattle.host_stand_ins.specs.StandIns.{left_before, IsHostStandIn}
+use Rattle.stand_ins.specs.Steps.{Step, all_steps, shown, left_after}
+use Rattle.stand_ins.specs.HostsStandIns.{left_before, IsHostStandIn}
 
 same_left : (steps : List Step) (one two : ℕ → ℕ) (c : ℕ) → ((k : ℕ) → k < c → one k ≡ two k) → left_before steps one c ≡ left_before steps two c
 same_left steps one two zero same = refl

@@ -19,7 +19,7 @@ use Rattle.stream_runs.specs.Ends.{side_of}
 use Rattle.st_timing.specs.Ends.{declared}
 use Rattle.memory_runs.specs.Views.{HostSide, AgentSide, HostView, AgentView}
 use Rattle.memory_runs.specs.Legal.{IsLegalHost, IsLegalAgent}
-use Rattle.memory_sides.specs.Sides.{host_side, agent_side}
+use Rattle.memory_runs.specs.Sides.{host_side, agent_side}
 use Rattle.memory_plans.specs.Systems.{memory_system, side_of_host, side_of_agent}
 use Rattle.port_tables.specs.EndFacts.{known_is}
 use Rattle.interconnect.specs.Memory.{host_in, agent_in}
@@ -29,9 +29,9 @@ use Rattle.scenario_tables.specs.declared.statements.SourceStatement.{SourceStat
 use Rattle.scenario_tables.specs.declared.scenario.Scenario.{Scenario}
 use Rattle.scenario_tables.specs.Statements.{IsHostScript, IsSourceScript}
 use Rattle.scenario_tables.specs.Scenarios.{IsScenario, IsHostAt, IsAgentAt}
-use Rattle.host_stand_ins.specs.StandIns.{IsHostStandIn}
-use Rattle.agent_stand_ins.specs.StandIns.{IsAgentStandIn}
-use Rattle.stream_stand_ins.specs.Sources.{IsSourceStandIn}
+use Rattle.stand_ins.specs.HostsStandIns.{IsHostStandIn}
+use Rattle.stand_ins.specs.StandIns.{IsAgentStandIn}
+use Rattle.stand_ins.specs.Sources.{IsSourceStandIn}
 use Rattle.simulated_runs.specs.Ends.{stream_view}
 use Rattle.simulated_runs.specs.Simulated.{IsSimulated}
 

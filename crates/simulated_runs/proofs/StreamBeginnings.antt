@@ -5,10 +5,10 @@ use Rattle.iface_roles.specs.declared.records.StreamPort.{StreamPort}
 use Rattle.stream_runs.specs.View.{EndView, Beat, Pace, AgreeBefore, beat_at, is_high, is_ready_cycle}
 use Rattle.scenario_tables.specs.declared.statements.SourceStatement.{SourceStatement}
 use Rattle.scenario_tables.specs.declared.statements.Pattern.{Pattern}
-use Rattle.stream_stand_ins.specs.Step.{Step}
-use Rattle.stream_stand_ins.specs.Steps.{Standing, steps_of, next_beat, may_send, goes_on, came_due, standing, left_before}
-use Rattle.stream_stand_ins.specs.Sources.{port_pace, no_beat, beat_shown, Shows, IsSourceStandIn, lately_ready, Keeping, keeping_at}
-use Rattle.stream_stand_ins.specs.Sinks.{IsSinkStandIn}
+use Rattle.stand_ins.specs.Step.{Step}
+use Rattle.stand_ins.specs.StreamsSteps.{Standing, steps_of, next_beat, may_send, goes_on, came_due, standing, left_before}
+use Rattle.stand_ins.specs.Sources.{port_pace, no_beat, beat_shown, Shows, IsSourceStandIn, lately_ready, Keeping, keeping_at}
+use Rattle.stand_ins.specs.Sinks.{IsSinkStandIn}
 
 -- ready has agreed up to a cycle, so the cycle is a ready one in both
 same_ready : (pace : Pace) (one two : EndView) (c : ℕ) → ((k : ℕ) → k ≤ c → one.ready k ≡ two.ready k) → is_ready_cycle pace one c ≡ is_ready_cycle pace two c

@@ -14,7 +14,7 @@ use Rattle.stream_runs.specs.Ends.{side_of}
 use Rattle.st_timing.specs.Ends.{declared}
 use Rattle.memory_runs.specs.Views.{AgentView, levels_at}
 use Rattle.memory_runs.specs.Whole.{IsLegalRun}
-use Rattle.memory_sides.specs.Sides.{agent_side}
+use Rattle.memory_runs.specs.Sides.{agent_side}
 use Rattle.memory_plans.specs.Systems.{memory_system}
 use Rattle.interconnect.specs.Memory.{host_in, agent_in, module_run}
 use Rattle.scenario_tables.specs.declared.statements.HostStatement.{HostStatement}
@@ -23,12 +23,12 @@ use Rattle.scenario_tables.specs.declared.statements.SourceStatement.{SourceStat
 use Rattle.scenario_tables.specs.declared.statements.Pattern.{Pattern}
 use Rattle.scenario_tables.specs.declared.scenario.Scenario.{Scenario}
 use Rattle.scenario_tables.specs.Scenarios.{IsHostAt, IsAgentAt}
-use Rattle.host_stand_ins.specs.Steps.{all_steps, shown}
-use Rattle.host_stand_ins.specs.StandIns.{left_before, IsHostStandIn}
-use Rattle.agent_stand_ins.specs.Answers.{is_due, word_due, waiting_before, word_behind}
-use Rattle.agent_stand_ins.specs.StandIns.{stall_pattern, stalls_in, code_in, IsAgentStandIn}
-use Rattle.stream_stand_ins.specs.Sources.{beat_shown, Shows, IsSourceStandIn}
-use Rattle.stream_stand_ins.specs.Sinks.{ready_in, IsSinkStandIn}
+use Rattle.stand_ins.specs.Steps.{all_steps, shown}
+use Rattle.stand_ins.specs.HostsStandIns.{left_before, IsHostStandIn}
+use Rattle.stand_ins.specs.Answers.{is_due, word_due, waiting_before, word_behind}
+use Rattle.stand_ins.specs.StandIns.{stall_pattern, stalls_in, code_in, IsAgentStandIn}
+use Rattle.stand_ins.specs.Sources.{beat_shown, Shows, IsSourceStandIn}
+use Rattle.stand_ins.specs.Sinks.{ready_in, IsSinkStandIn}
 use Rattle.simulated_runs.specs.Ends.{stream_view}
 
 -- A run of a module from cleared memories in which each interface of the plan does what its script says, in the cycles before

@@ -12,12 +12,12 @@ ghost use Rattle.scenario_tables.specs.declared.statements.HostStatement.{HostSt
 ghost use Rattle.scenario_tables.specs.declared.statements.AgentStatement.{AgentStatement};
 ghost use Rattle.scenario_tables.specs.declared.statements.SourceStatement.{SourceStatement};
 ghost use Rattle.scenario_tables.specs.declared.statements.Pattern.{Pattern};
-ghost use Rattle.host_stand_ins.specs.Steps.{Step};
-ghost use Rattle.host_stand_ins.specs.StandIns.{IsHostStandIn, left_before};
-ghost use Rattle.agent_stand_ins.specs.StandIns.{IsAgentStandIn};
-ghost use Rattle.agent_stand_ins.specs.Whole.{AgentStandInValue, StandsFor};
-ghost use Rattle.stream_stand_ins.specs.Sources.{IsSourceStandIn, keeping_at};
-ghost use Rattle.stream_stand_ins.specs.Sinks.{IsSinkStandIn};
+ghost use Rattle.stand_ins.specs.Steps.{Step};
+ghost use Rattle.stand_ins.specs.HostsStandIns.{IsHostStandIn, left_before};
+ghost use Rattle.stand_ins.specs.StandIns.{IsAgentStandIn};
+ghost use Rattle.stand_ins.specs.Whole.{AgentStandInValue, StandsFor};
+ghost use Rattle.stand_ins.specs.Sources.{IsSourceStandIn, keeping_at};
+ghost use Rattle.stand_ins.specs.Sinks.{IsSinkStandIn};
 
 /// A view that shows the same before a cycle is that of the same stand-in up to it.
 pub fn stand_ins_by_beginnings()

@@ -17,10 +17,10 @@ ghost use Rattle.simulated_runs.specs.Ends.{stream_view};
 ghost use Rattle.simulated_runs.specs.Simulated.{IsSimulated, AreLegal, AreShown};
 
 use crate::stand_ins_by_beginnings;
-use agent_stand_ins::stand_in_agents_are_legal;
-use host_stand_ins::stand_in_hosts_are_legal;
 use link_rules::ends_are_known;
-use stream_stand_ins::stand_in_sources_are_legal;
+use stand_ins::hosts::stand_in_hosts_are_legal;
+use stand_ins::stand_in_agents_are_legal;
+use stand_ins::streams::stand_in_sources_are_legal;
 
 /// Whatever a module does, hosts, agents and sources that follow a scenario of the plan keep to what they declare.
 pub fn simulated_runs_are_legal()

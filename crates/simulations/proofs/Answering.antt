@@ -5,13 +5,13 @@ use Rattle.iface_roles.specs.declared.records.AgentPort.{AgentPort}
 use Rattle.memory_runs.specs.Views.{Levels, AgentSide, AgentView, levels_at}
 use Rattle.memory_runs.specs.Operations.{memory_after, own_operations}
 use Rattle.memory_runs.specs.Commands.{Burst, Transfer, stood_before, agent_accepts, burst_before, burst_after, transfer_of, transfer_at, accepted}
-use Rattle.memory_sides.specs.Sides.{agent_side}
+use Rattle.memory_runs.specs.Sides.{agent_side}
 use Rattle.scenario_tables.specs.declared.statements.AgentStatement.{AgentStatement}
-use Rattle.agent_stand_ins.specs.Contents.{filled, contents_before}
-use Rattle.agent_stand_ins.specs.declared.waiting.Waiting.{Waiting}
-use Rattle.agent_stand_ins.specs.Codes.{code_at}
-use Rattle.agent_stand_ins.specs.Answers.{takes_read, latency_of, waiting_before, waiting_after, is_due, word_due, code_due, word_asked, word_asked_in, word_behind, code_asked, code_asked_in, code_behind}
-use Rattle.agent_stand_ins.specs.StandIns.{gives_in, word_in, code_in}
+use Rattle.stand_ins.specs.Contents.{filled, contents_before}
+use Rattle.stand_ins.specs.declared.waiting.Waiting.{Waiting}
+use Rattle.stand_ins.specs.Codes.{code_at}
+use Rattle.stand_ins.specs.Answers.{takes_read, latency_of, waiting_before, waiting_after, is_due, word_due, code_due, word_asked, word_asked_in, word_behind, code_asked, code_asked_in, code_behind}
+use Rattle.stand_ins.specs.StandIns.{gives_in, word_in, code_in}
 
 -- two agents are commanded alike, and stall alike, in the cycles before `end`
 pub record CommandedAlike (one two : AgentView) (end : ℕ) : Type 0 where

@@ -14,7 +14,7 @@ use Rattle.interconnect.specs.Memory.{agent_in}
 use Rattle.iface_roles.specs.declared.records.AgentPort.{AgentPort}
 use Rattle.scenario_tables.specs.declared.statements.AgentStatement.{AgentStatement}
 use Rattle.scenario_tables.specs.declared.scenario.Scenario.{Scenario}
-use Rattle.agent_stand_ins.specs.Whole.{AgentStandInValue, IsFirst, StandsFor as AgentStandsFor}
+use Rattle.stand_ins.specs.Whole.{AgentStandInValue, IsFirst, StandsFor as AgentStandsFor}
 use Rattle.simulated_runs.specs.Ends.{stream_view}
 use Rattle.simulated_runs.specs.Simulated.{IsSimulated}
 use Rattle.benches.specs.Hosts.{AreFirstHosts}

@@ -12,7 +12,7 @@ use Rattle.link_rules.specs.Plans.{PlanTable}
 use Rattle.netlist.specs.Netlists.{Netlist}
 use Rattle.netlist.specs.Runs.{Run}
 use Rattle.memory_runs.specs.Views.{HostSide, AgentSide}
-use Rattle.memory_sides.specs.Sides.{host_side, agent_side}
+use Rattle.memory_runs.specs.Sides.{host_side, agent_side}
 use Rattle.memory_plans.specs.Systems.{memory_system, side_of_host, side_of_agent}
 use Rattle.memory_plans.specs.Shown.{silent_host, silent_agent}
 use Rattle.port_tables.specs.Ports.{name_at}

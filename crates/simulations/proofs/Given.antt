@@ -16,7 +16,7 @@ use Rattle.port_tables.specs.declared.roles.PortRole.{PortRole}
 use Rattle.port_tables.specs.declared.roles.PortRole.TheVariants as role
 use Rattle.port_tables.specs.Ports.{bits_if, port_of}
 use Rattle.port_rows.specs.Levels.{Level, level_if}
-use Rattle.stream_stand_ins.specs.Sources.{no_beat}
+use Rattle.stand_ins.specs.Sources.{no_beat}
 use Rattle.port_rows.specs.Inputs.{place_at}
 use Rattle.port_rows.specs.Hosts.{host_places, host_levels}
 use Rattle.port_rows.specs.declared.agent_ends.places.AgentLevels.{AgentLevels}

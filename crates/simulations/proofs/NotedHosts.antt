@@ -15,7 +15,7 @@ use Rattle.scenario_tables.specs.declared.scenario.Scenario.{Scenario}
 use Rattle.memory_runs.specs.Views.{Levels, HostSide, HostView}
 use Rattle.memory_runs.specs.Beginnings.{HostsAgree}
 use Rattle.memory_runs.specs.Legal.{Word, gives_word, given}
-use Rattle.memory_sides.specs.Sides.{host_side}
+use Rattle.memory_runs.specs.Sides.{host_side}
 use Rattle.benches.specs.Outputs.{level_now}
 use Rattle.benches.specs.Hosts.{BenchHostValue, IsHostOf, IsSeen, is_given, is_write_taken, word_given}
 use Rattle.simulations.specs.Benches.{BenchValue, IsSetUp, IsUnderWay}

@@ -30,10 +30,10 @@ use Rattle.interconnect.specs.Memory.{host_in, agent_in, module_run}
 use Rattle.scenario_tables.specs.declared.statements.SourceStatement.{SourceStatement}
 use Rattle.scenario_tables.specs.declared.scenario.Scenario.{Scenario}
 use Rattle.scenario_tables.specs.Scenarios.{IsHostAt, IsAgentAt}
-use Rattle.host_stand_ins.specs.Steps.{Step, all_steps, shown}
-use Rattle.host_stand_ins.specs.StandIns.{left_before}
-use Rattle.stream_stand_ins.specs.Steps.{next_beat, may_send}
-use Rattle.stream_stand_ins.specs.Sources.{Keeping, keeping_at, port_pace, beat_shown, no_beat}
+use Rattle.stand_ins.specs.Steps.{Step, all_steps, shown}
+use Rattle.stand_ins.specs.HostsStandIns.{left_before}
+use Rattle.stand_ins.specs.StreamsSteps.{next_beat, may_send}
+use Rattle.stand_ins.specs.Sources.{Keeping, keeping_at, port_pace, beat_shown, no_beat}
 use Rattle.simulated_runs.specs.Ends.{stream_view}
 use Rattle.simulated_runs.specs.Simulated.{IsSimulated}
 use Rattle.simulations.specs.Agreeing.{InterfacesAgree}

@@ -11,10 +11,10 @@ use Rattle.scenario_tables.specs.declared.statements.HostStatement.{HostStatemen
 use Rattle.scenario_tables.specs.declared.statements.AgentStatement.{AgentStatement}
 use Rattle.scenario_tables.specs.declared.statements.SourceStatement.{SourceStatement}
 use Rattle.scenario_tables.specs.declared.statements.Pattern.{Pattern}
-use Rattle.host_stand_ins.specs.Steps.{all_steps, shown}
-use Rattle.host_stand_ins.specs.StandIns.{left_before}
-use Rattle.stream_stand_ins.specs.Sources.{Shows, beat_shown}
-use Rattle.stream_stand_ins.specs.Sinks.{ready_in}
+use Rattle.stand_ins.specs.Steps.{all_steps, shown}
+use Rattle.stand_ins.specs.HostsStandIns.{left_before}
+use Rattle.stand_ins.specs.Sources.{Shows, beat_shown}
+use Rattle.stand_ins.specs.Sinks.{ready_in}
 use Rattle.port_rows.specs.Agents.{AreShownBy}
 use Rattle.simulated_runs.specs.Simulated.{AgentShows}
 use Rattle.benches.specs.Outputs.{level_now}

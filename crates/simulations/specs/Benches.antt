@@ -20,10 +20,10 @@ use Rattle.scenario_tables.specs.declared.statements.SourceStatement.{SourceStat
 use Rattle.scenario_tables.specs.declared.statements.Pattern.{Pattern}
 use Rattle.scenario_tables.specs.declared.scenario.Scenario.{Scenario}
 use Rattle.scenario_tables.specs.Scenarios.{IsScenario}
-use Rattle.host_stand_ins.specs.Steps.{all_steps}
-use Rattle.host_stand_ins.specs.StandIns.{left_before}
-use Rattle.agent_stand_ins.specs.Whole.{StandsFor as AgentStandsFor}
-use Rattle.stream_stand_ins.specs.Sources.{keeping_at}
+use Rattle.stand_ins.specs.Steps.{all_steps}
+use Rattle.stand_ins.specs.HostsStandIns.{left_before}
+use Rattle.stand_ins.specs.Whole.{StandsFor as AgentStandsFor}
+use Rattle.stand_ins.specs.Sources.{keeping_at}
 use Rattle.port_rows.specs.Agents.{AllHoldBytes, agent_levels}
 use Rattle.simulated_runs.specs.Ends.{stream_view}
 use Rattle.simulated_runs.specs.Simulated.{IsSimulated}

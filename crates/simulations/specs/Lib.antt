@@ -7,3 +7,6 @@ pub mod Value
 pub mod Runs
 pub mod Agreeing
 pub mod Noted
+pub mod Lanes
+pub mod Phases
+pub mod Counted

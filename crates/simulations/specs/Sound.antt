@@ -17,7 +17,7 @@ use Rattle.scenario_tables.specs.declared.statements.SourceStatement.{SourceStat
 use Rattle.scenario_tables.specs.declared.statements.Pattern.{Pattern}
 use Rattle.scenario_tables.specs.declared.scenario.Scenario.{Scenario}
 use Rattle.scenario_tables.specs.Statements.{IsHostScript, IsAgentScript, IsSourceScript, IsSinkScript}
-use Rattle.stream_stand_ins.specs.Sources.{no_beat}
+use Rattle.stand_ins.specs.Sources.{no_beat}
 use Rattle.port_rows.specs.Hosts.{FitsPorts as FitsHostPorts}
 use Rattle.port_rows.specs.Agents.{FitsPorts as FitsAgentPorts, AreShownBy}
 use Rattle.port_rows.specs.Sources.{FitsSource}

@@ -11,7 +11,7 @@ use Rattle.net_parts.specs.Laws.{width_fits}
 use Rattle.stream_runs.specs.View.{is_transfer}
 use Rattle.routed_runs.specs.Routes.{direct}
 use Rattle.routed_runs.specs.Gathered.{Gatherer, GathererRun}
-use Rattle.routed_machines.specs.Gathering.{side_by_side, completes, plain_beat, words_after, Started, IsGathererRun}
+use Rattle.routed_runs.specs.Gathering.{side_by_side, completes, plain_beat, words_after, Started, IsGathererRun}
 use Rattle.net_parts.specs.Nets.{StartsLow, TakesNext}
 use Rattle.st_gather.specs.declared.words.WordNets.{WordNets}
 use Rattle.st_gather.specs.declared.gather.GathererNets.{GathererNets}

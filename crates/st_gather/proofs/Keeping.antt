@@ -4,7 +4,7 @@ use Rattle.std.proofs.Common.{sym, ap, ◌∙◌, arith}
 use Rattle.std.proofs.lemmas.Nat.{mod-pow-add, div-mul-add, mod-mul-add}
 use Rattle.std.proofs.Math.Nat.{mod-eq_of_lt}
 use Rattle.std.proofs.Math.Pow.{mod-mod-pow}
-use Rattle.routed_machines.specs.Gathering.{side_by_side}
+use Rattle.routed_runs.specs.Gathering.{side_by_side}
 
 -- the lowest bits of a memory's word are the words that a channel has
 abbrev pub HasWords : ℕ → ℕ → List ℕ → Type 0

@@ -13,7 +13,7 @@ use crate::counts::{count_bits, count_of, hold_counts, later_counts, next_count}
 use crate::words::{WordNets, join_words};
 use net_parts::{constant, has_room};
 use netlist::{Builder, Net, NetFault};
-use routed_machines::gatherer_gathers;
+use routed_runs::machines::gatherer_gathers;
 
 /// How large a gatherer is.
 #[derive(Clone, Copy)]

@@ -4,7 +4,7 @@ use Rattle.std.proofs.Common.{sym, ap, ◌∙◌, inl, inr, arith, subst}
 use Rattle.std.proofs.lemmas.Bool.{cases_Bool, cond-true, cond-false, and_parts, ltb-true, lt-ltb}
 use Rattle.netlist.specs.Nets.{NetValue}
 use Rattle.netlist.specs.Runs.{Cycle}
-use Rattle.routed_machines.specs.Multiplexing.{turns_to}
+use Rattle.routed_runs.specs.Multiplexing.{turns_to}
 use Rattle.st_mux.specs.Each.{AreSetWhere}
 use Rattle.st_mux.specs.Choosing.{is_set, some_set, first_set, asks_behind, first_is_one, first_comes_first, some_where, none_where, set_at}
 

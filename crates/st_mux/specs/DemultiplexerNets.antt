@@ -8,7 +8,7 @@ use Rattle.netlist.specs.Runs.{Run, cycle_of, Always, IsEndlessRun, IsValuation}
 use Rattle.netlist.specs.Longer.{Extends}
 use Rattle.stream_runs.specs.Source.{IsLegalSource}
 use Rattle.routed_runs.specs.Demultiplexed.{Demultiplexer, DemultiplexerRun, input_side, IsDemultiplexed}
-use Rattle.routed_machines.specs.Demultiplexing.{IsDemultiplexerRun}
+use Rattle.routed_runs.specs.Demultiplexing.{IsDemultiplexerRun}
 use Rattle.st_mux.specs.declared.packet.PacketNets.{PacketNets}
 use Rattle.st_mux.specs.Packets.{packet_view}
 use Rattle.st_mux.specs.Selecting.{Selects}

@@ -10,7 +10,7 @@ use Rattle.netlist.specs.Longer.{Extends}
 use Rattle.net_parts.specs.Nets.{IsBit, IsNetOfWidth, StartsLow, TakesNext}
 use Rattle.net_parts.specs.Laws.{net_lasts}
 use Rattle.routed_runs.specs.Multiplexed.{Multiplexer, MultiplexerRun, AreLegalInputs, IsMultiplexed}
-use Rattle.routed_machines.specs.Multiplexing.{turns_to, Turns, IsMultiplexerRun, asks}
+use Rattle.routed_runs.specs.Multiplexing.{turns_to, Turns, IsMultiplexerRun, asks}
 use Rattle.st_mux.specs.declared.packet.PacketNets.{PacketNets}
 use Rattle.st_mux.specs.declared.mux.MultiplexerNets.{MultiplexerNets}
 use Rattle.st_mux.specs.declared.mux.Turns.{Turns as TurnNets}

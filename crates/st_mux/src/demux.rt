@@ -14,7 +14,7 @@ use crate::packet::PacketNets;
 use crate::select::select_bit;
 use net_parts::constant;
 use netlist::{Builder, Net, NetFault};
-use routed_machines::demultiplexer_demultiplexes;
+use routed_runs::machines::demultiplexer_demultiplexes;
 use std::alloc::Global;
 
 /// The nets that a demultiplexer gives, beside those of the beat, which all outputs show.

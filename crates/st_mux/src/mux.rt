@@ -16,7 +16,7 @@ use crate::split::lead_bit;
 use crate::turns::{choose_input, stays_locked, valids_of};
 use av_base::Val;
 use netlist::{Builder, Net, NetFault};
-use routed_machines::multiplexer_multiplexes;
+use routed_runs::machines::multiplexer_multiplexes;
 use std::alloc::Global;
 
 /// The nets that a multiplexer gives.

@@ -5,8 +5,8 @@ use Rattle.std.proofs.lemmas.List.{take-append-le}
 use Rattle.std.proofs.lemmas.Option.{slice_get_within, same_Some, none-some}
 use Rattle.av_base.specs.declared.faults.Place.{Place}
 use Rattle.script_words.specs.declared.faults.ScriptRule.{ScriptRule}
-use Rattle.component_types.specs.Catalog.{is_refused}
-use Rattle.component_types.specs.Tables.{ComponentTable}
+use Rattle.component_scripts.specs.Catalog.{is_refused}
+use Rattle.component_scripts.specs.Tables.{ComponentTable}
 use Rattle.tcl_words.specs.Script.{Script}
 use Rattle.system_plan.specs.Scripts.{States, IsRefused}
 use Rattle.system_plan.specs.Systems.{SaysComponent, RefusesComponent, AreComponents, IsComponentRefused}

@@ -9,9 +9,9 @@ use Rattle.tcl_words.specs.Spelling.{Spells}
 use Rattle.script_words.specs.declared.faults.ScriptRule.{ScriptRule}
 use Rattle.script_words.specs.declared.faults.ScriptRule.TheVariants.{Words, Command}
 use Rattle.script_words.specs.declared.judge.Refusal.{Refusal as ScriptRefusal}
-use Rattle.component_types.specs.Catalog.{is_refused}
+use Rattle.component_scripts.specs.Catalog.{is_refused}
 use Rattle.component_scripts.specs.Component.{component_of}
-use Rattle.component_types.specs.Tables.{ComponentTable}
+use Rattle.component_scripts.specs.Tables.{ComponentTable}
 use Rattle.system_scripts.specs.Clocks.{system_of}
 use Rattle.system_tables.specs.declared.tables.Connection.{Connection}
 use Rattle.system_tables.specs.Tables.{SystemTable}

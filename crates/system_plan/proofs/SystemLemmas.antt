@@ -4,7 +4,7 @@ use Rattle.std.proofs.lemmas.Option.{same_Some}
 use Rattle.av_base.specs.declared.faults.Place.{Place}
 use Rattle.script_words.specs.declared.faults.ScriptRule.{ScriptRule}
 use Rattle.system_tables.specs.Tables.{SystemTable}
-use Rattle.component_types.specs.Tables.{ComponentTable}
+use Rattle.component_scripts.specs.Tables.{ComponentTable}
 use Rattle.tcl_words.specs.Script.{Script}
 use Rattle.system_plan.specs.Scripts.{States, IsRefused}
 use Rattle.system_plan.specs.Systems.{SaysSystem, RefusesSystem, IsSystemOf, IsSystemRefused, IsScriptRefused}

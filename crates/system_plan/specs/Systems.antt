@@ -6,12 +6,12 @@ use Rattle.tcl_words.specs.Script.{Script}
 use Rattle.script_words.specs.declared.faults.ScriptFault.TheVariants.{Refused}
 use Rattle.script_words.specs.declared.faults.ScriptRule.{ScriptRule}
 use Rattle.script_words.specs.declared.faults.ScriptRule.TheVariants.{Command}
-use Rattle.component_types.specs.Catalog.{is_refused}
+use Rattle.component_scripts.specs.Catalog.{is_refused}
 use Rattle.system_scripts.specs.Clocks.{system_of}
 use Rattle.component_scripts.specs.Component.{component_of}
 use Rattle.script_words.specs.Judgements.{IsFaultOf}
 use Rattle.system_tables.specs.Tables.{SystemTable}
-use Rattle.component_types.specs.Tables.{ComponentTable}
+use Rattle.component_scripts.specs.Tables.{ComponentTable}
 use Rattle.system_plan.specs.Scripts.{States, IsRefused}
 
 -- the script states this component, and no earlier component has its type

@@ -1,5 +1,5 @@
 ghost use Rattle.std.specs.Prelude.{◌≡◌, ◌^◌, ◌<◌, ◌≤◌, ◌+◌, ◌∷◌, [], ◌++◌, ◌⊎◌, All, length, OnOk, IfOk, IfErr, MatchResult};
-ghost use Rattle.component_types.specs.Tables.{ComponentTable};
+ghost use Rattle.component_scripts.specs.Tables.{ComponentTable};
 ghost use Rattle.link_rules.specs.Plans.{IsPlan};
 ghost use Rattle.system_plan.specs.declared.faults.Refusal.{Refusal as Answer};
 ghost use Rattle.system_plan.specs.Scripts.{States, IsRefused};
@@ -10,7 +10,7 @@ use crate::faults::Refusal;
 use address_map::Maps;
 use av_base::Bytes;
 use component_scripts::read_component;
-use component_types::Catalog;
+use component_scripts::types::Catalog;
 use link_rules::Plan;
 use std::alloc::Global;
 use system_scripts::read_system;

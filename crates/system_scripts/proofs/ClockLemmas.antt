@@ -4,13 +4,13 @@ use Rattle.std.specs.Option.{option_or}
 use Rattle.std.proofs.lemmas.List.{at_drop_more, map-append, append-nil}
 use Rattle.std.proofs.lemmas.List.Elements.{filter_more}
 use Rattle.iface_roles.specs.Kinds.{is_avalon}
-use Rattle.system_words.specs.declared.joints.Joint.{Joint}
-use Rattle.system_words.specs.declared.joints.Terminal.{Terminal}
+use Rattle.script_words.specs.declared.system.joints.Joint.{Joint}
+use Rattle.script_words.specs.declared.system.joints.Terminal.{Terminal}
 use Rattle.system_scripts.specs.Clocks.{root_of, system_clock, logic_joints}
 use Rattle.system_tables.specs.declared.tables.Connection.{Connection}
 use Rattle.script_words.specs.Judgements.{first_some}
 use Rattle.system_scripts.specs.System.{DraftedSystem}
-use Rattle.component_types.specs.Tables.{ComponentTable}
+use Rattle.component_scripts.specs.Tables.{ComponentTable}
 
 abbrev pub joint_root : List ComponentTable → DraftedSystem → Joint → Option Terminal
 joint_root components draft joint = option_or (root_of components draft joint.start) (root_of components draft joint.end)

@@ -11,12 +11,12 @@ use Rattle.system_tables.specs.declared.tables.Connection.{Connection}
 use Rattle.system_scripts.specs.Clocks.{interfaces_at, instance_table, connection_of, system_clock, logic_joints, stated_system, ended_system, system_over}
 use Rattle.script_words.specs.Judgements.{judged, IsFaultOf}
 use Rattle.system_tables.specs.Kept.{instance_of, kept_table}
-use Rattle.component_types.specs.Library.{interfaces_of}
+use Rattle.component_scripts.specs.Library.{interfaces_of}
 use Rattle.system_scripts.specs.Sound.{IsSoundSystemDraft}
 use Rattle.system_scripts.specs.System.{DraftedSystem, empty_system_draft, first_system_refusal, system_after_all}
 use Rattle.system_tables.specs.declared.tables.InterfaceTable.{InterfaceTable}
 use Rattle.system_tables.specs.Tables.{InstanceTable, SystemTable, IsSystem}
-use Rattle.component_types.specs.Tables.{ComponentTable, IsComponent}
+use Rattle.component_scripts.specs.Tables.{ComponentTable, IsComponent}
 use Rattle.script_words.specs.Words.{IsRefusal}
 use Rattle.system_scripts.proofs.StatedLemmas.{stated_is_system, sound_draft}
 

@@ -18,19 +18,19 @@ use Rattle.iface_roles.specs.declared.kinds.Kind.TheVariants.{Stream}
 use Rattle.iface_roles.specs.declared.kinds.Side.{Side}
 use Rattle.iface_roles.specs.declared.kinds.Side.TheVariants.{Start, End}
 use Rattle.iface_roles.specs.Kinds.{is_avalon}
-use Rattle.system_words.specs.declared.joints.Joint.{Joint}
-use Rattle.system_words.specs.declared.joints.Parameter.{Parameter}
-use Rattle.system_words.specs.declared.joints.Parameter.TheVariants.{BaseAddress, ArbitrationPriority, FifoDepth, DefaultConnection}
-use Rattle.system_words.specs.declared.joints.Terminal.{Terminal}
+use Rattle.script_words.specs.declared.system.joints.Joint.{Joint}
+use Rattle.script_words.specs.declared.system.joints.Parameter.{Parameter}
+use Rattle.script_words.specs.declared.system.joints.Parameter.TheVariants.{BaseAddress, ArbitrationPriority, FifoDepth, DefaultConnection}
+use Rattle.script_words.specs.declared.system.joints.Terminal.{Terminal}
 use Rattle.system_tables.specs.declared.system.Instance.{Instance}
 use Rattle.script_words.specs.Kinds.{same_kind}
 use Rattle.script_words.specs.Numbers.{number_of, number_in, is_numeral}
 use Rattle.system_scripts.specs.Sound.{IsSoundJoint, AreApart, IsSoundSystemDraft}
 use Rattle.system_scripts.specs.System.{DraftedSystem, joins, is_taken, is_start, is_mismatched, component_at, instance_place, end_of, sort_at, sort_of, first_end, second_end, connection_checks, connection_effect, joint_of, joined_at, joint_place, parameter_checks, parameter_effect, with_parameter, with_number, set_at}
-use Rattle.system_words.specs.Joints.{same_end}
-use Rattle.system_words.specs.Commands.{has_sides, of_both, first_named, second_named, parameter_named, is_number, may_be, exceeds}
+use Rattle.script_words.specs.Joints.{same_end}
+use Rattle.script_words.specs.Commands.{has_sides, of_both, first_named, second_named, parameter_named, is_number, may_be, exceeds}
 use Rattle.system_tables.specs.declared.tables.InterfaceTable.{InterfaceTable}
-use Rattle.component_types.specs.Tables.{ComponentTable, interface_place}
+use Rattle.component_scripts.specs.Tables.{ComponentTable, interface_place}
 use Rattle.script_words.specs.Words.{text_at, check, refusal_of}
 use Rattle.script_words.specs.Laws.{none_fails, position_within}
 use Rattle.script_words.specs.Laws.{none_passes}

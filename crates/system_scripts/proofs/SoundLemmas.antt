@@ -12,17 +12,17 @@ use Rattle.std.proofs.lemmas.Slice.Eq.{bytes_eq-Decides}
 use Rattle.tcl_words.specs.declared.words.Word.{Word}
 use Rattle.iface_roles.specs.declared.kinds.Kind.{Kind}
 use Rattle.iface_roles.specs.declared.kinds.Side.{Side}
-use Rattle.system_words.specs.declared.joints.Joint.{Joint}
-use Rattle.system_words.specs.declared.joints.Terminal.{Terminal}
+use Rattle.script_words.specs.declared.system.joints.Joint.{Joint}
+use Rattle.script_words.specs.declared.system.joints.Terminal.{Terminal}
 use Rattle.system_tables.specs.declared.system.Instance.{Instance}
-use Rattle.component_types.specs.Catalog.{type_place}
+use Rattle.component_scripts.specs.Catalog.{type_place}
 use Rattle.system_tables.specs.Names.{is_name}
 use Rattle.script_words.specs.Names.{place_of}
 use Rattle.script_words.specs.Numbers.{number_of}
 use Rattle.system_scripts.specs.Sound.{IsSoundJoint, IsSoundSystemDraft}
 use Rattle.system_scripts.specs.System.{DraftedSystem, empty_system_draft, create_checks, create_effect, component_at, instance_checks, instance_effect, requirement_checks, requirement_effect, exported_effect, sort_at, sort_of}
-use Rattle.system_words.specs.Commands.{has_word, sets_stages}
-use Rattle.component_types.specs.Tables.{ComponentTable}
+use Rattle.script_words.specs.Commands.{has_word, sets_stages}
+use Rattle.component_scripts.specs.Tables.{ComponentTable}
 use Rattle.script_words.specs.Words.{text_at, check, refusal_of}
 use Rattle.script_words.specs.Laws.{none_fails}
 use Rattle.script_words.specs.Laws.{none_passes}

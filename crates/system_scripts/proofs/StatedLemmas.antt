@@ -17,10 +17,10 @@ use Rattle.iface_roles.specs.declared.records.Finished.{Finished}
 use Rattle.iface_roles.specs.declared.records.Finished.TheVariants.{Host, Agent, Source, Sink, Other}
 use Rattle.iface_roles.specs.Kinds.{is_avalon}
 use Rattle.iface_roles.specs.Proper.{IsProper}
-use Rattle.system_words.specs.declared.joints.Joint.{Joint}
-use Rattle.system_words.specs.declared.joints.SystemCommand.{SystemCommand}
-use Rattle.system_words.specs.declared.joints.SystemCommand.TheVariants.{Package, CreateSystem, AddInstance, AddConnection, SetParameter, AddInterface, SetInterfaceProperty, SetRequirement, SaveSystem, PassedOver}
-use Rattle.system_words.specs.declared.joints.Terminal.{Terminal}
+use Rattle.script_words.specs.declared.system.joints.Joint.{Joint}
+use Rattle.script_words.specs.declared.system.joints.SystemCommand.{SystemCommand}
+use Rattle.script_words.specs.declared.system.joints.SystemCommand.TheVariants.{Package, CreateSystem, AddInstance, AddConnection, SetParameter, AddInterface, SetInterfaceProperty, SetRequirement, SaveSystem, PassedOver}
+use Rattle.script_words.specs.declared.system.joints.Terminal.{Terminal}
 use Rattle.script_words.specs.declared.judge.Refusal.{Refusal}
 use Rattle.system_tables.specs.declared.system.Instance.{Instance}
 use Rattle.system_tables.specs.declared.tables.Connection.{Connection}
@@ -30,10 +30,10 @@ use Rattle.script_words.specs.Judgements.{counted}
 use Rattle.system_tables.specs.Names.{is_name}
 use Rattle.system_scripts.specs.Sound.{IsSoundJoint, AreApart, IsSoundSystemDraft}
 use Rattle.system_scripts.specs.System.{DraftedSystem, empty_system_draft, component_at, sort_at, sort_of, system_checks, system_effect, system_refusal_at, system_refusal, system_after, first_system_refusal, system_after_all}
-use Rattle.system_words.specs.Commands.{has_sides, system_command}
+use Rattle.script_words.specs.Commands.{has_sides, system_command}
 use Rattle.system_tables.specs.declared.tables.InterfaceTable.{InterfaceTable}
 use Rattle.system_tables.specs.Tables.{InstanceTable, IsEnd, Joins, IsLogic, HasNames, IsSystem}
-use Rattle.component_types.specs.Tables.{ComponentTable, Fits, IsSound, IsComponent}
+use Rattle.component_scripts.specs.Tables.{ComponentTable, Fits, IsSound, IsComponent}
 use Rattle.script_words.specs.Words.{text_at, refusal_of}
 use Rattle.system_scripts.proofs.JointLemmas.{sound_connection, sound_setting, option_map_some}
 use Rattle.system_scripts.proofs.SoundLemmas.{sound_nothing, sound_create, sound_instance, sound_requirement, sound_exported}

@@ -13,11 +13,11 @@ use Rattle.iface_roles.specs.declared.kinds.Kind.TheVariants.{Stream}
 use Rattle.iface_roles.specs.Kinds.{is_avalon}
 use Rattle.script_words.specs.declared.faults.ScriptFault.{ScriptFault}
 use Rattle.script_words.specs.declared.faults.ScriptFault.TheVariants.{Refused, NoMemory}
-use Rattle.system_words.specs.declared.joints.Joint.{Joint}
-use Rattle.system_words.specs.declared.joints.Link.{Link}
-use Rattle.system_words.specs.declared.joints.Parameter.{Parameter}
-use Rattle.system_words.specs.declared.joints.Parameter.TheVariants.{BaseAddress, ArbitrationPriority, FifoDepth, DefaultConnection}
-use Rattle.system_words.specs.declared.joints.Terminal.{Terminal}
+use Rattle.script_words.specs.declared.system.joints.Joint.{Joint}
+use Rattle.script_words.specs.declared.system.joints.Link.{Link}
+use Rattle.script_words.specs.declared.system.joints.Parameter.{Parameter}
+use Rattle.script_words.specs.declared.system.joints.Parameter.TheVariants.{BaseAddress, ArbitrationPriority, FifoDepth, DefaultConnection}
+use Rattle.script_words.specs.declared.system.joints.Terminal.{Terminal}
 use Rattle.script_words.specs.declared.judge.Refusal.{Refusal}
 use Rattle.system_scripts.specs.declared.system_draft.SystemDraft.TheInside.{Inside}
 use Rattle.system_tables.specs.declared.system.Instance.{Instance}
@@ -25,9 +25,9 @@ use Rattle.script_words.specs.Kinds.{same_kind}
 use Rattle.script_words.specs.Names.{place_of}
 use Rattle.script_words.specs.Numbers.{number_of}
 use Rattle.system_scripts.specs.System.{DraftedSystem, IsSystemDraft, requirement_checks, exported_checks, instance_checks, instance_place, connection_checks, first_end, second_end, joins, link_of, end_of, joint_place, kind_of_joint, parameter_checks, parameter_effect, with_parameter, with_number, set_at, system_refusal, system_after, first_system_refusal, system_after_all}
-use Rattle.system_words.specs.Commands.{sets_stages, of_both, pair_named, parameter_named, exceeds}
-use Rattle.system_words.specs.Joints.{same_end}
-use Rattle.component_types.specs.Tables.{ComponentTable}
+use Rattle.script_words.specs.Commands.{sets_stages, of_both, pair_named, parameter_named, exceeds}
+use Rattle.script_words.specs.Joints.{same_end}
+use Rattle.component_scripts.specs.Tables.{ComponentTable}
 use Rattle.script_words.specs.Words.{IsRefusal, text_at, check, refusal_of}
 use Rattle.script_words.specs.Laws.{none_fails, position_within}
 

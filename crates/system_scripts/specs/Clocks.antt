@@ -5,21 +5,21 @@ use Rattle.av_base.specs.declared.faults.Place.{Place}
 use Rattle.tcl_words.specs.Script.{Script}
 use Rattle.iface_roles.specs.Kinds.{is_avalon}
 use Rattle.script_words.specs.declared.faults.ScriptRule.TheVariants.{Command}
-use Rattle.system_words.specs.declared.joints.Joint.{Joint}
-use Rattle.system_words.specs.declared.joints.Terminal.{Terminal}
+use Rattle.script_words.specs.declared.system.joints.Joint.{Joint}
+use Rattle.script_words.specs.declared.system.joints.Terminal.{Terminal}
 use Rattle.script_words.specs.declared.judge.Refusal.{Refusal}
 use Rattle.system_tables.specs.declared.system.Instance.{Instance}
 use Rattle.system_tables.specs.declared.tables.Connection.{Connection}
 use Rattle.system_tables.specs.declared.tables.EndId.{EndId}
 use Rattle.script_words.specs.Judgements.{first_some, judged}
-use Rattle.component_types.specs.Library.{clock_source_table}
+use Rattle.component_scripts.specs.Library.{clock_source_table}
 use Rattle.script_words.specs.Names.{is_empty}
 use Rattle.system_scripts.specs.System.{DraftedSystem, empty_system_draft, component_at, first_system_refusal, system_after_all}
 use Rattle.system_tables.specs.declared.tables.InterfaceTable.{InterfaceTable}
 use Rattle.system_tables.specs.Tables.{InstanceTable, SystemTable}
-use Rattle.component_types.specs.Tables.{ComponentTable, interface_place}
-use Rattle.system_words.specs.Joints.{same_end}
-use Rattle.system_words.specs.Roots.{source_of}
+use Rattle.component_scripts.specs.Tables.{ComponentTable, interface_place}
+use Rattle.script_words.specs.Joints.{same_end}
+use Rattle.script_words.specs.Roots.{source_of}
 
 -- the clock interface that an interface of a component names, by its place there
 abbrev pub clock_place : ComponentTable → InterfaceTable → Option ℕ

@@ -3,12 +3,12 @@ use Rattle.std.specs.Prelude.{◌≡◌, ◌≢◌, ◌^◌, ◌<◌, ◌≤◌,
 use Rattle.iface_roles.specs.declared.kinds.Kind.TheVariants.{Stream}
 use Rattle.iface_roles.specs.declared.kinds.Side.{Side}
 use Rattle.iface_roles.specs.declared.kinds.Side.TheVariants.{Start, End}
-use Rattle.system_words.specs.declared.joints.Joint.{Joint}
+use Rattle.script_words.specs.declared.system.joints.Joint.{Joint}
 use Rattle.system_tables.specs.declared.system.Instance.{Instance}
 use Rattle.system_tables.specs.Names.{is_name}
 use Rattle.system_scripts.specs.System.{DraftedSystem, sort_at}
-use Rattle.system_words.specs.Commands.{has_sides}
-use Rattle.component_types.specs.Tables.{ComponentTable}
+use Rattle.script_words.specs.Commands.{has_sides}
+use Rattle.component_scripts.specs.Tables.{ComponentTable}
 
 -- a connection joins interfaces of its kind, where that has sides a start and an end, and its parameters are in range
 pub record IsSoundJoint (components : List ComponentTable) (instances : List Instance) (joint : Joint) : Type 0 where

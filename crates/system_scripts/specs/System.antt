@@ -8,17 +8,17 @@ use Rattle.iface_roles.specs.declared.kinds.Kind.TheVariants.{Stream}
 use Rattle.iface_roles.specs.declared.kinds.Side.{Side}
 use Rattle.iface_roles.specs.declared.kinds.Side.TheVariants.{Start, End}
 use Rattle.iface_roles.specs.Kinds.{is_avalon}
-use Rattle.system_words.specs.declared.joints.Joint.{Joint}
-use Rattle.system_words.specs.declared.joints.Parameter.{Parameter}
-use Rattle.system_words.specs.declared.joints.Parameter.TheVariants.{BaseAddress, ArbitrationPriority, FifoDepth, DefaultConnection}
-use Rattle.system_words.specs.declared.joints.SystemCommand.{SystemCommand}
-use Rattle.system_words.specs.declared.joints.SystemCommand.TheVariants.{Package, CreateSystem, AddInstance, AddConnection, SetParameter, AddInterface, SetInterfaceProperty, SetRequirement, SaveSystem, PassedOver}
+use Rattle.script_words.specs.declared.system.joints.Joint.{Joint}
+use Rattle.script_words.specs.declared.system.joints.Parameter.{Parameter}
+use Rattle.script_words.specs.declared.system.joints.Parameter.TheVariants.{BaseAddress, ArbitrationPriority, FifoDepth, DefaultConnection}
+use Rattle.script_words.specs.declared.system.joints.SystemCommand.{SystemCommand}
+use Rattle.script_words.specs.declared.system.joints.SystemCommand.TheVariants.{Package, CreateSystem, AddInstance, AddConnection, SetParameter, AddInterface, SetInterfaceProperty, SetRequirement, SaveSystem, PassedOver}
 use Rattle.script_words.specs.declared.judge.Check.{Check}
 use Rattle.script_words.specs.declared.judge.Refusal.{Refusal}
 use Rattle.system_tables.specs.declared.system.Instance.{Instance}
-use Rattle.system_words.specs.declared.joints.Terminal.{Terminal}
-use Rattle.system_words.specs.declared.joints.Link.{Link}
-use Rattle.component_types.specs.Catalog.{type_place}
+use Rattle.script_words.specs.declared.system.joints.Terminal.{Terminal}
+use Rattle.script_words.specs.declared.system.joints.Link.{Link}
+use Rattle.component_scripts.specs.Catalog.{type_place}
 use Rattle.script_words.specs.Judgements.{counted}
 use Rattle.script_words.specs.Words.{is_misdirected}
 use Rattle.script_words.specs.Kinds.{same_kind, kind_named}
@@ -27,10 +27,10 @@ use Rattle.script_words.specs.Names.{place_of, end_named}
 use Rattle.script_words.specs.Numbers.{number_of}
 use Rattle.script_words.specs.Package.{package_checks}
 use Rattle.system_tables.specs.declared.tables.InterfaceTable.{InterfaceTable}
-use Rattle.component_types.specs.Tables.{ComponentTable, interface_place}
+use Rattle.component_scripts.specs.Tables.{ComponentTable, interface_place}
 use Rattle.script_words.specs.Words.{text_at, check, refused_at, refusal_of}
-use Rattle.system_words.specs.Commands.{system_command, system_takes, has_word, has_sides, pair_named, first_named, second_named, second_word, asks_other, of_both, parameter_named, is_misplaced, asks_default, misreads, exceeds, exports, sets_stages}
-use Rattle.system_words.specs.Joints.{same_end}
+use Rattle.script_words.specs.Commands.{system_command, system_takes, has_word, has_sides, pair_named, first_named, second_named, second_word, asks_other, of_both, parameter_named, is_misplaced, asks_default, misreads, exceeds, exports, sets_stages}
+use Rattle.script_words.specs.Joints.{same_end}
 
 -- what the commands so far state: the system's name, once it is created; its pipeline stages; its instances, each with
 -- the place of its component; the exported names; and its connections of all kinds

@@ -3,7 +3,7 @@ ghost use Rattle.script_words.specs.Judgements.{IsFaultOf};
 ghost use Rattle.system_scripts.specs.Clocks.{system_of, system_over};
 
 use crate::system_draft::SystemDraft;
-use component_types::{Catalog, Library};
+use component_scripts::types::{Catalog, Library};
 use script_words::ScriptFault;
 use std::alloc::Global;
 use system_tables::System;

@@ -3,17 +3,19 @@ mod judge;
 mod state;
 
 use av_base::Text;
-use component_types::{Component, Library};
+use component_scripts::types::{Component, Library};
 use iface_roles::{Kind, Side};
+use script_words::system::commands::{
+    first_named, pair_named, second_named, system_command, system_takes,
+};
+use script_words::system::joints::{Joint, Link, Terminal};
+use script_words::system::links::{Ends, Links};
 use script_words::values::end_named;
 use script_words::words::{refused_at, text};
 use script_words::{Names, ScriptFault};
 use std::alloc::Global;
 use std::marker::Model;
 use system_tables::Instance;
-use system_words::commands::{first_named, pair_named, second_named, system_command, system_takes};
-use system_words::joints::{Joint, Link, Terminal};
-use system_words::links::{Ends, Links};
 use tcl_words::{Commands, Word};
 
 /// What the commands of a system file state so far.
@@ -65,7 +67,7 @@ impl SystemDraft {
     ghost use Rattle.std.specs.Option.{option_copied};
     ghost use Rattle.script_words.specs.Names.{end_named};
     ghost use Rattle.system_scripts.specs.System.{DraftedSystem, empty_system_draft, instance_place, component_at, end_of, first_end, second_end, sort_at, joins, is_taken, joint_place, kind_of_joint, system_refusal, system_after, first_system_refusal, system_after_all};
-    ghost use Rattle.system_words.specs.Commands.{of_both};
+    ghost use Rattle.script_words.specs.Commands.{of_both};
     ghost use Rattle.script_words.specs.Words.{IsRefusal};
 
     #[tactic(auto, unfolding(crate::specs::System::empty_system_draft))]

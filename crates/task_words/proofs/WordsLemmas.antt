@@ -5,7 +5,7 @@ use Rattle.std.proofs.lemmas.Option.{same_Some}
 use Rattle.std.proofs.lemmas.List.Elements.{All-map, All-get_or}
 use Rattle.std.proofs.lemmas.List.{get_or-map, length-map}
 use Rattle.routed_modules.specs.declared.routed.Routed.{Routed}
-use Rattle.routed_words.specs.Asking.{IsModuleWord, AsksForModule}
+use Rattle.task_words.specs.Asking.{IsModuleWord, AsksForModule}
 use Rattle.task_words.specs.declared.Task.{Task}
 use Rattle.task_words.specs.declared.Task.TheVariants.{Generate, Check, Simulate, Replay, Dump, Undump, Campaign, Bridge, Workload, Module}
 use Rattle.task_words.specs.Words.{IsPlainWord, AsksFor, AsksForNothing, AreEnough, StatesNumber, StatesNumbers, BeginsWithModule, Names, NamesNothing, IsBare, HasNumber, IsWordOf, word_of}

@@ -1,2 +1,4 @@
 pub mod Words
 pub mod OneTask
+pub mod Asking
+pub mod OneModule

@@ -1,7 +1,7 @@
 -- What the words of a command line ask for.
 use Rattle.std.specs.Prelude.{◌≡◌, ◌≢◌, ℕ, ◌+◌, ◌-◌, ◌^◌, ◌<◌, ◌≤◌, List, length, slice_get, Some, codes, decimal, All}
 use Rattle.routed_modules.specs.declared.routed.Routed.{Routed}
-use Rattle.routed_words.specs.Asking.{module_word, AreWordsOf, AsksForModule}
+use Rattle.task_words.specs.Asking.{module_word, AreWordsOf, AsksForModule}
 use Rattle.task_words.specs.declared.Task.{Task}
 use Rattle.task_words.specs.declared.Task.TheVariants.{Generate, Check, Simulate, Replay, Dump, Undump, Campaign, Bridge, Workload, Module}
 

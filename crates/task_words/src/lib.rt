@@ -1,13 +1,15 @@
 //! The words of a command line, and the task that they ask for.
 #![tactic(auto)]
 
+pub mod routed;
+
 ghost use Rattle.std.specs.Prelude.{◌≡◌, ◌↔◌, ℕ, ◌≤◌, map, string_bytes, MatchOption, IsTrue, All};
 ghost use Rattle.task_words.specs.declared.Task.{Task as Asked};
 ghost use Rattle.task_words.specs.declared.Task.TheVariants.{Bridge};
 ghost use Rattle.task_words.specs.Words.{IsPlainWord, AsksFor, AsksForNothing, Names, NamesNothing, IsBare, HasNumber, IsWordOf, StatesNumber, AreBridgeCycles, AreEnough, BeginsWithModule, file_words, named_by};
 
+use crate::routed::{are_words_of, is_module_word, number_of, read_routed};
 use routed_modules::Routed;
-use routed_words::{are_words_of, is_module_word, number_of, read_routed};
 
 /// The most cycles of a bridge.
 const MOST_CYCLES: u32 = 65_536;

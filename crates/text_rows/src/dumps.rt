@@ -2,7 +2,7 @@
 
 use std::alloc::Global;
 use std::io;
-use undumps::{UndumpFault, undump};
+use vcd_reader::undumps::{UndumpFault, undump};
 
 /// Tells why a dump isn't read.
 fn tell_fault(rt: &HostRuntime, fault: UndumpFault) -> io::Result<()> {

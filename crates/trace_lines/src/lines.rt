@@ -7,7 +7,7 @@ ghost use Rattle.trace_lines.specs.Lines.{get_line, taken_text, write_line, read
 use crate::events::{BeatMoved, CommandTaken, EndName, WordGiven};
 use crate::spelling::{put_code, put_flags, put_offset, put_short, put_value};
 use av_base::Val;
-use byte_lines::Line;
+use av_base::lines::Line;
 
 /// A line that begins with its cycle, what is told, and the name of the interface.
 fn line_of(cycle: u32, what: &[u8], end: &EndName) -> Line

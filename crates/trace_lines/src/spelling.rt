@@ -5,7 +5,7 @@ ghost use Rattle.verilog_writer.specs.Text.{hex_digit, hex_digits};
 ghost use Rattle.trace_lines.specs.Spelling.{value_text, hex_within, short_hex, code_text, flags_text};
 
 use av_base::Val;
-use byte_lines::Line;
+use av_base::lines::Line;
 
 /// A number below 16 as a hexadecimal digit in lower case.
 fn hex_digit(n: u8) -> u8

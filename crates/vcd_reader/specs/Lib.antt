@@ -5,3 +5,4 @@ pub mod Readings
 pub mod Reads
 pub mod Worked
 pub mod Walks
+pub mod Undumps

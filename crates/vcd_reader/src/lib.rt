@@ -10,6 +10,7 @@ mod reader;
 mod rows;
 mod rule;
 mod spelling;
+pub mod undumps;
 mod values;
 
 pub use dump::{Dump, read_dump};

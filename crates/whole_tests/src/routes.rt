@@ -6,7 +6,7 @@ use crate::steps::file_of;
 use av_base::Bytes;
 use link_rules::Plan;
 use memory_plans::host_routes;
-use memory_sides::Route;
+use memory_runs::sides::Route;
 use std::alloc::Global;
 use std::test::Fail;
 use system_plan::plan_of;

@@ -7,7 +7,7 @@ use Rattle.std.proofs.lemmas.Bool.Decides.{Decides-ltb}
 use Rattle.std.proofs.lemmas.Option.{same_Some, none-some}
 use Rattle.script_words.specs.declared.judge.Refusal.{Refusal}
 use Rattle.system_tables.specs.Tables.{SystemTable}
-use Rattle.component_types.specs.Tables.{ComponentTable}
+use Rattle.component_scripts.specs.Tables.{ComponentTable}
 use Rattle.system_scripts.specs.Clocks.{system_of}
 use Rattle.address_map.specs.declared.footprint.Footprint.{Footprint}
 use Rattle.address_map.specs.Footprints.{footprints}

@@ -9,7 +9,7 @@ use Rattle.iface_roles.specs.declared.kinds.Side.TheVariants.{Start, End}
 use Rattle.iface_roles.specs.declared.records.Finished.{Finished}
 use Rattle.iface_roles.specs.declared.records.Finished.TheVariants.{Host, Agent, Source, Sink}
 use Rattle.system_tables.specs.Tables.{SystemTable}
-use Rattle.component_types.specs.Tables.{ComponentTable}
+use Rattle.component_scripts.specs.Tables.{ComponentTable}
 use Rattle.address_map.specs.Footprints.{footprints}
 use Rattle.address_map.specs.MapRules as maps
 use Rattle.link_rules.specs.Links.{tests_of, limit_tests}

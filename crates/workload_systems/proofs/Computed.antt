@@ -7,15 +7,15 @@ use Rattle.script_words.specs.Names.{parts_round, end_named}
 use Rattle.script_words.specs.Numbers.{number_in, number_of}
 use Rattle.script_words.specs.Package.{qsys_place, package_checks}
 use Rattle.script_words.specs.Words.{text_at, place_at, refusal_of, is_misdirected}
-use Rattle.component_types.specs.Catalog.{is_refused}
-use Rattle.component_types.specs.Tables.{interface_place}
+use Rattle.component_scripts.specs.Catalog.{is_refused}
+use Rattle.component_scripts.specs.Tables.{interface_place}
 use Rattle.component_scripts.specs.Component.{component_command, takes, module_checks, module_effect, interface_checks, kind_and_side, interface_effect, value_of, property_at, property_checks, set_to_number, set_as, property_effect, port_checks, port_stated, with_role, port_effect, port_property_checks, component_refusal, component_after, interface_refusal, interface_table, ended, component_of}
 use Rattle.iface_roles.specs.Properties.{is_listed}
 use Rattle.system_tables.specs.Names.{is_name}
-use Rattle.system_words.specs.Commands.{later_command, system_command, system_takes, pair_named, first_named, second_named, second_word, asks_other, parameter_named}
+use Rattle.script_words.specs.Commands.{later_command, system_command, system_takes, pair_named, first_named, second_named, second_word, asks_other, parameter_named}
 use Rattle.system_scripts.specs.Clocks.{clock_of, root_of, system_clock, connection_of, stated_system, system_over}
 use Rattle.system_scripts.specs.System.{create_checks, create_effect, instance_place, instance_checks, instance_effect, end_of, sort_at, first_end, second_end, connection_checks, connection_effect, joint_place, parameter_checks, parameter_effect, exported_checks, exported_effect, export_checks, requirement_checks, requirement_effect, late_checks, system_refusal, system_after}
-use Rattle.component_types.specs.Tables.{ComponentTable}
+use Rattle.component_scripts.specs.Tables.{ComponentTable}
 use Rattle.system_scripts.specs.Clocks.{system_of}
 use Rattle.workload_systems.specs.Components.{component_lines, type_name, interface, port, property, enables, command_ports, answer_ports, host_lines, agent_lines, empties, beat_ports, source_lines, sink_lines}
 use Rattle.workload_systems.specs.Systems.{instance, host_instance, agent_instance, source_instance, sink_instance, parameter, memory_lines, host_links, stream_line, system_lines}

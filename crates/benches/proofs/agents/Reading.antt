@@ -11,7 +11,7 @@ use Rattle.netlist.specs.Netlists.{Netlist}
 use Rattle.cycle_sim.specs.Sims.{SimValue}
 use Rattle.histories.specs.History.{one_if}
 use Rattle.scenario_tables.specs.Statements.{all_lanes}
-use Rattle.agent_stand_ins.specs.Whole.{AgentStandInValue, accepts}
+use Rattle.stand_ins.specs.Whole.{AgentStandInValue, accepts}
 use Rattle.benches.specs.Outputs.{IsOutputIf}
 use Rattle.benches.specs.Writing.{text_of}
 use Rattle.benches.specs.Agents.{BenchAgentValue, IsKept, commanded, taken_line, tells}

@@ -10,10 +10,10 @@ use Rattle.memory_runs.specs.Views.{AgentView, levels_at}
 use Rattle.memory_runs.specs.Legal.{Word as CodedWord}
 use Rattle.scenario_tables.specs.declared.statements.AgentStatement.{AgentStatement}
 use Rattle.scenario_tables.specs.Statements.{IsAgentScript}
-use Rattle.agent_stand_ins.specs.declared.delayed.Answer.{Answer}
-use Rattle.agent_stand_ins.specs.Answers.{no_answer}
-use Rattle.agent_stand_ins.specs.StandIns.{stalls_in, word_in, code_in}
-use Rattle.agent_stand_ins.specs.Whole.{AgentStandInValue, ShowsAsDefined, StandsFor, word_now, word_shown, code_now, code_shown}
+use Rattle.stand_ins.specs.declared.delayed.Answer.{Answer}
+use Rattle.stand_ins.specs.Answers.{no_answer}
+use Rattle.stand_ins.specs.StandIns.{stalls_in, word_in, code_in}
+use Rattle.stand_ins.specs.Whole.{AgentStandInValue, ShowsAsDefined, StandsFor, word_now, word_shown, code_now, code_shown}
 use Rattle.port_rows.specs.declared.agent_ends.places.AgentLevels.{AgentLevels}
 use Rattle.port_rows.specs.Agents.{AllHoldBytes, AreShownBy, FitsPorts, stand_in_levels}
 use Rattle.simulated_runs.specs.Simulated.{AgentShows}

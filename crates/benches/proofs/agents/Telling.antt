@@ -6,14 +6,14 @@ use Rattle.av_base.specs.Word.{word}
 use Rattle.iface_roles.specs.Proper.{span_of}
 use Rattle.iface_roles.specs.declared.records.Finished.TheVariants.{Agent}
 use Rattle.histories.specs.History.{is_raised, one_if}
-use Rattle.memory_sides.specs.Sides.{agent_side}
+use Rattle.memory_runs.specs.Sides.{agent_side}
 use Rattle.system_tables.specs.Tables.{SystemTable}
 use Rattle.cycle_sim.specs.Sims.{SimValue}
 use Rattle.memory_runs.specs.Views.{Levels, AgentView, levels_at}
 use Rattle.memory_runs.specs.Commands.{Burst, agent_accepts, burst_before, byte_address}
 use Rattle.scenario_tables.specs.declared.statements.AgentStatement.{AgentStatement}
-use Rattle.agent_stand_ins.specs.StandIns.{stalls_in}
-use Rattle.agent_stand_ins.specs.Whole.{AgentStandInValue, IsBehind, StandsFor, TakesAsDefined, accepts, address_shown}
+use Rattle.stand_ins.specs.StandIns.{stalls_in}
+use Rattle.stand_ins.specs.Whole.{AgentStandInValue, IsBehind, StandsFor, TakesAsDefined, accepts, address_shown}
 use Rattle.trace_lines.specs.Lines.{write_line, read_line}
 use Rattle.trace_lines.specs.Told.{AgentEnd, told_of_agent, read_address, write_address}
 use Rattle.trace_lines.specs.Sums.{beats_taken_in}

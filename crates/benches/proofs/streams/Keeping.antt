@@ -9,9 +9,9 @@ use Rattle.scenario_tables.specs.declared.statements.Pattern.{Pattern}
 use Rattle.scenario_tables.specs.declared.statements.SourceStatement.{SourceStatement}
 use Rattle.scenario_tables.specs.declared.statements.SourceStatement.TheVariants as states
 use Rattle.scenario_tables.specs.Statements.{FitsStall, FollowPackets, IsPattern, IsSinkScript, open_behind}
-use Rattle.stream_stand_ins.specs.Step.{Step}
-use Rattle.stream_stand_ins.specs.Step.Step.{Quiet, Sends}
-use Rattle.stream_stand_ins.specs.Steps.{left_behind, levels_of, steps_of}
+use Rattle.stand_ins.specs.Step.{Step}
+use Rattle.stand_ins.specs.Step.Step.{Quiet, Sends}
+use Rattle.stand_ins.specs.StreamsSteps.{left_behind, levels_of, steps_of}
 use Rattle.benches.specs.Sound.{IsWithin}
 use Rattle.benches.specs.Streams.{BenchStreamValue, IsFirstStream}
 

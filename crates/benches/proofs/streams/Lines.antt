@@ -9,7 +9,7 @@ use Rattle.av_files.specs.Outside.{with_more}
 use Rattle.histories.specs.History.{one_if, only_if}
 use Rattle.cycle_sim.specs.Sims.{SimValue}
 use Rattle.stream_runs.specs.View.{Beat, EndView}
-use Rattle.stream_stand_ins.specs.Sources.{port_pace}
+use Rattle.stand_ins.specs.Sources.{port_pace}
 use Rattle.trace_lines.specs.Lines.{sent_line, got_line, dropped_line}
 use Rattle.trace_lines.specs.Told.{moves_at, told_of_stream}
 use Rattle.benches.specs.Writing.{HoldsPart, text_of}

@@ -27,7 +27,7 @@ use Rattle.simulated_runs.specs.Ends.{stream_view}
 use Rattle.port_rows.specs.Levels.{AllFit, AllStand, Level, level_if}
 use Rattle.port_rows.specs.Rows.{level_of}
 use Rattle.scenario_tables.specs.declared.statements.Pattern.{Pattern}
-use Rattle.stream_stand_ins.specs.Sources.{Shows, no_beat}
+use Rattle.stand_ins.specs.Sources.{Shows, no_beat}
 use Rattle.port_rows.specs.Inputs.{place_at}
 use Rattle.port_rows.specs.declared.stream_ends.places.SinkPorts.{SinkPorts}
 use Rattle.port_rows.specs.declared.stream_ends.places.SourcePlaces.{SourcePlaces}

@@ -4,21 +4,21 @@ ghost use Rattle.std.specs.Prelude.{◌≡◌, ◌*◌, ◌<◌, ◌≤◌, ◌^
 ghost use Rattle.std.specs.Bool.{OnTrue, OnFalse};
 ghost use Rattle.av_files.specs.Outside.{Rose, with_more};
 ghost use Rattle.port_rows.specs.Levels.{AllFit, set_levels};
-ghost use Rattle.host_stand_ins.specs.Steps.{levels_of};
+ghost use Rattle.stand_ins.specs.Steps.{levels_of};
 ghost use Rattle.benches.specs.Outputs.{level_now};
 ghost use Rattle.benches.specs.Writing.{text_of, HoldsPart};
 ghost use Rattle.benches.specs.Agents.{commanded, levels_with, gives_at_once, word_answered, sets_answered, taken_line, beats_taken, Fits};
 
 use crate::agents::commands::{address_at, all_lanes, is_high, nibble_at, short_at};
 use crate::parts::{Component, Simulator, level_at};
-use agent_stand_ins::AgentStandIn;
 use av_base::Val;
+use av_base::lines::Line;
 use av_files::{Sink, put_all};
-use byte_lines::Line;
-use host_stand_ins::CommandLevels;
 use iface_roles::AgentPort;
 use port_rows::InputRow;
 use port_rows::agent_ends::{AgentLevels, AgentPlaces, AgentPorts};
+use stand_ins::AgentStandIn;
+use stand_ins::hosts::CommandLevels;
 use std::marker::Model;
 use trace_lines::{CommandTaken, Counts, EndName, read_line, write_line};
 

@@ -17,7 +17,6 @@ ghost use Rattle.benches.specs.Agents.{BenchAgentValue, AreFirstAgents, IsFirstA
 
 use crate::agents::agent::BenchAgent;
 use crate::parts::Simulator;
-use agent_stand_ins::AgentStandIn;
 use av_base::NoMemory;
 use iface_roles::{AgentPort, Finished, proper_records_are_bounded};
 use interconnect::PortMap;
@@ -26,6 +25,7 @@ use netlist::PortLine;
 use port_rows::agent_ends::{AgentPlaces, AgentPorts, script_holds_bytes};
 use port_rows::{InputRow, levels_stand};
 use scenario_tables::{AgentStatement, Scripts};
+use stand_ins::AgentStandIn;
 use std::alloc::Global;
 use system_tables::EndId;
 use trace_lines::EndName;

@@ -3,7 +3,7 @@
 ghost use Rattle.std.specs.Prelude.{◌≡◌, ◌<◌, ◌≤◌, ℕ, List, IsFalse};
 ghost use Rattle.av_base.specs.Word.{Word as Bits};
 ghost use Rattle.iface_roles.specs.Proper.{IsBoundedAgent};
-ghost use Rattle.memory_sides.specs.Sides.{agent_side};
+ghost use Rattle.memory_runs.specs.Sides.{agent_side};
 ghost use Rattle.system_tables.specs.Tables.{SystemTable};
 ghost use Rattle.netlist.specs.Netlists.{Netlist};
 ghost use Rattle.netlist.specs.Runs.{Run};
@@ -17,7 +17,7 @@ ghost use Rattle.port_rows.specs.Levels.{AllFit, AllStand};
 ghost use Rattle.port_rows.specs.Rows.{IsGivenRow};
 ghost use Rattle.scenario_tables.specs.declared.statements.AgentStatement.{AgentStatement};
 ghost use Rattle.scenario_tables.specs.Statements.{IsAgentScript};
-ghost use Rattle.agent_stand_ins.specs.Whole.{StandsFor};
+ghost use Rattle.stand_ins.specs.Whole.{StandsFor};
 ghost use Rattle.port_rows.specs.Agents.{AllHoldBytes, AreShownBy, FitsPorts, agent_levels};
 ghost use Rattle.simulated_runs.specs.Simulated.{AgentShows};
 ghost use Rattle.trace_lines.specs.Told.{told_of_agent};
@@ -26,8 +26,8 @@ ghost use Rattle.benches.specs.Outputs.{level_now};
 ghost use Rattle.benches.specs.Present.{IsPresent};
 ghost use Rattle.benches.specs.Agents.{BenchAgentValue, IsAgentOf, IsSeen, Follows, Fits, commanded, first_word, levels_with, tells, beats_taken, word_answered};
 
-use agent_stand_ins::stand_ins_stand_for_runs;
 use port_rows::agent_ends::{agents_are_commanded, agents_are_shown, shown_agents_fit};
+use stand_ins::stand_ins_stand_for_runs;
 use trace_lines::agents_are_told_by_their_ports;
 
 /// An agent of a system's module can take part in its simulation. What it sets has room in a row where it fits its ports, and

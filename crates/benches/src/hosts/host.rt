@@ -20,7 +20,6 @@ ghost use Rattle.benches.specs.Hosts.{AreFirstHosts, Fits, IsFirstHost, behind, 
 use crate::parts::{Component, Simulator, level_at};
 use av_base::{NoMemory, Val};
 use av_files::{Sink, put_all};
-use host_stand_ins::HostStandIn;
 use iface_roles::{Finished, HostPort, proper_records_are_bounded};
 use interconnect::PortMap;
 use link_rules::{Plan, ends_are_known};
@@ -28,6 +27,7 @@ use netlist::PortLine;
 use port_rows::InputRow;
 use port_rows::host_ends::{HostPlaces, HostPorts};
 use scenario_tables::{HostStatement, Scripts};
+use stand_ins::hosts::HostStandIn;
 use std::alloc::Global;
 use std::marker::Model;
 use system_tables::EndId;

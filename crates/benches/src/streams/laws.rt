@@ -23,7 +23,7 @@ ghost use Rattle.port_rows.specs.Rows.{IsGivenRow};
 ghost use Rattle.scenario_tables.specs.declared.statements.SourceStatement.{SourceStatement};
 ghost use Rattle.scenario_tables.specs.declared.statements.Pattern.{Pattern};
 ghost use Rattle.scenario_tables.specs.Statements.{IsSinkScript, IsSourceScript};
-ghost use Rattle.stream_stand_ins.specs.Sources.{beat_shown, keeping_at, no_beat};
+ghost use Rattle.stand_ins.specs.Sources.{beat_shown, keeping_at, no_beat};
 ghost use Rattle.port_rows.specs.Sources.{FitsSource};
 ghost use Rattle.port_rows.specs.Sinks.{FitsReady};
 ghost use Rattle.trace_lines.specs.Told.{told_of_stream};
@@ -40,7 +40,7 @@ use port_rows::stream_ends::{
     shown_beats_fit, shown_ready_fits, sinks_are_answered, sinks_are_shown, sources_are_answered,
     sources_are_shown,
 };
-use stream_stand_ins::sources_keep_enough;
+use stand_ins::streams::sources_keep_enough;
 
 /// A plan has few streams.
 pub(crate) fn links_are_few()

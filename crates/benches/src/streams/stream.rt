@@ -12,8 +12,8 @@ ghost use Rattle.port_tables.specs.PortMaps.{AreTold};
 ghost use Rattle.scenario_tables.specs.declared.statements.SourceStatement.{SourceStatement as Statement};
 ghost use Rattle.scenario_tables.specs.declared.statements.Pattern.{Pattern as Stalls};
 ghost use Rattle.scenario_tables.specs.Statements.{IsSinkScript, IsSourceScript};
-ghost use Rattle.stream_stand_ins.specs.Steps.{levels_of};
-ghost use Rattle.stream_stand_ins.specs.Sources.{no_beat, port_pace};
+ghost use Rattle.stand_ins.specs.StreamsSteps.{levels_of};
+ghost use Rattle.stand_ins.specs.Sources.{no_beat, port_pace};
 ghost use Rattle.trace_lines.specs.Lines.{sent_line, got_line, dropped_line};
 ghost use Rattle.benches.specs.Writing.{text_of, HoldsPart};
 ghost use Rattle.benches.specs.Sound.{IsSoundEnd, line_if};
@@ -21,9 +21,9 @@ ghost use Rattle.benches.specs.Streams.{AreFirstStreams, Fits, IsFirstStream, be
 
 use crate::parts::{Component, Simulator, level_at};
 use crate::streams::laws::{links_are_few, links_are_sound, outputs_are_within};
+use av_base::lines::Line;
 use av_base::{NoMemory, Val};
 use av_files::{Sink, put_all};
-use byte_lines::Line;
 use iface_roles::{Role, StreamPort};
 use interconnect::PortMap;
 use link_rules::{Plan, StreamConnection};
@@ -31,9 +31,9 @@ use netlist::PortLine;
 use port_rows::stream_ends::{SinkPorts, SourcePlaces};
 use port_rows::{InputRow, input_place, levels_stand, port_number};
 use scenario_tables::{Pattern, Scripts, SourceBeat, SourceStatement};
+use stand_ins::streams::{SourceStandIn, is_ready};
 use std::alloc::Global;
 use std::marker::Model;
-use stream_stand_ins::{SourceStandIn, is_ready};
 use system_tables::EndId;
 use trace_lines::{BeatMoved, Counts, EndName, ShownBeat, dropped_line, got_line, sent_line};
 

@@ -10,17 +10,17 @@ use Rattle.memory_runs.specs.Views.Kind.{Reads, Writes}
 use Rattle.memory_runs.specs.Operations.{Operation, Beat, byte_at, is_enabled, memory_after, operation_at, operation_of_kind, own_operations, written}
 use Rattle.memory_runs.specs.Operations.Operation.{Write, Read}
 use Rattle.memory_runs.specs.Commands.{Transfer, accepted, agent_accepts, stood_before, wait_time}
-use Rattle.memory_sides.specs.Sides.{agent_side}
+use Rattle.memory_runs.specs.Sides.{agent_side}
 use Rattle.port_tables.specs.Ports.{bits_if}
 use Rattle.scenario_tables.specs.declared.statements.AgentStatement.{AgentStatement}
 use Rattle.scenario_tables.specs.declared.statements.AgentStatement.TheVariants.{Stall, Latency, Fill, Code}
 use Rattle.scenario_tables.specs.Statements.{FitsAgent, FitsStall, IsAgentScript, stalls_of}
-use Rattle.agent_stand_ins.specs.declared.waiting.Waiting.{Waiting}
-use Rattle.agent_stand_ins.specs.Codes.{code_at}
-use Rattle.agent_stand_ins.specs.Contents.{contents_before, filled, fills, word_at, writes_from}
-use Rattle.agent_stand_ins.specs.Answers.{asked_word, asked_words, is_borne, is_due, latency_of, still_waiting, takes_read, waiting_before, word_asked, word_asked_in, word_behind, word_due}
-use Rattle.agent_stand_ins.specs.StandIns.{first_stalls, gives_in, stall_pattern, stalls_in, word_in, code_in}
-use Rattle.agent_stand_ins.specs.ByteLaws.{byte_shift, number_below}
+use Rattle.stand_ins.specs.declared.waiting.Waiting.{Waiting}
+use Rattle.stand_ins.specs.Codes.{code_at}
+use Rattle.stand_ins.specs.Contents.{contents_before, filled, fills, word_at, writes_from}
+use Rattle.stand_ins.specs.Answers.{asked_word, asked_words, is_borne, is_due, latency_of, still_waiting, takes_read, waiting_before, word_asked, word_asked_in, word_behind, word_due}
+use Rattle.stand_ins.specs.StandIns.{first_stalls, gives_in, stall_pattern, stalls_in, word_in, code_in}
+use Rattle.stand_ins.specs.ByteLaws.{byte_shift, number_below}
 use Rattle.port_rows.specs.Inputs.{FitsPort}
 use Rattle.port_rows.specs.declared.agent_ends.places.AgentLevels.{AgentLevels}
 use Rattle.port_rows.specs.Agents.{AllHoldBytes, FitsPorts, HoldsBytes, stand_in_levels}

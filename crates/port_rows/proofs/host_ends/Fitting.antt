@@ -12,9 +12,9 @@ use Rattle.port_tables.specs.Ports.{bits_if}
 use Rattle.scenario_tables.specs.declared.statements.HostStatement.{HostStatement}
 use Rattle.scenario_tables.specs.declared.statements.HostStatement.TheVariants.{Idle, Write, Read}
 use Rattle.scenario_tables.specs.Statements.{FitsCommand, FitsHost, all_lanes}
-use Rattle.host_stand_ins.specs.Steps.{Step, all_steps, left_after, port_address, read_command, resting, shown, steps_of, write_beat}
-use Rattle.host_stand_ins.specs.Steps.Step.{Rests, Presents}
-use Rattle.host_stand_ins.specs.StandIns.{left_before}
+use Rattle.stand_ins.specs.Steps.{Step, all_steps, left_after, port_address, read_command, resting, shown, steps_of, write_beat}
+use Rattle.stand_ins.specs.Steps.Step.{Rests, Presents}
+use Rattle.stand_ins.specs.HostsStandIns.{left_before}
 use Rattle.port_rows.specs.Inputs.{FitsPort}
 use Rattle.port_rows.specs.Hosts.{FitsPorts}
 

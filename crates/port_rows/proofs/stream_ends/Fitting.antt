@@ -12,11 +12,11 @@ use Rattle.scenario_tables.specs.declared.statements.SourceStatement.{SourceStat
 use Rattle.scenario_tables.specs.declared.statements.SourceStatement.TheVariants as states
 use Rattle.scenario_tables.specs.declared.statements.Pattern.{Pattern}
 use Rattle.scenario_tables.specs.Statements.{open_behind, FitsBeat, FitsStall, FollowPackets, IsSinkScript}
-use Rattle.stream_stand_ins.specs.Step.{Step}
-use Rattle.stream_stand_ins.specs.Step.Step.{Quiet, Sends}
-use Rattle.stream_stand_ins.specs.Steps.{left_before, left_behind, levels_of, next_beat, steps_of}
-use Rattle.stream_stand_ins.specs.Sources.{no_beat}
-use Rattle.stream_stand_ins.specs.Sinks.{ready_in}
+use Rattle.stand_ins.specs.Step.{Step}
+use Rattle.stand_ins.specs.Step.Step.{Quiet, Sends}
+use Rattle.stand_ins.specs.StreamsSteps.{left_before, left_behind, levels_of, next_beat, steps_of}
+use Rattle.stand_ins.specs.Sources.{no_beat}
+use Rattle.stand_ins.specs.Sinks.{ready_in}
 use Rattle.port_rows.specs.Inputs.{FitsPort}
 use Rattle.port_rows.specs.Sources.{FitsSource}
 use Rattle.port_rows.specs.Sinks.{FitsReady}

@@ -21,7 +21,7 @@ use Rattle.port_tables.specs.PortMaps.{HasKnownPorts}
 use Rattle.interconnect.specs.Streams.{end_signals}
 use Rattle.port_rows.specs.Levels.{AllFit, AllStand, level_if}
 use Rattle.port_rows.specs.Rows.{IsGivenRow}
-use Rattle.stream_stand_ins.specs.Sources.{Shows, no_beat}
+use Rattle.stand_ins.specs.Sources.{Shows, no_beat}
 use Rattle.port_rows.specs.Inputs.{FitsPort, IsInputOf, InputsAreShown, InputsHaveRoom, EachStands, AllHaveRoom, place_at}
 use Rattle.port_rows.specs.Sources.{FitsSource, beat_driven, source_levels, source_places}
 use Rattle.port_rows.specs.Sinks.{FitsReady}

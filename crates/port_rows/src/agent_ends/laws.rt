@@ -26,7 +26,7 @@ ghost use Rattle.port_rows.specs.WorkedAgents.{reader, reader_row, seven_given};
 
 use crate::host_ends::inputs_are_driven;
 use crate::outputs_are_those_of_nets;
-use agent_stand_ins::codes_fit_their_port;
+use stand_ins::codes_fit_their_port;
 
 /// Levels that fit an agent's ports have room in a row, and where they stand there, the run shows them.
 pub fn agents_are_shown()

@@ -5,15 +5,15 @@ ghost use Rattle.port_tables.specs.Ends.{IsAnEnd};
 ghost use Rattle.port_tables.specs.Ports.{ports_of};
 ghost use Rattle.port_tables.specs.PortMaps.{AreTold};
 ghost use Rattle.port_rows.specs.Levels.{AllFit, set_levels};
-ghost use Rattle.host_stand_ins.specs.Steps.{levels_of};
+ghost use Rattle.stand_ins.specs.Steps.{levels_of};
 ghost use Rattle.port_rows.specs.Hosts.{host_places, host_outputs, host_levels};
 
 use crate::{Driven, InputRow, input_place, port_number};
-use host_stand_ins::CommandLevels;
 use iface_roles::Role;
 use interconnect::PortMap;
 use link_rules::Plan;
 use netlist::PortLine;
+use stand_ins::hosts::CommandLevels;
 use system_tables::EndId;
 
 /// Where the command signals of a host stand in a row of values; None where its port is absent.

@@ -6,7 +6,7 @@ ghost use Rattle.port_tables.specs.Ends.{IsAnEnd};
 ghost use Rattle.port_tables.specs.Ports.{ports_of};
 ghost use Rattle.port_tables.specs.PortMaps.{AreTold, port_at};
 ghost use Rattle.port_rows.specs.Levels.{AllFit, set_levels, levels_for};
-ghost use Rattle.stream_stand_ins.specs.Steps.{levels_of};
+ghost use Rattle.stand_ins.specs.StreamsSteps.{levels_of};
 ghost use Rattle.port_rows.specs.Sources.{source_places, source_levels, beat_driven};
 ghost use Rattle.port_rows.specs.Sinks.{IsSinkEnd, sink_outputs};
 

@@ -15,8 +15,8 @@ use Rattle.packet_bytes.specs.declared.transfers.Transfers.{Transfers}
 use Rattle.packet_bytes.specs.declared.replies.Replies.{Replies}
 use Rattle.packet_bytes.specs.Rules.{AreTransfers, IsFaultOf}
 use Rattle.packet_bytes.specs.Noted.{HasNoted}
-use Rattle.transfer_scenarios.specs.Hosts.{IsTransferHost, HasNoTransferHost}
-use Rattle.transfer_scenarios.specs.Stated.{scenario_of}
+use Rattle.scenario_runs.specs.Hosts.{IsTransferHost, HasNoTransferHost}
+use Rattle.scenario_runs.specs.Stated.{scenario_of}
 use Rattle.scenario_runs.specs.declared.bridges.faults.BridgeFault.{BridgeFault}
 use Rattle.scenario_runs.specs.declared.bridges.faults.BridgeFault.TheVariants as fault
 use Rattle.scenario_runs.specs.Bridged.{IsRunOf, HaveNoted}

@@ -18,7 +18,7 @@ use Rattle.packet_bytes.specs.declared.gathering.Packet.{Packet}
 use Rattle.packet_bytes.specs.declared.faults.PacketFault.TheVariants as packet
 use Rattle.packet_bytes.specs.Streams.{AreRead}
 use Rattle.packet_bytes.specs.Rules.{first_fault, IsFaultOf}
-use Rattle.transfer_scenarios.specs.Hosts.{can_transfer, IsTransferHost, HasNoTransferHost}
+use Rattle.scenario_runs.specs.Hosts.{can_transfer, IsTransferHost, HasNoTransferHost}
 use Rattle.scenario_runs.specs.declared.bridges.faults.BridgeFault.{BridgeFault}
 use Rattle.scenario_runs.specs.declared.bridges.faults.BridgeFault.TheVariants as fault
 use Rattle.scenario_runs.specs.Refused.{AreDue, CanBridge, IsUnfit, IsFaultyStream, IsTooLong, IsBridgeFault}

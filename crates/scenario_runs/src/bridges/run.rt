@@ -9,13 +9,13 @@ use crate::bridges::faults::BridgeFault;
 use crate::bridges::noted::NotingReplies;
 use crate::prepared::MOST_VALUES;
 use crate::read_back::built_module;
+use crate::transfers::{StatedTransfers, stated_transfers, transfer_host};
 use av_base::Bytes;
 use interconnect::Built;
 use packet_bytes::Replies;
 use simulations::note_host;
 use std::alloc::Global;
 use system_plan::plan_of;
-use transfer_scenarios::{StatedTransfers, stated_transfers, transfer_host};
 
 /// Does the transactions of a stream at host 0 of the system that files state, for so many cycles, and gives what is answered to
 /// them. The first file is the system file.

@@ -3,12 +3,12 @@ ghost use Rattle.system_scripts.specs.Clocks.{fits_clock, end_id, clock_place};
 
 use super::SystemDraft;
 use av_base::{List, NoMemory, Place};
-use component_types::{Component, Library};
+use component_scripts::types::{Component, Library};
+use script_words::system::Roots;
+use script_words::system::joints::{Joint, Terminal};
 use script_words::{ScriptFault, ScriptRule};
 use std::alloc::Global;
 use system_tables::{Connection, EndId, InterfaceTable, System};
-use system_words::Roots;
-use system_words::joints::{Joint, Terminal};
 use tcl_words::Commands;
 
 /// The number of an end, where there is room for it.
@@ -62,10 +62,10 @@ impl SystemDraft {
     ghost use Rattle.std.specs.Prelude.{map, All, ℕ, List, IfErr, IsSome, OnErr, OnOk, None, Some, Ok};
     ghost use Rattle.std.specs.Option.{option_or};
     ghost use Rattle.system_scripts.specs.Clocks.{clock_of, root_of, system_clock, logic_joints, connection_of, no_system, ended_system, system_over};
-    ghost use Rattle.system_words.specs.Roots.{AreRootsOf};
+    ghost use Rattle.script_words.specs.Roots.{AreRootsOf};
     ghost use Rattle.system_tables.specs.Kept.{kept_table};
-    ghost use Rattle.component_types.specs.Library.{interfaces_of};
-    ghost use Rattle.component_types.specs.Tables.{IsComponent};
+    ghost use Rattle.component_scripts.specs.Library.{interfaces_of};
+    ghost use Rattle.component_scripts.specs.Tables.{IsComponent};
     ghost use Rattle.system_tables.specs.Tables.{IsSystem};
     ghost use Rattle.script_words.specs.Judgements.{IsFaultOf};
     ghost use Rattle.system_scripts.specs.System.{empty_system_draft};

@@ -1,20 +1,20 @@
 ghost use Rattle.std.specs.Prelude.{◌≡◌};
 ghost use Rattle.system_scripts.specs.System.{late_checks, create_checks, exported_checks, export_checks, requirement_checks, connection_checks, instance_checks, parameter_checks, system_checks, is_mismatched, is_start};
-ghost use Rattle.system_words.specs.Commands.{of_both};
+ghost use Rattle.script_words.specs.Commands.{of_both};
 ghost use Rattle.script_words.specs.Words.{refusal_of};
 
 use super::SystemDraft;
-use component_types::{Library, is_name};
+use component_scripts::types::{Library, is_name};
 use iface_roles::{Kind, Side};
-use script_words::values::{kind_named, number_of, same_kind};
-use script_words::words::{check, is_misdirected, refusal_of, text};
-use script_words::{Refusal, judge_package};
-use system_words::commands::{
+use script_words::system::commands::{
     any_default, any_exceeds, any_misplaced, any_misread, asks_other, asks_unknown, exports,
     has_sides, is_missing, is_no_joint, names_an_end, names_first, names_pair, names_second,
     parameter_named, second_word, sets_stages,
 };
-use system_words::joints::SystemCommand;
+use script_words::system::joints::SystemCommand;
+use script_words::values::{kind_named, number_of, same_kind};
+use script_words::words::{check, is_misdirected, refusal_of, text};
+use script_words::{Refusal, judge_package};
 use tcl_words::Word;
 
 impl SystemDraft {

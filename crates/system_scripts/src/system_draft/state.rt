@@ -1,20 +1,20 @@
 ghost use Rattle.std.specs.Prelude.{◌≡◌, ◌++◌, ◌∷◌, [], false, None, Some, IsNone, IfSome, is_some, OnOk, position};
 ghost use Rattle.std.specs.Option.{option_map_or};
 ghost use Rattle.system_scripts.specs.System.{DraftedSystem, instance_place, joins, first_end, second_end, with_number, create_effect, exported_checks, exported_effect, requirement_checks, requirement_effect, instance_checks, instance_effect, connection_checks, connection_effect, parameter_checks, parameter_effect, system_checks, system_effect};
-ghost use Rattle.system_words.specs.Commands.{exceeds};
+ghost use Rattle.script_words.specs.Commands.{exceeds};
 ghost use Rattle.script_words.specs.Words.{text_at, refusal_of};
 
 use super::SystemDraft;
 use av_base::{NoMemory, Text};
-use component_types::Library;
+use component_scripts::types::Library;
 use iface_roles::Kind;
+use script_words::system::commands::{parameter_named, sets_stages};
+use script_words::system::joints::{Joint, Link, Parameter, SystemCommand};
+use script_words::system::links::add_link;
 use script_words::values::{number_of, same_kind};
 use script_words::words::text;
 use std::alloc::Global;
 use system_tables::Instance;
-use system_words::commands::{parameter_named, sets_stages};
-use system_words::joints::{Joint, Link, Parameter, SystemCommand};
-use system_words::links::add_link;
 use tcl_words::Word;
 
 impl SystemDraft {

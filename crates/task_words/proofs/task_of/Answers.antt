@@ -1,6 +1,6 @@
 use Rattle.std.proofs.Common.{◌≡◌, ℕ, map, sym, subst}
 use Rattle.std.specs.Prelude.{string_bytes}
-use Rattle.routed_words.specs.Asking.{IsModuleWord}
+use Rattle.task_words.specs.Asking.{IsModuleWord}
 use Rattle.task_words.specs.declared.Task.{Task as Asked}
 use Rattle.task_words.specs.Words.{IsBare, HasNumber, IsWordOf, StatesNumber}
 use Rattle.task_words.proofs.WordsLemmas.{match_weaker, nothing_named, number_named, one_number}

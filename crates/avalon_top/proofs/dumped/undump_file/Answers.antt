@@ -1,5 +1,5 @@
 use Rattle.std.proofs.Common.{◌≡◌, arith}
-use Rattle.undumps.specs.Undumps.{CanUndump, IsUndumpFault}
+use Rattle.vcd_reader.specs.Undumps.{CanUndump, IsUndumpFault}
 use Rattle.avalon_top.specs.Run.{dump_in}
 use Rattle.avalon_top.proofs.FileLemmas.{one_of_one}
 use Rattle.avalon_top.proofs.AnswerLemmas.{AreJudged, undump_stops, undump_done}

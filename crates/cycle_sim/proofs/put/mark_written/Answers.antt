@@ -2,7 +2,7 @@ use Rattle.std.proofs.Common.{◌≡◌, slice_get, Some, subst, ◌∙◌, arit
 use Rattle.std.proofs.lemmas.Option.{slice_get_within}
 use Rattle.netlist.specs.Netlists.{memory_of}
 use Rattle.cycle_sim.specs.Sims.{bits_at}
-use Rattle.net_readers.specs.Readers.{AreStale}
+use Rattle.cycle_sim.specs.Readers.{AreStale}
 use Rattle.cycle_sim.proofs.Lines.{within}
 use Rattle.cycle_sim.proofs.Access.{address_is}
 use Rattle.cycle_sim.proofs.Blocks.{stay_same}

@@ -1,7 +1,7 @@
 use Rattle.std.proofs.Common.{◌*◌, Result, Ok, Err, arith}
 use Rattle.std.specs.Result.{OnOk}
 use Rattle.address_map.specs.Maps.{hosts_of}
-use Rattle.memory_sides.specs.Sides.{burst_width}
+use Rattle.memory_runs.specs.Sides.{burst_width}
 use Rattle.mm_host.specs.declared.nets.HostNets.{HostNets}
 use Rattle.mm_host.specs.Hosts.{bursts}
 use Rattle.port_tables.specs.declared.roles.PortRole.TheVariants as role

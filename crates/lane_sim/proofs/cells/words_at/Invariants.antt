@@ -1,7 +1,7 @@
 use Rattle.std.proofs.Common.{◌≡◌, ℕ, ◌+◌, ◌<◌, length, slice_get, Some}
 use Rattle.netlist.specs.declared.line.Memory.{Memory}
 use Rattle.cycle_sim.specs.Sims.{place_of}
-use Rattle.lane_words.specs.LaneWords.{value_at, word_in}
+use Rattle.lane_sim.specs.LaneWords.{value_at, word_in}
 use Rattle.lane_sim.specs.LaneSims.{cells_at}
 use Rattle.lane_sim.proofs.cells.words_at.Given as goal
 

@@ -2,7 +2,7 @@ use Rattle.std.proofs.Common.{◌≡◌, ◌<◌, length, slice_get, Some, refl,
 use Rattle.av_base.specs.Word.{Word}
 use Rattle.std.proofs.lemmas.Bool.{false≢true}
 use Rattle.std.proofs.lemmas.Option.{slice_get_read, slice_get_within}
-use Rattle.lane_words.specs.LaneWords.{LaneWord}
+use Rattle.lane_sim.specs.LaneWords.{LaneWord}
 use Rattle.lane_sim.proofs.LaneInputs.{lane_turn}
 use Rattle.lane_sim.proofs.nets.are_inputs.Goals as goal
 use Rattle.lane_sim.proofs.nets.are_inputs.Goals.{then-taken-inputs-via-then-taken-inputs, then-taken-inputs-via-else-taken-inputs+then-width-port}

@@ -1,6 +1,6 @@
 use Rattle.std.proofs.Common.{ℕ, List, ◌+◌, ◌<◌, ◌∙◌, refl, sym, subst, ap, arith}
 use Rattle.av_base.specs.Word.{Word, IsWord}
-use Rattle.lane_words.specs.LaneWords.{value_at}
+use Rattle.lane_sim.specs.LaneWords.{value_at}
 use Rattle.lane_sim.specs.LaneSims.{cells_at, lane_words}
 use Rattle.lane_sim.proofs.Values.{width_at-line}
 use Rattle.lane_sim.proofs.LaneLists.{first, lane_count, lane_set}

@@ -1,7 +1,7 @@
 use Rattle.std.proofs.Common.{◌≡◌, List, [], ◌∷◌, ◌++◌, ◌+◌, ◌∙◌, length, sym, subst, ap, arith}
 use Rattle.std.proofs.lemmas.Option.{slice_get_within}
 use Rattle.av_base.specs.Word.{Word}
-use Rattle.lane_words.specs.LaneWords.{LaneWord, value_at}
+use Rattle.lane_sim.specs.LaneWords.{LaneWord, value_at}
 use Rattle.lane_sim.specs.LaneSims.{lane_words}
 use Rattle.lane_sim.proofs.LaneLists.{lane_push}
 use Rattle.lane_sim.proofs.Next.{AreFirst, first_more, first_none, first_nets}

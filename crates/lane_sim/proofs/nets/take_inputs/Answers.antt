@@ -1,7 +1,7 @@
 use Rattle.std.proofs.Common.{◌≡◌, ℕ, List, ◌+◌, ◌<◌, length, slice_get, Some, refl, sym, subst, ap, ◌∙◌, arith}
 use Rattle.std.proofs.lemmas.Option.{slice_get_read}
 use Rattle.av_base.specs.Word.{Word}
-use Rattle.lane_words.specs.LaneWords.{LaneWord, value_at}
+use Rattle.lane_sim.specs.LaneWords.{LaneWord, value_at}
 use Rattle.cycle_sim.specs.Sims.{AreInputs}
 use Rattle.lane_sim.specs.LaneSims.{lane_words}
 use Rattle.lane_sim.proofs.LaneLists.{first, lane_count, lane_at, lane_set, lane_widths}

@@ -1,7 +1,7 @@
 use Rattle.std.proofs.Common.{◌≡◌, ℕ, List, ◌+◌, ◌<◌, length, slice_get, Some, inl, inr, refl, sym, subst, ap, ◌∙◌, arith}
 use Rattle.std.proofs.lemmas.Option.{slice_get_read, slice_get_within}
 use Rattle.av_base.specs.Word.{Word}
-use Rattle.lane_words.specs.LaneWords.{value_at}
+use Rattle.lane_sim.specs.LaneWords.{value_at}
 use Rattle.lane_sim.specs.LaneSims.{lane_words}
 use Rattle.lane_sim.specs.Changes.{lane_changes}
 use Rattle.lane_sim.proofs.LaneLists.{first, lane_count, lane_set, change_at, lane_change}

@@ -5,7 +5,7 @@ use Rattle.std.proofs.lemmas.Option.{get_or_from_slice_get, slice_get_within}
 use Rattle.av_base.specs.Word.{Word, word, and_of, or_of, xor_of, add_of, sub_of, eq_of, less_of, concat_of, not_of, any_of, slice_of, mux_of}
 use Rattle.netlist.specs.declared.line.Equation.TheVariants.{Input, Constant, And, Or, Xor, Add, Sub, Eq, Less, Concat, Not, Any, Mux, Slice, Reg, Read}
 use Rattle.cycle_sim.specs.Sims.{bits_at, place_of}
-use Rattle.lane_words.specs.LaneWords.{value_at}
+use Rattle.lane_sim.specs.LaneWords.{value_at}
 use Rattle.lane_sim.specs.LaneSims.{cells_at, lane_words}
 use Rattle.lane_sim.proofs.Lines.{here, given, of_one, of_two, of_three, chosen_width, chosen_bits, given_state}
 use Rattle.lane_sim.proofs.Access.{given_read}

@@ -3,7 +3,7 @@ use Rattle.std.proofs.lemmas.Bool.{false≢true}
 use Rattle.std.proofs.lemmas.Option.{slice_get_within}
 use Rattle.av_base.specs.Word.{Word}
 use Rattle.netlist.specs.Netlists.{memory_of}
-use Rattle.net_readers.specs.Readers.{AreStale}
+use Rattle.cycle_sim.specs.Readers.{AreStale}
 use Rattle.cycle_sim.specs.Sims.{bits_at}
 use Rattle.lane_sim.specs.LaneSims.{lane_words}
 use Rattle.lane_sim.proofs.LaneLists.{first, within_lanes, lane_width, lane_operand}

@@ -1,6 +1,6 @@
 use Rattle.std.proofs.Common.{ℕ, ◌<◌, List, [], ◌∷◌, map, nat_eq, arith, IsTrue}
 use Rattle.std.specs.List.{list_any}
-use Rattle.ranks.specs.Turns.{AllShare}
+use Rattle.histories.specs.Turns.{AllShare}
 use Rattle.memory_runs.specs.Views.{System}
 use Rattle.memory_awake.proofs.built.memory_plans_are_planned.Goals as goal
 

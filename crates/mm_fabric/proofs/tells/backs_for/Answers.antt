@@ -2,7 +2,7 @@ use Rattle.std.proofs.Common.{◌≡◌, false, List, [], ◌∷◌, ◌++◌, g
 use Rattle.std.specs.List.{AllZip}
 use Rattle.std.proofs.lemmas.List.{take_more}
 use Rattle.std.proofs.lemmas.Option.{slice_get_within}
-use Rattle.memory_sides.specs.declared.route.Route.{Route}
+use Rattle.memory_runs.specs.declared.sides.route.Route.{Route}
 use Rattle.mm_route.specs.declared.back.BackNets.{BackNets}
 use Rattle.mm_fabric.specs.Tells.{IsBackFor}
 use Rattle.mm_fabric.proofs.Widening.{zip_push}

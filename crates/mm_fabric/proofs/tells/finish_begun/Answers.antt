@@ -2,7 +2,7 @@ use Rattle.std.proofs.Common.{◌*◌, List, length, sym, subst, ap, ◌∙◌, 
 use Rattle.std.specs.List.{AllZip}
 use Rattle.std.proofs.lemmas.Slice.Zip.{AllZip-long}
 use Rattle.net_parts.specs.Laws.{grows_none, grows_without_memory}
-use Rattle.memory_sides.specs.declared.route.Route.{Route}
+use Rattle.memory_runs.specs.declared.sides.route.Route.{Route}
 use Rattle.command_nets.specs.declared.nets.CommandNets.{CommandNets}
 use Rattle.mm_route.specs.declared.back.BackNets.{BackNets}
 use Rattle.mm_route.specs.Backward.{AreBackNets}

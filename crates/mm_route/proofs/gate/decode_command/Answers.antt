@@ -2,7 +2,7 @@ use Rattle.std.proofs.Common.{◌≡◌, false, List, ap, ◌∙◌, arith, leng
 use Rattle.netlist.specs.Nets.{NetValue}
 use Rattle.netlist.specs.Runs.{Always}
 use Rattle.net_parts.specs.Laws.{if_ok, adds_fewer, adds_twice}
-use Rattle.memory_sides.specs.declared.route.Route.{Route}
+use Rattle.memory_runs.specs.declared.sides.route.Route.{Route}
 use Rattle.net_parts.specs.Refusing.{handed_on}
 use Rattle.net_parts.specs.Nets.{IsNetOfWidth}
 use Rattle.mm_route.specs.Entries.{hits, kind_of, AreEntries}

@@ -1,6 +1,6 @@
 use Rattle.std.proofs.Common.{◌≡◌, List, IfOk, Some, length, slice_get, ap, subst, ◌∙◌}
 use Rattle.scenario_tables.specs.declared.scenario.Scenario.{Scenario}
-use Rattle.campaigns.specs.Counted.{AreCountedRuns}
+use Rattle.simulations.specs.Counted.{AreCountedRuns}
 use Rattle.scenario_runs.specs.Campaigns.{lane_scenario}
 use Rattle.scenario_runs.proofs.CampaignLemmas.{cycles_of_lanes, singles_length}
 use Rattle.scenario_runs.proofs.campaign.counts_of.Goals as goal

@@ -7,8 +7,8 @@ use Rattle.interconnect.specs.Memory.{host_in, agent_in}
 use Rattle.interconnect.specs.Streams.{dropped_signal}
 use Rattle.link_rules.specs.declared.plan_connections.StreamConnection.{StreamConnection}
 use Rattle.port_tables.specs.Ports.{name_at}
-use Rattle.host_stand_ins.specs.Steps.{all_steps}
-use Rattle.stream_stand_ins.specs.Sources.{keeping_at}
+use Rattle.stand_ins.specs.Steps.{all_steps}
+use Rattle.stand_ins.specs.Sources.{keeping_at}
 use Rattle.scenario_tables.specs.declared.statements.HostStatement.{HostStatement}
 use Rattle.scenario_tables.specs.declared.statements.AgentStatement.{AgentStatement}
 use Rattle.scenario_tables.specs.declared.statements.SourceStatement.{SourceStatement}

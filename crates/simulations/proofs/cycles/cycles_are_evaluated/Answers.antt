@@ -6,12 +6,12 @@ use Rattle.cycle_sim.specs.Sims.{present}
 use Rattle.histories.specs.History.{one_if}
 use Rattle.link_rules.specs.declared.plan_connections.StreamConnection.{StreamConnection}
 use Rattle.interconnect.specs.Memory.{host_in, agent_in}
-use Rattle.host_stand_ins.specs.Steps.{all_steps, shown}
+use Rattle.stand_ins.specs.Steps.{all_steps, shown}
 use Rattle.port_rows.specs.Agents.{AreShownBy}
 use Rattle.simulated_runs.specs.Ends.{stream_view}
-use Rattle.stream_stand_ins.specs.Sources.{Shows, beat_shown, keeping_at}
+use Rattle.stand_ins.specs.Sources.{Shows, beat_shown, keeping_at}
 use Rattle.benches.specs.Agents.{commanded, levels_with}
-use Rattle.stream_stand_ins.specs.Sinks.{ready_in}
+use Rattle.stand_ins.specs.Sinks.{ready_in}
 use Rattle.simulations.specs.Cycles.{run_with}
 use Rattle.simulations.proofs.Beside.{has, inside}
 use Rattle.simulations.proofs.Ends.{one_host, one_agent}

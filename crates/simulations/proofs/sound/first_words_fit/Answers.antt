@@ -1,9 +1,9 @@
 use Rattle.std.proofs.Common.{◌≡◌, ℕ, List, sym, subst}
-use Rattle.host_stand_ins.specs.Steps.{Step, shown}
+use Rattle.stand_ins.specs.Steps.{Step, shown}
 use Rattle.port_rows.specs.Hosts.{FitsPorts}
 use Rattle.interconnect.specs.Memory.{host_in, agent_in}
 use Rattle.simulated_runs.specs.Ends.{stream_view}
-use Rattle.stream_stand_ins.specs.Sources.{keeping_at}
+use Rattle.stand_ins.specs.Sources.{keeping_at}
 use Rattle.simulations.proofs.sound.first_words_fit.Goals as goal
 
 pub returns : goal.returns

@@ -6,7 +6,7 @@ use Rattle.cycle_sim.specs.Sims.{given_to, input_widths, present}
 use Rattle.memory_runs.specs.Legal.{Word as CodedWord}
 use Rattle.memory_plans.specs.Shown.{standing_still}
 use Rattle.port_rows.specs.Levels.{AllStand, set_levels}
-use Rattle.agent_stand_ins.specs.Whole.{word_now, word_shown, code_now, code_shown}
+use Rattle.stand_ins.specs.Whole.{word_now, word_shown, code_now, code_shown}
 use Rattle.benches.specs.Hosts as of_hosts
 use Rattle.benches.specs.Agents.{BenchAgentValue, commanded, gives_at_once, word_answered}
 use Rattle.benches.specs.Streams as of_streams

@@ -1,7 +1,7 @@
 use Rattle.std.proofs.Common.{◌≡◌, List, Ok, subst}
 use Rattle.std.specs.Prelude.{IfOk, IfErr}
 use Rattle.script_words.specs.Judgements.{IsFaultOf}
-use Rattle.component_types.specs.Tables.{ComponentTable}
+use Rattle.component_scripts.specs.Tables.{ComponentTable}
 use Rattle.system_scripts.specs.Clocks.{system_over}
 use Rattle.system_scripts.proofs.reading.read_system.Goals as goal
 

@@ -1,7 +1,7 @@
 use Rattle.std.proofs.Common.{ap, subst, sym, ◌∙◌}
 use Rattle.iface_roles.specs.declared.records.AgentPort.{AgentPort}
 use Rattle.iface_roles.specs.declared.records.Finished.TheVariants.{Agent}
-use Rattle.agent_stand_ins.specs.Whole.{IsFirst}
+use Rattle.stand_ins.specs.Whole.{IsFirst}
 use Rattle.benches.proofs.agents.Making.{an_end, known_is}
 use Rattle.benches.proofs.agents.all.agent_of_plan.Goals as goal
 

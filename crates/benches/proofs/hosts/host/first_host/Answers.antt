@@ -1,7 +1,7 @@
 use Rattle.std.proofs.Common.{sym, ap, ◌∙◌}
 use Rattle.iface_roles.specs.declared.records.HostPort.{HostPort}
 use Rattle.iface_roles.specs.declared.records.Finished.TheVariants.{Host}
-use Rattle.host_stand_ins.specs.Steps.{all_steps}
+use Rattle.stand_ins.specs.Steps.{all_steps}
 use Rattle.benches.proofs.hosts.host.first_host.Goals as goal
 
 pub returns : goal.returns

@@ -1,6 +1,6 @@
 use Rattle.std.proofs.Common.{◌≡◌, ◌+◌, ℕ, suc, sym, ap, ◌∙◌, arith}
 use Rattle.std.specs.Prelude.{◌==◌}
-use Rattle.stream_stand_ins.specs.Sources.{Keeping, keeping_at, keeping_behind}
+use Rattle.stand_ins.specs.Sources.{Keeping, keeping_at, keeping_behind}
 use Rattle.benches.specs.Streams.{is_answered}
 use Rattle.benches.proofs.streams.Lines.{lines_same}
 use Rattle.benches.proofs.streams.laws.streams_are_told.Goals as goal

@@ -1,6 +1,6 @@
 use Rattle.std.proofs.Common.{◌*◌, None, All, sym, subst}
 use Rattle.iface_roles.specs.declared.records.Finished.TheVariants.{Source, Sink}
-use Rattle.stream_stand_ins.specs.Sources.{Keeping}
+use Rattle.stand_ins.specs.Sources.{Keeping}
 use Rattle.benches.specs.Sound.{IsWithin}
 use Rattle.benches.proofs.streams.Keeping.{are_patterns, quiet, script_within}
 use Rattle.benches.proofs.streams.stream.first_stream.Goals as goal

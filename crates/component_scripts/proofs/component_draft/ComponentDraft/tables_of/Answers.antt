@@ -4,7 +4,7 @@ use Rattle.system_tables.specs.Names.{is_name}
 use Rattle.component_scripts.specs.declared.component.DeclaredInterface.{DeclaredInterface}
 use Rattle.script_words.specs.Judgements.{first_some}
 use Rattle.component_scripts.specs.Component.{interface_table, interface_refusal}
-use Rattle.component_types.specs.Tables.{IsSound}
+use Rattle.component_scripts.specs.Tables.{IsSound}
 use Rattle.std.proofs.lemmas.List.{at_drop_all, map_more}
 use Rattle.std.proofs.lemmas.List.Elements.{All-push}
 use Rattle.component_scripts.proofs.ComponentDraftLemmas.{first_some-more}

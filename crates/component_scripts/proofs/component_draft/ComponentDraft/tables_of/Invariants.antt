@@ -2,7 +2,7 @@ use Rattle.std.proofs.Common.{◌≡◌, map, take, drop}
 use Rattle.std.specs.Prelude.{All}
 use Rattle.component_scripts.specs.Component.{interface_table, interface_refusal}
 use Rattle.script_words.specs.Judgements.{first_some}
-use Rattle.component_types.specs.Tables.{IsSound}
+use Rattle.component_scripts.specs.Tables.{IsSound}
 use Rattle.component_scripts.proofs.component_draft.ComponentDraft.tables_of.Given as goal
 
 abbrev pub invariant-loop-declared : goal.invariant-loop-declared

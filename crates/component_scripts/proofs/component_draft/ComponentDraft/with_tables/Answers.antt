@@ -5,7 +5,7 @@ use Rattle.system_tables.specs.Names.{is_name}
 use Rattle.std.specs.List.{IsDistinct}
 use Rattle.std.specs.Str.{bytes_eq}
 use Rattle.system_tables.specs.declared.tables.InterfaceTable.{InterfaceTable}
-use Rattle.component_types.specs.Tables.{HasNamesOf}
+use Rattle.component_scripts.specs.Tables.{HasNamesOf}
 use Rattle.component_scripts.proofs.ComponentDraftLemmas.{names_of-tables}
 use Rattle.component_scripts.proofs.component_draft.ComponentDraft.with_tables.Goals as goal
 

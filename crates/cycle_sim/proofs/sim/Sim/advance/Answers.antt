@@ -3,7 +3,7 @@ use Rattle.std.proofs.lemmas.Bool.{false≢true}
 use Rattle.av_base.specs.Word.{Word}
 use Rattle.netlist.specs.Runs.{Steps}
 use Rattle.cycle_sim.specs.Sims.{ArePlaces, SimValue, cycle_with, present}
-use Rattle.net_readers.specs.Readers.{StayStale}
+use Rattle.cycle_sim.specs.Readers.{StayStale}
 use Rattle.cycle_sim.specs.Settled.{AreSettled}
 use Rattle.cycle_sim.specs.Standing.{StandsFor, with_cycle}
 use Rattle.cycle_sim.proofs.Values.{refilled}

@@ -1,5 +1,5 @@
 use Rattle.std.proofs.Common.{◌≡◌, ◌<◌, ℕ, length}
-use Rattle.lane_words.specs.LaneWords.{word_in}
+use Rattle.lane_sim.specs.LaneWords.{word_in}
 use Rattle.lane_runs.proofs.inputs.Random.values.Given as goal
 
 abbrev pub invariant-loop-lane : goal.invariant-loop-lane

@@ -5,7 +5,7 @@ use Rattle.av_base.specs.Word.{Word}
 use Rattle.netlist.specs.Netlists.{IsValue, memory_of}
 use Rattle.netlist.specs.Runs.{word_after}
 use Rattle.cycle_sim.specs.Sims.{ArePlaces, bits_at, cycle_with, place_of}
-use Rattle.lane_words.specs.LaneWords.{value_at}
+use Rattle.lane_sim.specs.LaneWords.{value_at}
 use Rattle.lane_sim.specs.LaneSims.{CellsValue, lane_words}
 use Rattle.lane_sim.proofs.LaneLists.{lane_count, lane_read}
 use Rattle.lane_sim.proofs.Access.{operand_fits, address_is, address_small, place_is, in_words, sum_small}

@@ -1,8 +1,8 @@
 use Rattle.std.proofs.Common.{◌≡◌, ℕ, ◌+◌, ◌<◌, ◌++◌, List, length, take, drop, true, false, sym, subst, ◌∙◌, arith}
 use Rattle.std.proofs.lemmas.Bool.{false≢true}
 use Rattle.av_base.specs.Word.{Word}
-use Rattle.lane_words.specs.LaneWords.{LaneWord}
-use Rattle.net_readers.specs.Readers.{StayStale}
+use Rattle.lane_sim.specs.LaneWords.{LaneWord}
+use Rattle.cycle_sim.specs.Readers.{StayStale}
 use Rattle.cycle_sim.specs.Settled.{AreSettled}
 use Rattle.lane_sim.specs.LaneSims.{CellsValue, IsEdge, LanesValue, cells_at, lane_of, lane_words}
 use Rattle.lane_sim.proofs.Values.{refilled}

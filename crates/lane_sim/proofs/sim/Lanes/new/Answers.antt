@@ -1,7 +1,7 @@
 use Rattle.std.proofs.Common.{◌≡◌, ◌+◌, false, length, Some, refl, ap, ◌∙◌, arith}
 use Rattle.std.proofs.lemmas.Bool.{false≢true}
 use Rattle.std.proofs.lemmas.Option.{slice_get-get_or}
-use Rattle.net_readers.specs.Readers.{block_count}
+use Rattle.cycle_sim.specs.Readers.{block_count}
 use Rattle.cycle_sim.specs.Sims.{place_of}
 use Rattle.lane_sim.specs.LaneSims.{cells_at, lane_words}
 use Rattle.lane_sim.proofs.Settling.{settled_none}

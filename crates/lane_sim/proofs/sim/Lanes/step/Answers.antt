@@ -2,7 +2,7 @@ use Rattle.std.proofs.Common.{◌≡◌, ℕ, List, ◌<◌, true, sym, subst, a
 use Rattle.av_base.specs.Word.{Word}
 use Rattle.netlist.specs.Runs.{IsValuation}
 use Rattle.cycle_sim.specs.Sims.{cycle_with}
-use Rattle.lane_words.specs.LaneWords.{LaneWord}
+use Rattle.lane_sim.specs.LaneWords.{LaneWord}
 use Rattle.lane_sim.specs.LaneSims.{AreLaneCells, AreLanesSettled, CellsValue, IsStepWith, LanesValue, cells_at, lane_of, lane_words}
 use Rattle.lane_sim.proofs.Values.{refilled}
 use Rattle.lane_sim.proofs.LaneLists.{first}

@@ -1,7 +1,7 @@
 use Rattle.std.proofs.Common.{◌<◌, length, sym, subst, ap}
 use Rattle.av_base.specs.Word.{Word}
 use Rattle.netlist.specs.Netlists.{HasWidth}
-use Rattle.lane_words.specs.LaneWords.{value_at}
+use Rattle.lane_sim.specs.LaneWords.{value_at}
 use Rattle.lane_sim.specs.LaneSims.{LanesValue, lane_words}
 use Rattle.lane_sim.proofs.Lines.{value_width}
 use Rattle.lane_sim.proofs.LaneLists.{first, lane_read}

@@ -1,6 +1,6 @@
 use Rattle.port_rows.proofs.host_ends.Fitting.{script_fits, left_before_fits, shown_fits}
-use Rattle.host_stand_ins.specs.Steps.{all_steps}
-use Rattle.host_stand_ins.specs.StandIns.{left_before}
+use Rattle.stand_ins.specs.Steps.{all_steps}
+use Rattle.stand_ins.specs.HostsStandIns.{left_before}
 use Rattle.port_rows.proofs.host_ends.laws.shown_hosts_fit.Goals as goal
 
 pub returns : goal.returns

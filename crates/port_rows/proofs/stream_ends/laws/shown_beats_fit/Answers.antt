@@ -1,6 +1,6 @@
 use Rattle.std.proofs.Common.{None}
-use Rattle.stream_stand_ins.specs.Steps.{left_before, steps_of}
-use Rattle.stream_stand_ins.specs.Sources.{port_pace}
+use Rattle.stand_ins.specs.StreamsSteps.{left_before, steps_of}
+use Rattle.stand_ins.specs.Sources.{port_pace}
 use Rattle.port_rows.proofs.stream_ends.Fitting.{script_fits, left_before_fits, next_fits}
 use Rattle.port_rows.proofs.stream_ends.laws.shown_beats_fit.Goals as goal
 

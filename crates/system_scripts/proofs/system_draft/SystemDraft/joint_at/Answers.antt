@@ -1,6 +1,6 @@
 use Rattle.std.proofs.Common.{ap, ◌∙◌}
 use Rattle.std.specs.Prelude.{position}
-use Rattle.system_words.specs.Joints.{same_link}
+use Rattle.script_words.specs.Joints.{same_link}
 use Rattle.system_scripts.specs.System.{link_of}
 use Rattle.script_words.specs.Laws.{position-map}
 use Rattle.system_scripts.proofs.system_draft.SystemDraft.joint_at.Goals as goal

@@ -1,8 +1,8 @@
 use Rattle.std.proofs.Common.{◌≡◌, Some, set, sym, ap, ◌∙◌, arith}
 use Rattle.system_scripts.specs.System.{joint_place}
-use Rattle.system_words.specs.Commands.{parameter_named}
+use Rattle.script_words.specs.Commands.{parameter_named}
 use Rattle.script_words.specs.Words.{text_at}
-use Rattle.system_words.specs.declared.joints.Joint.{Joint}
+use Rattle.script_words.specs.declared.system.joints.Joint.{Joint}
 use Rattle.system_scripts.proofs.SystemDraftLemmas.{shown, IsSetAt, joint_place-within, parameter_not_exceeds, parameter_stated, ends_and_kind, ends_and_kind-with_number, IsSystemDraft-set}
 use Rattle.system_scripts.proofs.system_draft.SystemDraft.state_parameter.Goals as goal
 

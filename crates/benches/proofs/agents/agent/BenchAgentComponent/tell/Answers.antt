@@ -1,6 +1,6 @@
 use Rattle.std.proofs.Common.{◌≡◌, false, ap, subst, sym, ◌∙◌}
 use Rattle.memory_runs.specs.Views.{Levels}
-use Rattle.agent_stand_ins.specs.Whole.{AgentStandInValue, accepts}
+use Rattle.stand_ins.specs.Whole.{AgentStandInValue, accepts}
 use Rattle.benches.specs.Agents.{BenchAgentValue, commanded}
 use Rattle.benches.proofs.agents.Reading.{nothing_told}
 use Rattle.benches.proofs.agents.agent.BenchAgentComponent.tell.Goals as goal

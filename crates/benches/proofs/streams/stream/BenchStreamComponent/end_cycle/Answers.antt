@@ -1,5 +1,5 @@
 use Rattle.std.proofs.Common.{◌*◌, All, sym, subst}
-use Rattle.stream_stand_ins.specs.Sources.{Keeping}
+use Rattle.stand_ins.specs.Sources.{Keeping}
 use Rattle.benches.specs.Sound.{IsWithin}
 use Rattle.benches.proofs.streams.Keeping.{behind_within}
 use Rattle.benches.proofs.streams.stream.BenchStreamComponent.end_cycle.Goals as goal

@@ -1,9 +1,0 @@
-pub mod Contents
-pub mod Codes
-pub mod Answers
-pub mod StandIns
-pub mod Memory
-pub mod Kept
-pub mod Whole
-pub mod Worked
-pub mod ByteLaws

@@ -1,9 +1,0 @@
-use Rattle.std.proofs.Common.{◌≡◌, ◌<◌, ℕ, length, slice_get, Some}
-use Rattle.campaigns.specs.declared.lane_bench.LaneBench.{LaneBench}
-use Rattle.campaigns.proofs.counted.counts_in.Given as goal
-
-abbrev pub invariant-loop-lane : goal.invariant-loop-lane
-invariant-loop-lane l = record {
-  count : length l.counts ≡ 8;
-  done : (k : ℕ) (lane : LaneBench) → k < l.lane → slice_get l.benches k ≡ Some lane → slice_get l.counts k ≡ Some lane.counts;
-}

@@ -1,5 +1,0 @@
-use Rattle.campaigns.proofs.Begun.{AreBegun}
-use Rattle.campaigns.proofs.counted.first_benches.Given as goal
-
-abbrev pub invariant-scenarios : goal.invariant-scenarios
-invariant-scenarios l = AreBegun l.plan l.scenarios l.module l.scenario-index l.benches.items

@@ -1,5 +1,0 @@
-use Rattle.fed_runs.proofs.Feeding.{runs_go_on}
-use Rattle.fed_runs.proofs.runs_can_be_fed.Goals as goal
-
-pub returns : goal.returns
-returns c = runs_go_on c.goes_on.ensures c.has_valuation.ensures

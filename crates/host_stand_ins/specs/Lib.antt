@@ -1,4 +1,0 @@
-pub mod Steps
-pub mod StandIns
-pub mod Kept
-pub mod Worked

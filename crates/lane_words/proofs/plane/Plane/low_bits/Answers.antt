@@ -1,6 +1,0 @@
-use Rattle.std.proofs.Common.{◌∙◌}
-use Rattle.lane_words.proofs.PlaneLemmas.{masked}
-use Rattle.lane_words.proofs.plane.Plane.low_bits.Goals as goal
-
-pub returns : goal.returns
-returns c j lt = c.and.ensures j lt ∙ masked _ _ _ (c.full.ensures j lt)

@@ -1,7 +1,0 @@
-use Rattle.std.proofs.Common.{◌≡◌, ℕ, ◌/◌, ◌^◌, ◌∙◌, ap}
-use Rattle.lane_words.specs.LaneWords.{value_at, LaneWord}
-use Rattle.lane_words.proofs.Halves.{high_half}
-use Rattle.lane_words.proofs.value.LaneVal.high.Goals as goal
-
-pub returns : goal.returns
-returns c j lt = high_half _ _ (c.self.invariant.low.fit j lt) ∙ ap (λ (x : LaneWord). (value_at x j).bits / 2 ^ 64) c.self.view_is

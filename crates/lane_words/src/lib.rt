@@ -1,7 +1,0 @@
-//! Values in eight lanes, each a pair of planes of eight 64-bit numbers, and the operators on them.
-#![tactic(auto)]
-
-mod plane;
-mod value;
-
-pub use value::LaneVal;

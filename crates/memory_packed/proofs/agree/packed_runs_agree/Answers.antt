@@ -1,5 +1,0 @@
-use Rattle.memory_packed.proofs.Beginnings.{same_packed}
-use Rattle.memory_packed.proofs.agree.packed_runs_agree.Goals as goal
-
-pub returns : goal.returns
-returns c = λ system one two host agent end same once. same_packed system one two end same host agent once

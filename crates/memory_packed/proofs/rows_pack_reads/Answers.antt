@@ -1,7 +1,0 @@
-use Rattle.memory_packed.proofs.Rows.{row_packs}
-use Rattle.memory_packed.proofs.rows_pack_reads.Goals as goal
-
-pub returns : goal.returns
-returns c = λ target top middle low down end cuts fits drops below packs narrow words times some span enables legal.
-    row_packs target end (record { packed = c.packed_rows.ensures.packs; wire = c.equal_words_pack.ensures.wire; cut = c.equal_words_pack.ensures.cut; cut_legal = c.cut_brings_bursts.ensures.legal; select = c.selectors_pack.ensures })
-    top middle low down cuts fits drops below packs narrow words times some span enables legal

@@ -1,8 +1,0 @@
-//! Plain commands go straight through the parts next to hosts and agents and through routes, and first beats are shown promptly.
-#![tactic(auto)]
-
-pub mod agents;
-pub mod examples;
-pub mod hosts;
-pub mod routes;
-pub mod rows;

@@ -1,8 +1,0 @@
-use Rattle.memory_tests.proofs.AheadKept.{travel_leads, travel_asked}
-use Rattle.memory_tests.proofs.awake.reads_travel.Goals as goal
-
-pub returns-clause-leads : goal.returns-clause-leads
-returns-clause-leads c = travel_leads
-
-pub returns-clause-asked : goal.returns-clause-asked
-returns-clause-asked c = travel_asked

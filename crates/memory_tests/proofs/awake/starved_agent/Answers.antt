@@ -1,8 +1,0 @@
-use Rattle.memory_tests.proofs.IdleRuns.{passing_asleep, starves}
-use Rattle.memory_tests.proofs.awake.starved_agent.Goals as goal
-
-pub returns-clause-asleep : goal.returns-clause-asleep
-returns-clause-asleep c = passing_asleep
-
-pub returns-clause-refused : goal.returns-clause-refused
-returns-clause-refused c = starves

@@ -1,8 +1,0 @@
-use Rattle.memory_tests.proofs.IdleRuns.{swallow_asleep, swallows}
-use Rattle.memory_tests.proofs.awake.swallowed_word.Goals as goal
-
-pub returns-clause-asleep : goal.returns-clause-asleep
-returns-clause-asleep c = swallow_asleep
-
-pub returns-clause-refused : goal.returns-clause-refused
-returns-clause-refused c = swallows

@@ -1,5 +1,0 @@
-use Rattle.memory_tests.proofs.AheadKept.{leads_ahead}
-use Rattle.memory_tests.proofs.awake.waiting_host_leads_ahead.Goals as goal
-
-pub returns : goal.returns
-returns c = leads_ahead (record { back = c.host_and_route_keep_nothing_back.ensures.back; closed = c.host_and_route_keep_nothing_back.ensures.left_open })

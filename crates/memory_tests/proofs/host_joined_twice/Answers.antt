@@ -1,5 +1,0 @@
-use Rattle.std.proofs.Common.{arith}
-use Rattle.memory_tests.proofs.host_joined_twice.Goals as goal
-
-pub returns-clause-broken : goal.returns-clause-broken
-returns-clause-broken c = λ full. let bad = (full 2 (omega arith) (omega arith)).0 in omega (arith, bad)

@@ -1,8 +1,0 @@
-use Rattle.memory_tests.proofs.PartTwins.{without_limiter_is_not, by_each_address_is_not}
-use Rattle.memory_tests.proofs.parts.wrong_routes.Goals as goal
-
-pub returns-clause-without_limiter : goal.returns-clause-without_limiter
-returns-clause-without_limiter c = without_limiter_is_not
-
-pub returns-clause-by_each_address : goal.returns-clause-by_each_address
-returns-clause-by_each_address c = by_each_address_is_not

@@ -1,5 +1,0 @@
-use Rattle.std.proofs.Common.{◌≡◌, [], replicate}
-use Rattle.net_readers.proofs.readers.BlockLists.blank.Given as goal
-
-abbrev pub invariant-lists : goal.invariant-lists
-invariant-lists l = l.lists.items ≡ replicate l.counter []

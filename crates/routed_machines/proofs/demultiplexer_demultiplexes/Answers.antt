@@ -1,5 +1,0 @@
-use Rattle.routed_machines.proofs.demultiplexer_demultiplexes.Goals as goal
-use Rattle.routed_machines.proofs.DemultiplexerLaw
-
-pub returns : goal.returns
-returns c = λ demux run count is some legal. DemultiplexerLaw.demultiplexed demux run is some count legal

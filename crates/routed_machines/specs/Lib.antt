@@ -1,4 +1,0 @@
-pub mod Beats
-pub mod Multiplexing
-pub mod Demultiplexing
-pub mod Gathering

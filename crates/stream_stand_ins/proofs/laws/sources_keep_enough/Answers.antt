@@ -1,8 +1,0 @@
-use Rattle.stream_stand_ins.proofs.KeepingLemmas.{beat_kept_is_shown, keeping_goes_on}
-use Rattle.stream_stand_ins.proofs.laws.sources_keep_enough.Goals as goal
-
-pub returns-clause-shows : goal.returns-clause-shows
-returns-clause-shows c = beat_kept_is_shown
-
-pub returns-clause-goes_on : goal.returns-clause-goes_on
-returns-clause-goes_on c = keeping_goes_on

@@ -1,5 +1,0 @@
-use Rattle.stream_stand_ins.proofs.StepLemmas.{put_first}
-use Rattle.stream_stand_ins.proofs.sources.put_latest.Goals as goal
-
-pub returns : goal.returns
-returns c = put_first c.args.lately.now c.rotate_right.new.self c.args.ready c.told-lately c.rotate_right.ensures.after
