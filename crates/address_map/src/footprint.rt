@@ -24,9 +24,11 @@ pub struct Footprint {
     pub writes: bool,
 }
 
-fn range(host: &HostPort) -> u64
+/// How many bytes a host's addresses reach.
+pub fn range(host: &HostPort) -> u64
     requires { IsBoundedHost host.now }
-    ensures { result ≡ range_of host.now }
+    ensures value { result ≡ range_of host.now }
+    ensures small { result ≤ 2 ^ 32 }
 {
     let addresses = 2u64.pow(u32::from(host.address_bits));
     if host.byte_units {

@@ -11,7 +11,7 @@ mod maps;
 
 pub use ends::Ends;
 pub use faults::MapFault;
-pub use footprint::{Footprint, span};
+pub use footprint::{Footprint, range, span};
 pub use host_map::MapEntry;
 pub use hosts::mm_ends;
 pub use laws::{

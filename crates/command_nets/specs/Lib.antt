@@ -1,4 +1,4 @@
 pub mod Nets
 pub mod Groups
-pub mod Levels
+pub use Rattle.net_parts.specs.Levels
 pub mod Ports

@@ -10,9 +10,8 @@ ghost use Rattle.net_parts.specs.Growth.{GrowsBy, AddsNets, StillWait, WaitsBesi
 ghost use Rattle.command_nets.specs.Nets.{group_of, AreCommandNets, AreAnswerNets, raw_in};
 ghost use Rattle.command_nets.specs.Groups.{HaveSameWidths, IsOfCommand, StartsEmpty, TakeNextCommand, IsDelayed, IsDelayedAnswer, is_shown, hidden};
 
-use crate::bits::both;
 use crate::nets::{AnswerNets, CommandNets};
-use net_parts::{choose_all, low_register, low_registers, set_all_next};
+use net_parts::{both, choose_all, low_register, low_registers, set_all_next};
 use netlist::{Builder, Net, NetFault};
 
 /// Registers of the widths of a command's nets, that begin at 0.

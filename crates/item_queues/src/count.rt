@@ -1,4 +1,4 @@
-//! The count of the items of a queue, and registers that begin at 0.
+//! The count of the items of a queue.
 
 ghost use Rattle.std.specs.Prelude.{◌≡◌, ℕ, ◌+◌, ◌^◌, ◌<◌, ◌≤◌, length, IfOk, OnOk};
 ghost use Rattle.netlist.specs.Netlists.{IsNet, IsWaiting};
@@ -8,40 +8,8 @@ ghost use Rattle.net_parts.specs.Growth.{GrowsBy, AddsNets, StillWait, WaitsBesi
 ghost use Rattle.item_queues.specs.Steps.{CountsOn, IsNextCount};
 
 use crate::bits::count_bits;
-use av_base::Val;
-use net_parts::fit_bits;
+use net_parts::{fit_bits, register, take_next};
 use netlist::{Builder, Net, NetFault};
-
-/// A register that begins at 0.
-pub(crate) fn register(builder: &mut Builder, bits: u8) -> Result<Net, NetFault>
-    requires some { 1 ≤ bits }
-    requires few { bits ≤ 128 }
-    ensures net { IfOk result (λ made. IsNetOfWidth builder.new made bits) }
-    ensures number { IfOk result (λ made. made.number ≡ length builder.old.lines) }
-    ensures count { OnOk result (length builder.new.lines ≡ length builder.old.lines + 1) }
-    ensures starts { IfOk result (λ made. StartsLow builder.new made) }
-    ensures waits { IfOk result (λ made. IsWaiting builder.new made.number) }
-    ensures grows { GrowsBy 1 builder.old builder.new }
-    ensures still_wait { StillWait builder.old builder.new }
-    ensures newly { IfOk result (λ made. WaitsBeside (λ n. n ≡ made.number) builder.old builder.new) }
-    ensures full { result ≡ Err NetFault.TooManyNets → 2 ^ 20 < length builder.old.lines + 1 }
-{
-    builder.reg(Val::new(bits, 0).unwrap())
-}
-
-/// Gives a register its next net.
-pub(crate) fn take_next(builder: &mut Builder, register: Net, next: Net)
-    requires register { IsNet builder.old register }
-    requires waits { IsWaiting builder.old register.number }
-    requires next { IsNet builder.old next }
-    requires widths { register.width ≡ next.width }
-    ensures value { TakesNext builder.new register next }
-    ensures grows { GrowsBy 0 builder.old builder.new }
-    ensures still_wait { (n : ℕ) → ¬ (n ≡ register.number) → IsWaiting builder.old n → IsWaiting builder.new n }
-    ensures no_more_wait { WaitsWithout (λ n. n ≡ register.number) builder.old builder.new }
-{
-    builder.set_next(register, next);
-}
 
 /// A count up to this bound, that begins at 0.
 pub(crate) fn hold_count(builder: &mut Builder, bound: u8) -> Result<Net, NetFault>
@@ -81,12 +49,7 @@ fn next_count(builder: &mut Builder, count: Net, comes: Net, goes: Net) -> Resul
 
 /// Lets the count rise where an item comes, and fall where one goes.
 #[tactic(auto, using(net_parts::specs::Laws::growing))]
-pub(crate) fn move_count(
-    builder: &mut Builder,
-    count: Net,
-    comes: Net,
-    goes: Net,
-) -> Result<(), NetFault>
+pub fn move_count(builder: &mut Builder, count: Net, comes: Net, goes: Net) -> Result<(), NetFault>
     requires count { IsNet builder.old count }
     requires comes { IsBit builder.old comes }
     requires goes { IsBit builder.old goes }

@@ -20,8 +20,9 @@ mod storage;
 mod stored;
 
 pub use bits::{address_bits, count_bits};
+pub use count::move_count;
 pub use laws::stored_queue_keeps_few_bits;
-pub use pointers::Pointers;
+pub use pointers::{Pointers, move_pointer};
 pub use queue::{
     ItemQueue, finish_queue, has_room, hold_items, make_queue, read_oldest, show_oldest,
 };

@@ -119,8 +119,7 @@ fn shift_place<const N: usize>(
 }
 
 /// Gives the places their next nets: where the bit is high the item below comes into the first of them, and each other place
-/// takes
-/// the item of the one before it.
+/// takes the item of the one before it.
 pub(crate) fn shift_places<const N: usize>(
     builder: &mut Builder,
     places: &[[Net; N]],

@@ -7,8 +7,7 @@ ghost use Rattle.net_parts.specs.Growth.{GrowsBy, StillWait, WaitsBeside, WaitsW
 ghost use Rattle.item_queues.specs.Steps.{MovesBy};
 ghost use Rattle.item_queues.specs.Registers.{owns_pointers, ArePointers, PointersGoOn};
 
-use crate::count::{register, take_next};
-use net_parts::fit_bits;
+use net_parts::{fit_bits, register, take_next};
 use netlist::{Builder, Net, NetFault};
 
 /// Two places of memories, in registers.
@@ -40,7 +39,7 @@ pub(crate) fn hold_pointers(builder: &mut Builder, address_bits: u8) -> Result<P
 
 /// Lets a pointer go on by a place where the bit is high, and from the last place to the first.
 #[tactic(auto, using(net_parts::specs::Laws::growing))]
-fn move_pointer(builder: &mut Builder, pointer: Net, moves: Net) -> Result<(), NetFault>
+pub fn move_pointer(builder: &mut Builder, pointer: Net, moves: Net) -> Result<(), NetFault>
     requires pointer { IsNet builder.old pointer }
     requires moves { IsBit builder.old moves }
     requires waits { IsWaiting builder.old pointer.number }

@@ -1,6 +1,5 @@
 //! Items in memories, a memory for each net of an item: they stand in a row from the place of the oldest one on, and from the
-//! last
-//! place to the first.
+//! last place to the first.
 
 ghost use Rattle.std.specs.Prelude.{◌≡◌, ℕ, ◌+◌, ◌^◌, ◌<◌, ◌≤◌, ◌⊎◌, length, IfOk, OnOk};
 ghost use Rattle.netlist.specs.Netlists.{IsWaiting, WaitsForWrite};

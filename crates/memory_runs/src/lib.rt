@@ -1,4 +1,4 @@
-//! What a memory-mapped run must be at the ports of its hosts and agents, and laws about it.
+//! What a memory-mapped run must be at the ports of its hosts and agents, that a legal run goes on, and laws about it.
 #![tactic(auto)]
 
 pub mod going;
@@ -18,8 +18,8 @@ ghost use Rattle.memory_runs.specs.Beginnings.{RunsAgreeBefore};
 ghost use Rattle.memory_runs.specs.Whole.{IsLegalRun, IsSafe};
 
 pub use plain::{
-    BeatValue, ByteOperation, End, Transfer, filled_lanes, footprint, longest_burst, operations_of,
-    own_operations,
+    BeatValue, ByteOperation, End, Transfer, byte_at, filled_lanes, footprint, is_enabled,
+    longest_burst, operations_of, own_operations,
 };
 
 /// Histories only grow, and a prefix of a legal run is legal.

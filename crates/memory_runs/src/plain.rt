@@ -57,7 +57,7 @@ pub fn footprint(span: u64, word_bytes: u64) -> u64
 }
 
 /// Whether a lane is enabled.
-fn is_enabled(enables: u16, lane: u32) -> bool
+pub fn is_enabled(enables: u16, lane: u32) -> bool
     requires { lane < 16 }
     ensures { result ≡ is_lane_enabled enables lane }
 {
@@ -65,7 +65,7 @@ fn is_enabled(enables: u16, lane: u32) -> bool
 }
 
 /// The byte in a lane of a word.
-fn byte_at(word: u128, lane: u32) -> u8
+pub fn byte_at(word: u128, lane: u32) -> u8
     requires { lane < 16 }
     ensures { result ≡ byte_of_lane word lane }
 {

@@ -2,6 +2,7 @@ pub mod Nets
 pub mod Growth
 pub mod Laws
 pub mod Refusing
+pub mod Levels
 pub mod Bits
 pub mod Counts
 pub mod Histories

@@ -206,8 +206,7 @@ few_more gives comes room held item = by_given gives
     by_given false = omega (arith, length-append held (coming (comes && room) item), by_comes comes room)
 
 -- a row that begins empty and moves from cycle to cycle is a list, oldest first: an item that comes while there is room stands at
--- its end,
--- and where one goes, the oldest goes
+-- its end, and where one goes, the oldest goes
 module _ {X : Type 0} (places : ℕ → List (Place X)) (gives comes : ℕ → Bool) (item : ℕ → X) (starts : AllEmpty (places 0))
     (moves : (c : ℕ) → PlacesMove (places c) (places (c + 1)) (gives c) (comes c) (item c)) where
   next : (c : ℕ) → c + 1 ≡ suc c

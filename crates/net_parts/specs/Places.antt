@@ -45,8 +45,7 @@ taken_place shift here item [] = record { full = here; item = item }
 taken_place shift here item (behind ∷ row) = if shift && behind.full then behind else record { full = here; item = item }
 
 -- a place in the next cycle: it loads where it is empty or the row shifts. `here` says whether an item comes into it, and
--- `behind`
--- whether one comes into the next place
+-- `behind` whether one comes into the next place
 abbrev pub loaded_place : {X : Type 0} → Bool → Bool → Bool → X → Place X → List (Place X) → Place X
 loaded_place shift here behind item place row =
     if not place.full || shift then taken_place shift (if shift then behind else here) item row else place

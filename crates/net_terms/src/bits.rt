@@ -7,10 +7,9 @@ ghost use Rattle.net_parts.specs.Nets.{IsBit};
 ghost use Rattle.net_parts.specs.Growth.{fit_nets};
 ghost use Rattle.net_parts.specs.Laws.{net_lasts};
 
-use crate::makers::{
-    always, both, choose_bit, either, is_any, is_equal, is_less, is_zero, just_one, turned,
-};
+use crate::makers::{always, choose_bit, is_any, is_equal, is_less, is_zero, just_one};
 use crate::terms::{Bit, Word};
+use net_parts::{both, either, turned};
 use netlist::{Builder, Net, NetFault};
 
 /// A net of one bit.

@@ -8,7 +8,7 @@ ghost use Rattle.net_parts.specs.Nets.{IsBit, IsNetOfWidth};
 ghost use Rattle.net_parts.specs.Growth.{AddsNets, fit_nets};
 
 use av_base::Val;
-use net_parts::{choose, fit_bits};
+use net_parts::{choose, fit_bits, turned};
 use netlist::{Builder, Mem, Net, NetFault};
 
 /// One of two bits: the first where the other bit is high.
@@ -237,47 +237,6 @@ pub(crate) fn always(builder: &mut Builder, high: bool) -> Result<Net, NetFault>
     ensures full { result ≡ Err NetFault.TooManyNets → 2 ^ 20 < length builder.old.lines + 1 }
 {
     net_parts::level(builder, high)
-}
-
-/// High where both bits are.
-#[tactic(auto, using(net_parts::specs::Laws::growing))]
-pub(crate) fn both(builder: &mut Builder, a: Net, b: Net) -> Result<Net, NetFault>
-    requires a { IsBit builder.old a }
-    requires b { IsBit builder.old b }
-    ensures net { IfOk result (λ net. IsBit builder.new net) }
-    ensures value { IfOk result (λ net. Always builder.new (λ cycle. is_raised (cycle.net net.number)
-        ≡ (is_raised (cycle.net a.number) && is_raised (cycle.net b.number)))) }
-    ensures adds { AddsNets 1 builder.old builder.new }
-    ensures full { result ≡ Err NetFault.TooManyNets → 2 ^ 20 < length builder.old.lines + 1 }
-{
-    builder.and(a, b)
-}
-
-/// High where one of the bits is.
-#[tactic(auto, using(net_parts::specs::Laws::growing))]
-pub(crate) fn either(builder: &mut Builder, a: Net, b: Net) -> Result<Net, NetFault>
-    requires a { IsBit builder.old a }
-    requires b { IsBit builder.old b }
-    ensures net { IfOk result (λ net. IsBit builder.new net) }
-    ensures value { IfOk result (λ net. Always builder.new (λ cycle. is_raised (cycle.net net.number)
-        ≡ (is_raised (cycle.net a.number) || is_raised (cycle.net b.number)))) }
-    ensures adds { AddsNets 1 builder.old builder.new }
-    ensures full { result ≡ Err NetFault.TooManyNets → 2 ^ 20 < length builder.old.lines + 1 }
-{
-    builder.or(a, b)
-}
-
-/// High where the bit is low.
-#[tactic(auto, using(net_parts::specs::Laws::growing))]
-pub(crate) fn turned(builder: &mut Builder, a: Net) -> Result<Net, NetFault>
-    requires a { IsBit builder.old a }
-    ensures net { IfOk result (λ net. IsBit builder.new net) }
-    ensures value { IfOk result (λ net. Always builder.new (λ cycle. is_raised (cycle.net net.number)
-        ≡ not (is_raised (cycle.net a.number)))) }
-    ensures adds { AddsNets 1 builder.old builder.new }
-    ensures full { result ≡ Err NetFault.TooManyNets → 2 ^ 20 < length builder.old.lines + 1 }
-{
-    builder.not(a)
 }
 
 /// High where just one of the bits is.

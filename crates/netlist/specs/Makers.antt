@@ -9,8 +9,7 @@ use Rattle.netlist.specs.Runs.{Cycle, NetHolds, Always}
 use Rattle.netlist.specs.Longer.{Extends, GrowsByOne}
 
 -- the netlist has one more line, of this width and equation, and the outcome is its net, of which this holds in each cycle. After
--- a
--- refusal the netlist is as it was; TooManyNets comes exactly where it was full
+-- a refusal the netlist is as it was; TooManyNets comes exactly where it was full
 pub record Appends (old new : Netlist) (outcome : Result NetValue NetFault) (width : ℕ) (equation : Equation)
     (holds : ℕ → Cycle → Type 0) : Type 0 where
   pub line : IfOk outcome (λ n. (new ≡ appended old (line_of width equation)) × (n ≡ net_of (length old.lines) width))

@@ -77,8 +77,7 @@ word_after before write m address =
     else before.cell m address
 
 -- the clock's edge between two cycles: each register takes what its next net was, and each memory what its write puts; one that
--- waits
--- for either takes anything
+-- waits for either takes anything
 pub record Steps (netlist : Netlist) (before after : Cycle) : Type 0 where
   pub registers : (n : ℕ) (line : Line) → slice_get netlist.lines n ≡ Some line
       → IfSome (next_of line) (λ m. after.net n ≡ before.net m)

@@ -9,8 +9,8 @@ ghost use Rattle.net_parts.specs.Growth.{GrowsBy, AddsNets, StillWait, WaitsBesi
 ghost use Rattle.command_nets.specs.Ports.{HasNet, value_or};
 ghost use Rattle.read_queues.specs.Held.{owns_words, AreWordNets, AreWordsHeld, AreWordsOf, AnswersOldest, GotGoesOn, entry, entry_of, has_counts, count_width, bits_of};
 
-use command_nets::{both, register, take_next};
-use net_parts::{choose, constant};
+use command_nets::count_until;
+use net_parts::{both, constant, register, take_next};
 use netlist::{Builder, Net, NetFault};
 
 /// How many words the oldest read has, and how many of them came.
@@ -108,32 +108,6 @@ pub(crate) fn word_of(
     }
 }
 
-/// The words of the oldest read that came, after a cycle: none of the next read where the last one came.
-#[tactic(auto, using(net_parts::specs::Laws::growing))]
-fn next_got(
-    builder: &mut Builder,
-    got: Net,
-    more: Net,
-    came: Net,
-    last: Net,
-) -> Result<Net, NetFault>
-    requires got { IsNet builder.old got }
-    requires more { IsNetOfWidth builder.old more got.width }
-    requires came { IsBit builder.old came }
-    requires last { IsBit builder.old last }
-    ensures net { IfOk result (λ next. IsNetOfWidth builder.new next got.width) }
-    ensures value { IfOk result (λ next. Always builder.new (λ cycle. cycle.net next.number
-        ≡ (if is_raised (cycle.net last.number) then 0 else if is_raised (cycle.net came.number) then cycle.net more.number
-        else cycle.net got.number))) }
-    ensures adds { AddsNets 3 builder.old builder.new }
-    ensures full { result ≡ Err NetFault.TooManyNets → 2 ^ 20 < length builder.old.lines + 3 }
-{
-    let bits = builder.width(got);
-    let none = constant(builder, bits, 0)?;
-    let some = choose(builder, came, more, got)?;
-    choose(builder, last, none, some)
-}
-
 /// Lets the register of a read's words go on, and tells whether the last one comes.
 #[tactic(auto, using(net_parts::specs::Laws::growing))]
 fn finish_counted(builder: &mut Builder, count: Net, got: Net, came: Net) -> Result<Net, NetFault>
@@ -154,7 +128,7 @@ fn finish_counted(builder: &mut Builder, count: Net, got: Net, came: Net) -> Res
     let more = builder.add(got, one)?;
     let all = builder.eq(more, count)?;
     let last = both(builder, came, all)?;
-    let next = next_got(builder, got, more, came, last)?;
+    let next = count_until(builder, got, more, came, last)?;
     take_next(builder, got, next);
     Ok(last)
 }

@@ -79,8 +79,7 @@ fn shown_on_each(
 }
 
 /// Makes a demultiplexer from the beat of its input, the channel of so many bits, and the readies of its outputs. After an error
-/// the
-/// builder is to be dropped.
+/// the builder is to be dropped.
 #[tactic(auto, using(net_parts::specs::Laws::growing))]
 pub fn emit_demultiplexer(
     alloc: Global,

@@ -19,4 +19,4 @@ mod turns;
 pub use demux::{DemultiplexerNets, emit_demultiplexer, shown_on};
 pub use mux::{MultiplexerNets, emit_multiplexer};
 pub use packet::PacketNets;
-pub use select::select_bit;
+pub use select::{half_of, select_bit};

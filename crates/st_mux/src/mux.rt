@@ -14,7 +14,7 @@ use crate::packet::PacketNets;
 use crate::select::select_packet;
 use crate::split::lead_bit;
 use crate::turns::{choose_input, stays_locked, valids_of};
-use av_base::Val;
+use net_parts::{register, take_next};
 use netlist::{Builder, Net, NetFault};
 use routed_runs::machines::multiplexer_multiplexes;
 use std::alloc::Global;
@@ -39,23 +39,6 @@ pub(crate) struct Turns {
     locked: Net,
 }
 
-/// A register that begins at 0.
-fn register(builder: &mut Builder, bits: u8) -> Result<Net, NetFault>
-    requires some { 1 ≤ bits }
-    requires few { bits ≤ 4 }
-    ensures net { IfOk result (λ made. IsNetOfWidth builder.new made bits) }
-    ensures number { IfOk result (λ made. made.number ≡ length builder.old.lines) }
-    ensures count { OnOk result (length builder.new.lines ≡ length builder.old.lines + 1) }
-    ensures starts { IfOk result (λ made. StartsLow builder.new made) }
-    ensures waits { IfOk result (λ made. IsWaiting builder.new made.number) }
-    ensures grows { GrowsBy 1 builder.old builder.new }
-    ensures still_wait { StillWait builder.old builder.new }
-    ensures newly { IfOk result (λ made. WaitsBeside (λ n. n ≡ made.number) builder.old builder.new) }
-    ensures full { result ≡ Err NetFault.TooManyNets → 2 ^ 20 < length builder.old.lines + 1 }
-{
-    builder.reg(Val::new(bits, 0).unwrap())
-}
-
 /// The registers, which wait for what they take.
 fn make_turns(builder: &mut Builder, bits: u8) -> Result<Turns, NetFault>
     requires some { 1 ≤ bits }
@@ -68,20 +51,6 @@ fn make_turns(builder: &mut Builder, bits: u8) -> Result<Turns, NetFault>
     let holder = register(builder, bits)?;
     let locked = register(builder, 1)?;
     Ok(Turns { holder, locked })
-}
-
-/// Gives a register its next net.
-fn take_next(builder: &mut Builder, register: Net, next: Net)
-    requires register { IsNet builder.old register }
-    requires waits { IsWaiting builder.old register.number }
-    requires next { IsNet builder.old next }
-    requires widths { register.width ≡ next.width }
-    ensures value { TakesNext builder.new register next }
-    ensures grows { GrowsBy 0 builder.old builder.new }
-    ensures still_wait { (n : ℕ) → ¬ (n ≡ register.number) → IsWaiting builder.old n → IsWaiting builder.new n }
-    ensures no_more_wait { WaitsWithout (λ n. n ≡ register.number) builder.old builder.new }
-{
-    builder.set_next(register, next);
 }
 
 /// Gives the registers their next nets.
@@ -168,8 +137,7 @@ fn make_multiplexer(
 }
 
 /// Makes a multiplexer from the beats of its inputs and the ready of its output, which shows channels of so many bits. After an
-/// error
-/// the builder is to be dropped.
+/// error the builder is to be dropped.
 pub fn emit_multiplexer(
     alloc: Global,
     builder: &mut Builder,

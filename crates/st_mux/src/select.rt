@@ -15,7 +15,7 @@ use net_parts::choose;
 use netlist::{Builder, Net, NetFault};
 
 /// How many numbers the bits below the highest one have.
-pub(crate) fn half_of(bits: u8) -> usize
+pub fn half_of(bits: u8) -> u8
     requires some { 1 ≤ bits }
     requires few { bits ≤ 4 }
     ensures { result ≡ 2 ^ (bits - 1) }
@@ -51,7 +51,7 @@ pub fn select_bit(
     if bits == 0 {
         return Ok(nets[0]);
     }
-    let half = half_of(bits);
+    let half = usize::from(half_of(bits));
     if nets.len() <= half {
         return select_bit(builder, index, bits - 1, nets);
     }
@@ -86,7 +86,7 @@ pub(crate) fn select_packet(
     if bits == 0 {
         return Ok(packets[0]);
     }
-    let half = half_of(bits);
+    let half = usize::from(half_of(bits));
     if packets.len() <= half {
         return select_packet(builder, index, bits - 1, packets);
     }

@@ -47,7 +47,7 @@ fn half_size(bits: u8) -> usize
     ensures whole { 2 ^ bits ≡ result + result }
     ensures some { 1 ≤ result }
 {
-    half_of(bits)
+    usize::from(half_of(bits))
 }
 
 /// For each number below the count a net that is high where the bit is and the index's lowest bits are that number.

@@ -16,8 +16,7 @@ abbrev pub owns_promises : Promises → ℕ → Type 0
 owns_promises promises n = (n ≡ promises.free.number) ⊎ (n ≡ promises.history.number)
 
 -- a count of four bits at most that reaches a place more than the latency says, and a bit for each cycle of the latency; both
--- wait
--- for their next nets
+-- wait for their next nets
 pub record ArePromises (netlist : Netlist) (latency : ℕ) (promises : Promises) : Type 0 where
   pub free : IsNet netlist promises.free
   pub wide : latency + 1 < 2 ^ promises.free.width

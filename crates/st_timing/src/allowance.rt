@@ -1,10 +1,8 @@
 //! A buffer behind a source that may go on for some beats after ready fell, as many as its allowance says. It has two places more
 //! than that, and shows ready while it holds one beat at most, so that all those beats and that of the cycle have their places;
-//! the
-//! second place keeps ready high where the sink waits for a cycle. A beat that meets it empty goes through in the same cycle. Its
-//! state is a queue of beats in memories, whose count is all that it reads; its hold is so many beats as it has places. Its law
-//! is
-//! that of `buffer_is_a_stage`.
+//! the second place keeps ready high where the sink waits for a cycle. A beat that meets it empty goes through in the same cycle.
+//! Its state is a queue of beats in memories, whose count is all that it reads; its hold is so many beats as it has places. Its
+//! law is that of `buffer_is_a_stage`.
 
 ghost use Rattle.std.specs.Prelude.{◌≡◌, ◌<◌, ◌≤◌};
 

@@ -13,8 +13,7 @@ use item_queues::stored_queue_keeps_few_bits;
 use stage_core::Stage;
 
 /// A buffer of four places and more keeps at most 36 bits in registers, whatever its latency and however wide its beats are: 24
-/// in
-/// its queue, 4 for the free places and 8 of ready. So it is in the netlist between its two calls, and in each longer one.
+/// in its queue, 4 for the free places and 8 of ready. So it is in the netlist between its two calls, and in each longer one.
 pub fn buffer_keeps_few_bits(buffer: ReadyBuffer)
     ensures { let stage = ⟦<ReadyBuffer as Stage>⟧ in
         (kept : BufferKept) (old new : Netlist) → 3 ≤ buffer.latency → stage.is_kept buffer kept old → Extends old new
@@ -24,8 +23,7 @@ pub fn buffer_keeps_few_bits(buffer: ReadyBuffer)
 }
 
 /// A buffer behind a ready allowance keeps at most 24 bits in registers, whatever its allowance and however wide its beats are.
-/// So it is
-/// in the netlist between its two calls, and in each longer one.
+/// So it is in the netlist between its two calls, and in each longer one.
 pub fn allowance_buffer_keeps_few_bits(buffer: AllowanceBuffer)
     ensures { let stage = ⟦<AllowanceBuffer as Stage>⟧ in
         (kept : AllowanceKept) (old new : Netlist) → stage.is_kept buffer kept old → Extends old new

@@ -11,7 +11,7 @@ ghost use Rattle.st_timing.specs.PromiseNets.{owns_promises, ArePromises, Starts
 
 use av_base::Val;
 use item_queues::count_bits;
-use net_parts::{bit_before, fit_bits, make_history, set_history};
+use net_parts::{bit_before, fit_bits, make_history, set_history, take_next};
 use netlist::{Builder, Net, NetFault};
 
 /// The registers.
@@ -171,20 +171,6 @@ fn next_free(
     let due = bit_before(builder, promises.history, latency)?;
     let unused = comes_unused(builder, due, comes)?;
     later_free(builder, promises.free, promised, unused, goes)
-}
-
-/// Gives a register its next net.
-fn take_next(builder: &mut Builder, register: Net, next: Net)
-    requires register { IsNet builder.old register }
-    requires waits { IsWaiting builder.old register.number }
-    requires next { IsNet builder.old next }
-    requires widths { register.width ≡ next.width }
-    ensures value { TakesNext builder.new register next }
-    ensures grows { GrowsBy 0 builder.old builder.new }
-    ensures still_wait { (n : ℕ) → ¬ (n ≡ register.number) → IsWaiting builder.old n → IsWaiting builder.new n }
-    ensures no_more_wait { WaitsWithout (λ n. n ≡ register.number) builder.old builder.new }
-{
-    builder.set_next(register, next);
 }
 
 /// Gives the registers their next nets.

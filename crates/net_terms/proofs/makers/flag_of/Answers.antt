@@ -1,5 +1,5 @@
 use Rattle.net_parts.specs.Laws.{bit_fits}
-use Rattle.net_terms.specs.Levels.{level_is}
+use Rattle.net_parts.specs.Levels.{level_is}
 use Rattle.net_terms.proofs.makers.flag_of.Goals as goal
 
 pub returns-clause-value : goal.returns-clause-value

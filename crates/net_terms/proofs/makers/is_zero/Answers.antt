@@ -2,7 +2,7 @@ use Rattle.std.proofs.Common.{◌≡◌, not, nat_eq, ap, ◌∙◌}
 use Rattle.histories.specs.History.{is_raised}
 use Rattle.netlist.specs.Runs.{Always}
 use Rattle.net_parts.specs.Laws.{if_ok, adds_twice}
-use Rattle.net_terms.specs.Levels.{none_is}
+use Rattle.net_parts.specs.Levels.{none_is}
 use Rattle.net_terms.proofs.makers.is_zero.Goals as goal
 
 pub returns-clause-value : goal.returns-clause-value

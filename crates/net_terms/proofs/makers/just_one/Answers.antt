@@ -2,7 +2,7 @@ use Rattle.std.proofs.Common.{◌≡◌, not, if◌then◌else◌}
 use Rattle.histories.specs.History.{is_raised}
 use Rattle.netlist.specs.Runs.{Always}
 use Rattle.net_parts.specs.Laws.{bit_fits, if_ok}
-use Rattle.net_terms.specs.Levels.{raised_xor}
+use Rattle.net_parts.specs.Levels.{raised_xor}
 use Rattle.net_terms.proofs.makers.just_one.Goals as goal
 
 pub returns-clause-value : goal.returns-clause-value

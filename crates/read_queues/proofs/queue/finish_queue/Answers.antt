@@ -12,6 +12,9 @@ returns-in_err-word-clause-grows c = grows_without_memory _ _ _ (grows_twice _ _
 pub returns-clause-grows : goal.returns-clause-grows
 returns-clause-grows c = memory_grows_twice _ _ _ _ _ _ _ (grows_without_memory _ _ _ (grows_twice _ _ _ _ _ c.finish_registers.ensures.grows (adds_grow _ _ _ c.word_of.ensures.adds))) c.take_writes.ensures.grows
 
+pub returns-clause-waits : goal.returns-clause-waits
+returns-clause-waits c n apart w = c.take_writes.ensures.still_wait n (c.word_of.ensures.adds.grows.waits n (c.finish_registers.ensures.waits n apart w))
+
 pub returns-clause-no_more_wait : goal.returns-clause-no_more_wait
 returns-clause-no_more_wait c n w = c.in_ok-finish_registers.ensures.no_more_wait n (c.word_of.ensures.adds.grows.no_more_wait n (c.take_writes.ensures.no_more_wait n w))
 

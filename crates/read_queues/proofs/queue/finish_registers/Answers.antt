@@ -2,7 +2,7 @@ use Rattle.std.proofs.Common.{◌≡◌, ◌&&◌, nat_eq, refl, ap, ◌∙◌, 
 use Rattle.histories.specs.History.{is_raised}
 use Rattle.net_parts.specs.Growth.{WaitsWithout}
 use Rattle.net_parts.specs.Laws.{extends_twice, on_ok, adds_grow, adds_twice, grows_once, grows_fewer, grows_twice, net_lasts}
-use Rattle.read_queues.specs.Steps.{CountsOn}
+use Rattle.item_queues.specs.Steps.{CountsOn}
 use Rattle.read_queues.specs.Held.{owns_queue, RegistersGoOn, word_nets, queue_lasts}
 use Rattle.read_queues.proofs.Levels.{raised_any}
 use Rattle.net_parts.specs.Refusing.{handed_on}
@@ -41,6 +41,7 @@ returns-clause-on c =
     (λ counts. record {
       came = c.in_ok-came.came;
       last = c.in_ok-last.last;
+      last_bit = net_lasts _ _ _ _ three c.in_ok-last.ensures.net;
       comes = λ cycle v. c.in_ok-came.ensures.value cycle (four.valuations cycle v)
           ∙ ap (λ t. is_raised (cycle.net c.args.traffic.now.valid.number) && t) (raised_any (nat_eq (cycle.net c.args.held.now.pointers.unanswered.number) 0) (cycle.net c.in_ok-some.some.number) (c.in_ok-some.ensures.value cycle (five.valuations cycle v)).1);
       answers = λ cycle v. c.in_ok-last.ensures.answers cycle (three.valuations cycle v);

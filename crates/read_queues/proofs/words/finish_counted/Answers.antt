@@ -10,23 +10,23 @@ pub constant-requires-clause-fits : goal.constant-requires-clause-fits
 constant-requires-clause-fits c = one_fits _ c.width-bits.ensures.bounds.0
 
 pub returns-in_err-next-clause-grows : goal.returns-in_err-next-clause-grows
-returns-in_err-next-clause-grows c = grows_fewer _ _ _ _ (omega arith) (adds_grow _ _ _ (adds_twice _ _ _ _ _ (adds_twice _ _ _ _ _ (adds_twice _ _ _ _ _ (adds_twice _ _ _ _ _ c.constant.ensures.adds (grows_once _ _ c.add.ensures.extends c.add.ensures.grows)) (grows_once _ _ c.eq.ensures.extends c.eq.ensures.grows)) c.both.ensures.adds) c.next_got.ensures.adds))
+returns-in_err-next-clause-grows c = grows_fewer _ _ _ _ (omega arith) (adds_grow _ _ _ (adds_twice _ _ _ _ _ (adds_twice _ _ _ _ _ (adds_twice _ _ _ _ _ (adds_twice _ _ _ _ _ c.constant.ensures.adds (grows_once _ _ c.add.ensures.extends c.add.ensures.grows)) (grows_once _ _ c.eq.ensures.extends c.eq.ensures.grows)) c.both.ensures.adds) c.count_until.ensures.adds))
 
 pub returns-clause-grows : goal.returns-clause-grows
-returns-clause-grows c = grows_fewer _ _ _ _ (omega arith) (grows_twice _ _ _ _ _ (adds_grow _ _ _ (adds_twice _ _ _ _ _ (adds_twice _ _ _ _ _ (adds_twice _ _ _ _ _ (adds_twice _ _ _ _ _ c.constant.ensures.adds (grows_once _ _ c.add.ensures.extends c.add.ensures.grows)) (grows_once _ _ c.eq.ensures.extends c.eq.ensures.grows)) c.both.ensures.adds) c.next_got.ensures.adds)) c.take_next.ensures.grows)
+returns-clause-grows c = grows_fewer _ _ _ _ (omega arith) (grows_twice _ _ _ _ _ (adds_grow _ _ _ (adds_twice _ _ _ _ _ (adds_twice _ _ _ _ _ (adds_twice _ _ _ _ _ (adds_twice _ _ _ _ _ c.constant.ensures.adds (grows_once _ _ c.add.ensures.extends c.add.ensures.grows)) (grows_once _ _ c.eq.ensures.extends c.eq.ensures.grows)) c.both.ensures.adds) c.count_until.ensures.adds)) c.take_next.ensures.grows)
 
 pub returns-clause-waits : goal.returns-clause-waits
-returns-clause-waits c n apart w = c.take_next.ensures.still_wait n apart (c.next_got.ensures.adds.grows.waits n (c.both.ensures.adds.grows.waits n (c.eq.ensures.grows.waits n (c.add.ensures.grows.waits n (c.constant.ensures.adds.grows.waits n w)))))
+returns-clause-waits c n apart w = c.take_next.ensures.still_wait n apart (c.count_until.ensures.adds.grows.waits n (c.both.ensures.adds.grows.waits n (c.eq.ensures.grows.waits n (c.add.ensures.grows.waits n (c.constant.ensures.adds.grows.waits n w)))))
 
 pub returns-clause-no_more_wait : goal.returns-clause-no_more_wait
 returns-clause-no_more_wait c n w =
     let set = c.take_next.ensures.no_more_wait n w in
-    (c.constant.ensures.adds.grows.no_more_wait n (c.add.ensures.grows.no_more_wait n (c.eq.ensures.grows.no_more_wait n (c.both.ensures.adds.grows.no_more_wait n (c.next_got.ensures.adds.grows.no_more_wait n set.0)))), set.1)
+    (c.constant.ensures.adds.grows.no_more_wait n (c.add.ensures.grows.no_more_wait n (c.eq.ensures.grows.no_more_wait n (c.both.ensures.adds.grows.no_more_wait n (c.count_until.ensures.adds.grows.no_more_wait n set.0)))), set.1)
 
 pub returns-clause-answers : goal.returns-clause-answers
 returns-clause-answers c cycle v6 some =
     let v5 = c.take_next.ensures.grows.extends.valuations cycle v6 in
-    let v4 = c.next_got.ensures.adds.grows.extends.valuations cycle v5 in
+    let v4 = c.count_until.ensures.adds.grows.extends.valuations cycle v5 in
     let v3 = c.both.ensures.adds.grows.extends.valuations cycle v4 in
     let v2 = c.eq.ensures.extends.valuations cycle v3 in
     let v1 = c.add.ensures.extends.valuations cycle v2 in
@@ -38,7 +38,7 @@ returns-clause-goes_on c run cycles r n lt some =
     let cycle : Cycle = cycle_of run n in
     let v6 = r.valuations n (omega (arith, lt)) in
     let v5 = c.take_next.ensures.grows.extends.valuations cycle v6 in
-    let v4 = c.next_got.ensures.adds.grows.extends.valuations cycle v5 in
+    let v4 = c.count_until.ensures.adds.grows.extends.valuations cycle v5 in
     let v3 = c.both.ensures.adds.grows.extends.valuations cycle v4 in
     let v2 = c.eq.ensures.extends.valuations cycle v3 in
     let v1 = c.add.ensures.extends.valuations cycle v2 in
@@ -95,7 +95,7 @@ returns-in_err-last-clause-full c e =
     omega (arith, most0, most1, most2, full)
 
 pub returns-in_err-next-clause-waits : goal.returns-in_err-next-clause-waits
-returns-in_err-next-clause-waits c n apart w = c.next_got.ensures.adds.grows.waits n (c.both.ensures.adds.grows.waits n (c.eq.ensures.grows.waits n (c.add.ensures.grows.waits n (c.constant.ensures.adds.grows.waits n w))))
+returns-in_err-next-clause-waits c n apart w = c.count_until.ensures.adds.grows.waits n (c.both.ensures.adds.grows.waits n (c.eq.ensures.grows.waits n (c.add.ensures.grows.waits n (c.constant.ensures.adds.grows.waits n w))))
 
 pub returns-in_err-next-clause-full : goal.returns-in_err-next-clause-full
 returns-in_err-next-clause-full c e =
@@ -103,7 +103,7 @@ returns-in_err-next-clause-full c e =
     let most1 = c.add.ensures.grows.most in
     let most2 = c.eq.ensures.grows.most in
     let most3 = c.both.ensures.adds.most in
-    let full = c.next_got.ensures.full (handed_on _ _ _ _ c.in_err-next.was c.from_residual-in_err-next.ensures.1 e) in
+    let full = c.count_until.ensures.full (handed_on _ _ _ _ c.in_err-next.was c.from_residual-in_err-next.ensures.1 e) in
     omega (arith, most0, most1, most2, most3, full)
 
 pub returns-clause-full : goal.returns-clause-full
@@ -127,20 +127,20 @@ both-requires-clause-a c = net_lasts _ _ _ _ (extends_twice _ _ _ c.constant.ens
 pub both-requires-clause-b : goal.both-requires-clause-b
 both-requires-clause-b c = record { is_net = c.in_ok-all.ensures.net.0; has_width = c.in_ok-all.ensures.net.1 }
 
-pub next_got-requires-clause-got : goal.next_got-requires-clause-got
-next_got-requires-clause-got c = (extends_twice _ _ _ c.constant.ensures.adds.grows.extends (extends_twice _ _ _ c.add.ensures.extends (extends_twice _ _ _ c.eq.ensures.extends c.both.ensures.adds.grows.extends))).nets _ _ c.requires.got.is_net
+pub count_until-requires-clause-count : goal.count_until-requires-clause-count
+count_until-requires-clause-count c = (extends_twice _ _ _ c.constant.ensures.adds.grows.extends (extends_twice _ _ _ c.add.ensures.extends (extends_twice _ _ _ c.eq.ensures.extends c.both.ensures.adds.grows.extends))).nets _ _ c.requires.got.is_net
 
-pub next_got-requires-clause-more : goal.next_got-requires-clause-more
-next_got-requires-clause-more c = record { is_net = (extends_twice _ _ _ c.eq.ensures.extends c.both.ensures.adds.grows.extends).nets _ _ c.in_ok-more.ensures.net.0; has_width = c.in_ok-more.ensures.net.1 }
+pub count_until-requires-clause-more : goal.count_until-requires-clause-more
+count_until-requires-clause-more c = record { is_net = (extends_twice _ _ _ c.eq.ensures.extends c.both.ensures.adds.grows.extends).nets _ _ c.in_ok-more.ensures.net.0; has_width = c.in_ok-more.ensures.net.1 }
 
-pub next_got-requires-clause-came : goal.next_got-requires-clause-came
-next_got-requires-clause-came c = net_lasts _ _ _ _ (extends_twice _ _ _ c.constant.ensures.adds.grows.extends (extends_twice _ _ _ c.add.ensures.extends (extends_twice _ _ _ c.eq.ensures.extends c.both.ensures.adds.grows.extends))) c.requires.came
+pub count_until-requires-clause-counts : goal.count_until-requires-clause-counts
+count_until-requires-clause-counts c = net_lasts _ _ _ _ (extends_twice _ _ _ c.constant.ensures.adds.grows.extends (extends_twice _ _ _ c.add.ensures.extends (extends_twice _ _ _ c.eq.ensures.extends c.both.ensures.adds.grows.extends))) c.requires.came
 
-pub next_got-requires-clause-last : goal.next_got-requires-clause-last
-next_got-requires-clause-last c = c.in_ok-last.ensures.net
+pub count_until-requires-clause-ends : goal.count_until-requires-clause-ends
+count_until-requires-clause-ends c = c.in_ok-last.ensures.net
 
 pub take_next-requires-clause-register : goal.take_next-requires-clause-register
-take_next-requires-clause-register c = (extends_twice _ _ _ c.constant.ensures.adds.grows.extends (extends_twice _ _ _ c.add.ensures.extends (extends_twice _ _ _ c.eq.ensures.extends (extends_twice _ _ _ c.both.ensures.adds.grows.extends c.next_got.ensures.adds.grows.extends)))).nets _ _ c.requires.got.is_net
+take_next-requires-clause-register c = (extends_twice _ _ _ c.constant.ensures.adds.grows.extends (extends_twice _ _ _ c.add.ensures.extends (extends_twice _ _ _ c.eq.ensures.extends (extends_twice _ _ _ c.both.ensures.adds.grows.extends c.count_until.ensures.adds.grows.extends)))).nets _ _ c.requires.got.is_net
 
 pub take_next-requires-clause-next : goal.take_next-requires-clause-next
 take_next-requires-clause-next c = c.in_ok-next.ensures.net.is_net

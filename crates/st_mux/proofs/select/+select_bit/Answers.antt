@@ -14,7 +14,7 @@ returns-then-nets-half-clause-value t c =
     (λ net value cycle v.
     subst (λ b. Selects (λ (item : NetValue). cycle.net item.number) (cycle.net c.args.index.number) b c.args.nets.now net) back
     (selects_fewer (λ (item : NetValue). cycle.net item.number) (cycle.net c.args.index.number) (c.args.bits - 1) c.args.nets.now net
-    (let few = c.if-nets-half.true in let half = c.half_of-half.ensures in omega (arith, few, half)) (value cycle v)))
+    (let few = c.if-nets-half.true in let half = (c.from-half.ensures ∙ c.half_of.ensures) in omega (arith, few, half)) (value cycle v)))
     c.select_bit.ensures.value
 
 pub select_bit-requires-3 : goal.select_bit-requires-3
@@ -25,7 +25,7 @@ select_bit-requires-3 t c =
     let few_bits = c.requires.few_bits in
     let few = c.requires.few in
     let more = c.if-nets-half.false in
-    let half = c.half_of-half.ensures in
+    let half = (c.from-half.ensures ∙ c.half_of.ensures) in
     let rest = c.split_at.ensures.back_len in
     let twice = two_halves c.args.bits (omega (arith, some)) in (
       omega (arith, d, some),
@@ -50,8 +50,8 @@ returns-clause-value t c =
     let some = c.if-bits-eq0.false in
     let back : suc (c.args.bits - 1) ≡ c.args.bits = omega (arith, some) in
     let one : c.args.bits - 1 - (c.args.bits - 1) + 1 ≡ 1 = omega arith in
-    let front : c.split_at.result.0.now ≡ take (2 ^ (c.args.bits - 1)) c.args.nets.now = c.split_at.ensures.front ∙ ap (λ n. take n c.args.nets.now) c.half_of-half.ensures in
-    let rest : c.split_at.result.1.now ≡ drop (2 ^ (c.args.bits - 1)) c.args.nets.now = c.split_at.ensures.back ∙ ap (λ n. drop n c.args.nets.now) c.half_of-half.ensures in
+    let front : c.split_at.result.0.now ≡ take (2 ^ (c.args.bits - 1)) c.args.nets.now = c.split_at.ensures.front ∙ ap (λ n. take n c.args.nets.now) (c.from-half.ensures ∙ c.half_of.ensures) in
+    let rest : c.split_at.result.1.now ≡ drop (2 ^ (c.args.bits - 1)) c.args.nets.now = c.split_at.ensures.back ∙ ap (λ n. drop n c.args.nets.now) (c.from-half.ensures ∙ c.half_of.ensures) in
     if_ok c.choose.result _ (λ net. Always c.choose.new.builder (λ cycle. Selects (λ (item : NetValue). cycle.net item.number) (cycle.net c.args.index.number) c.args.bits c.args.nets.now net))
     (λ net value cycle v4. (
     let v3 = c.choose.ensures.adds.grows.extends.valuations cycle v4 in
@@ -70,7 +70,7 @@ returns-clause-adds t c =
     let front = c.split_at.ensures.front_len in
     let rest = c.split_at.ensures.back_len in
     let more = c.if-nets-half.false in
-    let half = c.half_of-half.ensures in
+    let half = (c.from-half.ensures ∙ c.half_of.ensures) in
     let some : 1 ≤ 2 ^ (c.args.bits - 1) = pow_pos (c.args.bits - 1) in
     adds_fewer _ _ _ _ (omega (arith, front, rest, more, half, some))
     (adds_twice _ _ _ _ _ (adds_twice _ _ _ _ _ (adds_twice _ _ _ _ _ c.select_bit-2.ensures.adds c.select_bit-3.ensures.adds) (grows_once _ _ c.slice.ensures.extends c.slice.ensures.grows)) c.choose.ensures.adds)

@@ -15,7 +15,7 @@ returns-then-packets-half-clause-value t c =
     (λ made value cycle v.
     subst (λ b. Selects (shown_in cycle) (cycle.net c.args.index.number) b c.args.packets.now made) back
     (selects_fewer (shown_in cycle) (cycle.net c.args.index.number) (c.args.bits - 1) c.args.packets.now made
-    (let few = c.if-packets-half.true in let half = c.half_of-half.ensures in omega (arith, few, half)) (value cycle v)))
+    (let few = c.if-packets-half.true in let half = (c.from-half.ensures ∙ c.half_of.ensures) in omega (arith, few, half)) (value cycle v)))
     c.select_packet.ensures.value
 
 pub select_packet-requires-3 : goal.select_packet-requires-3
@@ -26,7 +26,7 @@ select_packet-requires-3 t c =
     let few_bits = c.requires.few_bits in
     let few = c.requires.few in
     let more = c.if-packets-half.false in
-    let half = c.half_of-half.ensures in
+    let half = (c.from-half.ensures ∙ c.half_of.ensures) in
     let rest = c.split_at.ensures.back_len in
     let twice = two_halves c.args.bits (omega (arith, some)) in (
       omega (arith, d, some),
@@ -49,9 +49,9 @@ select_packet-requires-3 t c =
 pub choose_packet-requires-clause-widths : goal.choose_packet-requires-clause-widths
 choose_packet-requires-clause-widths t c =
     let more = c.if-packets-half.false in
-    let half = c.half_of-half.ensures in
+    let half = (c.from-half.ensures ∙ c.half_of.ensures) in
     let some : 1 ≤ 2 ^ (c.args.bits - 1) = pow_pos (c.args.bits - 1) in
-    like_both _ c.args.packets.now c.half_of-half.result c.in_ok-low.low c.in_ok-high.high c.requires.packets (omega (arith, half, some)) (omega (arith, more))
+    like_both _ c.args.packets.now c.from-half.result c.in_ok-low.low c.in_ok-high.high c.requires.packets (omega (arith, half, some)) (omega (arith, more))
     (subst (IsLike c.in_ok-low.low) c.split_at.ensures.front c.in_ok-low.ensures.widths)
     (subst (IsLike c.in_ok-high.high) c.split_at.ensures.back c.in_ok-high.ensures.widths)
 
@@ -60,7 +60,7 @@ returns-clause-widths t c =
     let more = c.if-packets-half.false in
     if_ok c.choose_packet.result _ (λ made. IsLike made c.args.packets.now)
     (λ made widths. like_through made c.in_ok-high.high c.args.packets.now widths
-    (like_front _ c.args.packets.now c.half_of-half.result c.in_ok-high.high c.requires.packets (omega (arith, more)) (subst (IsLike c.in_ok-high.high) c.split_at.ensures.back c.in_ok-high.ensures.widths)))
+    (like_front _ c.args.packets.now c.from-half.result c.in_ok-high.high c.requires.packets (omega (arith, more)) (subst (IsLike c.in_ok-high.high) c.split_at.ensures.back c.in_ok-high.ensures.widths)))
     c.choose_packet.ensures.widths
 
 pub returns-clause-value : goal.returns-clause-value
@@ -68,8 +68,8 @@ returns-clause-value t c =
     let some = c.if-bits-eq0.false in
     let back : suc (c.args.bits - 1) ≡ c.args.bits = omega (arith, some) in
     let one : c.args.bits - 1 - (c.args.bits - 1) + 1 ≡ 1 = omega arith in
-    let front : c.split_at.result.0.now ≡ take (2 ^ (c.args.bits - 1)) c.args.packets.now = c.split_at.ensures.front ∙ ap (λ n. take n c.args.packets.now) c.half_of-half.ensures in
-    let rest : c.split_at.result.1.now ≡ drop (2 ^ (c.args.bits - 1)) c.args.packets.now = c.split_at.ensures.back ∙ ap (λ n. drop n c.args.packets.now) c.half_of-half.ensures in
+    let front : c.split_at.result.0.now ≡ take (2 ^ (c.args.bits - 1)) c.args.packets.now = c.split_at.ensures.front ∙ ap (λ n. take n c.args.packets.now) (c.from-half.ensures ∙ c.half_of.ensures) in
+    let rest : c.split_at.result.1.now ≡ drop (2 ^ (c.args.bits - 1)) c.args.packets.now = c.split_at.ensures.back ∙ ap (λ n. drop n c.args.packets.now) (c.from-half.ensures ∙ c.half_of.ensures) in
     if_ok c.choose_packet.result _ (λ made. Always c.choose_packet.new.builder (λ cycle. Selects (shown_in cycle) (cycle.net c.args.index.number) c.args.bits c.args.packets.now made))
     (λ made value cycle v4. (
     let v3 = c.choose_packet.ensures.adds.grows.extends.valuations cycle v4 in
@@ -88,7 +88,7 @@ returns-clause-adds t c =
     let front = c.split_at.ensures.front_len in
     let rest = c.split_at.ensures.back_len in
     let more = c.if-packets-half.false in
-    let half = c.half_of-half.ensures in
+    let half = (c.from-half.ensures ∙ c.half_of.ensures) in
     let some : 1 ≤ 2 ^ (c.args.bits - 1) = pow_pos (c.args.bits - 1) in
     adds_fewer _ _ _ _ (omega (arith, front, rest, more, half, some))
     (adds_twice _ _ _ _ _ (adds_twice _ _ _ _ _ (adds_twice _ _ _ _ _ c.select_packet-2.ensures.adds c.select_packet-3.ensures.adds) (grows_once _ _ c.slice.ensures.extends c.slice.ensures.grows)) c.choose_packet.ensures.adds)

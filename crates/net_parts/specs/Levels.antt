@@ -1,7 +1,17 @@
 -- Bits that are made of other bits, and what is none. No contract reads a proof of these.
-use Rattle.std.proofs.Common.{◌≡◌, ℕ, zero, suc, ◌-◌, ◌^◌, ◌<◌, not, ◌&&◌, ◌||◌, if◌then◌else◌, bit_and, bit_or, bit_xor, nat_eq, nat_lt, true, false, refl, subst, ap, arith}
+use Rattle.std.proofs.Common.{◌≡◌, ℕ, zero, suc, ◌-◌, ◌^◌, ◌<◌, ◌≤◌, not, ◌&&◌, ◌||◌, if◌then◌else◌, ◌==◌, bit_and, bit_or, bit_xor, nat_eq, nat_lt, true, false, refl, sym, subst, ap, ◌∙◌, arith}
+use Rattle.std.proofs.Math.Pow.{pow_mono}
 use Rattle.std.proofs.lemmas.Bool.{lt-ltb, ne_eqb}
 use Rattle.histories.specs.History.{is_raised, one_if}
+
+pub level_and : (x y z : ℕ) → x < 2 → y < 2 → z ≡ bit_and x y → z ≡ (if is_raised x then y else 0)
+level_and zero zero z h k e = e
+level_and zero (suc zero) z h k e = e
+level_and (suc zero) zero z h k e = e
+level_and (suc zero) (suc zero) z h k e = e
+level_and (suc (suc x)) y z h k e = absurd (omega arith)
+level_and zero (suc (suc y)) z h k e = absurd (omega arith)
+level_and (suc zero) (suc (suc y)) z h k e = absurd (omega arith)
 
 pub raised_and : (x y z : ℕ) → x < 2 → y < 2 → z ≡ bit_and x y → is_raised z ≡ (is_raised x && is_raised y)
 raised_and zero zero z h k e = ap is_raised e
@@ -49,3 +59,12 @@ pub level_is : (x : ℕ) → x < 2 → x ≡ one_if (is_raised x)
 level_is zero h = refl
 level_is (suc zero) h = refl
 level_is (suc (suc x)) h = absurd (omega arith)
+
+pub is_some : (u : ℕ) → ◌≡◌ {A = ℕ} (if suc u == 0 then 0 else 1) 1
+is_some u = rw (ne_eqb (suc u) 0 (λ e. absurd (omega (arith, e)))) refl
+
+pub one_fits : (k : ℕ) → 1 ≤ k → 1 < 2 ^ k
+one_fits k some = let two : 2 ^ 1 ≤ 2 ^ k = pow_mono some in omega (arith, two)
+
+pub bit_same : (x y : ℕ) → x < 2 → y < 2 → is_raised x ≡ is_raised y → x ≡ y
+bit_same x y h k e = level_is x h ∙ ap one_if e ∙ sym (level_is y k)

@@ -3,7 +3,7 @@ use Rattle.netlist.specs.Runs.{Always}
 use Rattle.net_parts.specs.Nets.{IsNetOfWidth}
 use Rattle.net_parts.specs.Laws.{if_ok, adds_fewer, adds_twice, grows_once}
 use Rattle.net_parts.specs.HistoryLaw.{kept_none, kept_some}
-use Rattle.net_parts.proofs.histories.later_history.Goals as goal
+use Rattle.net_parts.proofs.history.later_history.Goals as goal
 
 pub returns-then-width-eq1-clause-net : goal.returns-then-width-eq1-clause-net
 returns-then-width-eq1-clause-net c = record { is_net = c.requires.bit.is_net; has_width = c.requires.bit.has_width ∙ omega arith }

@@ -2,8 +2,8 @@ use Rattle.std.proofs.Common.{◌≡◌, ◌||◌}
 use Rattle.histories.specs.History.{is_raised}
 use Rattle.netlist.specs.Runs.{Always}
 use Rattle.net_parts.specs.Laws.{bit_fits, if_ok}
-use Rattle.command_nets.specs.Levels.{raised_or}
-use Rattle.command_nets.proofs.bits.either.Goals as goal
+use Rattle.net_parts.specs.Levels.{raised_or}
+use Rattle.net_parts.proofs.gates.either.Goals as goal
 
 pub returns-clause-value : goal.returns-clause-value
 returns-clause-value c =

@@ -9,7 +9,7 @@ ghost use Rattle.net_parts.specs.Growth.{AddsNets};
 use netlist::{Builder, Net, NetFault};
 
 /// High where both bits are.
-#[tactic(auto, using(net_parts::specs::Laws::growing))]
+#[tactic(auto, using(crate::specs::Laws::growing))]
 pub fn both(builder: &mut Builder, a: Net, b: Net) -> Result<Net, NetFault>
     requires a { IsBit builder.old a }
     requires b { IsBit builder.old b }
@@ -25,7 +25,7 @@ pub fn both(builder: &mut Builder, a: Net, b: Net) -> Result<Net, NetFault>
 }
 
 /// High where one of the bits is.
-#[tactic(auto, using(net_parts::specs::Laws::growing))]
+#[tactic(auto, using(crate::specs::Laws::growing))]
 pub fn either(builder: &mut Builder, a: Net, b: Net) -> Result<Net, NetFault>
     requires a { IsBit builder.old a }
     requires b { IsBit builder.old b }
@@ -39,7 +39,7 @@ pub fn either(builder: &mut Builder, a: Net, b: Net) -> Result<Net, NetFault>
 }
 
 /// High where the bit is low.
-#[tactic(auto, using(net_parts::specs::Laws::growing))]
+#[tactic(auto, using(crate::specs::Laws::growing))]
 pub fn turned(builder: &mut Builder, a: Net) -> Result<Net, NetFault>
     requires a { IsBit builder.old a }
     ensures net { IfOk result (λ net. IsBit builder.new net) }
@@ -52,7 +52,7 @@ pub fn turned(builder: &mut Builder, a: Net) -> Result<Net, NetFault>
 }
 
 /// High where the first bit is and the second one isn't.
-#[tactic(auto, using(net_parts::specs::Laws::growing))]
+#[tactic(auto, using(crate::specs::Laws::growing))]
 pub fn unless(builder: &mut Builder, a: Net, b: Net) -> Result<Net, NetFault>
     requires a { IsBit builder.old a }
     requires b { IsBit builder.old b }

@@ -2,7 +2,7 @@ use Rattle.std.proofs.Common.{◌≡◌, not, ◌&&◌, ap, ◌∙◌, arith}
 use Rattle.histories.specs.History.{is_raised}
 use Rattle.netlist.specs.Runs.{Always}
 use Rattle.net_parts.specs.Laws.{if_ok, adds_fewer, adds_twice}
-use Rattle.command_nets.proofs.bits.unless.Goals as goal
+use Rattle.net_parts.proofs.gates.unless.Goals as goal
 
 pub returns-clause-value : goal.returns-clause-value
 returns-clause-value c =

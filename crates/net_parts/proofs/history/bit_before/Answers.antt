@@ -3,7 +3,7 @@ use Rattle.std.specs.Int.{bit_at}
 use Rattle.netlist.specs.Runs.{Always}
 use Rattle.net_parts.specs.Nets.{IsBit}
 use Rattle.net_parts.specs.Laws.{if_ok}
-use Rattle.net_parts.proofs.histories.bit_before.Goals as goal
+use Rattle.net_parts.proofs.history.bit_before.Goals as goal
 
 pub returns-clause-net : goal.returns-clause-net
 returns-clause-net c = if_ok c.slice.result _ (IsBit c.slice.new.self) (λ bit net. record { is_net = net.0; has_width = net.1 ∙ omega arith }) c.slice.ensures.net

@@ -3,7 +3,7 @@ use Rattle.netlist.specs.Runs.{cycle_of}
 use Rattle.net_parts.specs.Laws.{extends_twice, bit_fits, adds_grow}
 use Rattle.std.proofs.lemmas.Result.{IfOk-from_err}
 use Rattle.net_parts.specs.Refusing.{handed_on}
-use Rattle.net_parts.proofs.histories.set_history.Goals as goal
+use Rattle.net_parts.proofs.history.set_history.Goals as goal
 
 pub returns-clause-takes : goal.returns-clause-takes
 returns-clause-takes c = record {
