@@ -1,2 +1,3 @@
 mod Widths
 mod Many
+pub mod Numbered

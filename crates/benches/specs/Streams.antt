@@ -31,9 +31,8 @@ use Rattle.trace_lines.specs.Told.{StreamEnds}
 use Rattle.benches.specs.Outputs.{level_now, IsOutputIf}
 
 -- a stream of a bench as contracts see it: the names that a trace tells, the records of its ends, where the signals of its source
--- and the `ready` of its
--- sink stand, which outputs answer the source and which are given to the sink, what stands in for the source, the sink's pattern,
--- and the cycle
+-- and the `ready` of its sink stand, which outputs answer the source and which are given to the sink, what stands in for the
+-- source, the sink's pattern, and the cycle
 pub record BenchStreamValue : Type 0 where
   pub source_name : List ℕ
   pub sink_name : List ℕ

@@ -1,17 +1,13 @@
 ghost use Rattle.std.specs.Prelude.{◌≡◌, IfOk};
-ghost use Rattle.address_map.specs.Maps.{agents_of};
 ghost use Rattle.drawn_scenarios.specs.Agents.{agent_script};
-ghost use Rattle.drawn_scenarios.specs.Drawn.{agent_script_at, agent_scripts};
-ghost use Rattle.iface_roles.specs.declared.records.Finished.{Finished as Known};
-ghost use Rattle.system_tables.specs.Tables.{IsEnd};
+ghost use Rattle.drawn_scenarios.specs.Drawn.{agent_scripts};
 
 use crate::generator::Generator;
 use av_base::{List, NoMemory};
-use iface_roles::{AgentPort, Finished};
-use link_rules::{Plan, ends_are_known};
+use iface_roles::AgentPort;
+use link_rules::Plan;
 use scenario_tables::{AgentStatement, Scripts};
 use std::alloc::Global;
-use system_tables::EndId;
 
 fn agent_script(
     alloc: Global,
@@ -32,21 +28,6 @@ fn agent_script(
     Ok(script)
 }
 
-fn agent_script_at(
-    alloc: Global,
-    generator: &mut Generator,
-    plan: &Plan,
-    end: EndId,
-) -> Result<List<AgentStatement>, NoMemory>
-    requires { (known : Known) × IsEnd plan.now.system end known }
-    ensures { IfOk result (λ script. (script, generator.new) ≡ agent_script_at plan.now.system end generator.old) }
-{
-    match plan.interface(end) {
-        Finished::Agent(agent) => agent_script(alloc, generator, &agent),
-        _ => Ok(List::new(alloc)),
-    }
-}
-
 /// What is set of each agent, by the agents' numbers.
 pub(crate) fn agent_scripts(
     alloc: Global,
@@ -55,11 +36,9 @@ pub(crate) fn agent_scripts(
 ) -> Result<Scripts<AgentStatement>, NoMemory>
     ensures { IfOk result (λ scripts. (scripts, generator.new) ≡ agent_scripts plan.now.system generator.old) }
 {
-    ends_are_known();
-    plan.well_made();
     let mut scripts = Scripts::blank(alloc, 0)?;
-    'agents: for end in plan.agents() {
-        let script = agent_script_at(alloc, generator, plan, *end)?;
+    'agents: for number in 0..plan.agents().len() {
+        let script = agent_script(alloc, generator, &plan.agent(number))?;
         scripts.add(script)?;
     }
     Ok(scripts)

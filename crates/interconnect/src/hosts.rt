@@ -1,9 +1,6 @@
 //! The hosts of a plan: their ports, and what drives their outputs.
 
-ghost use Rattle.std.specs.Prelude.{◌≡◌, ℕ, ◌+◌, ◌<◌, Some, length, slice_get, IfOk, OnOk};
-ghost use Rattle.iface_roles.specs.declared.records.Finished.TheVariants.{Host};
-ghost use Rattle.iface_roles.specs.Proper.{IsBoundedHost};
-ghost use Rattle.address_map.specs.Footprints.{known_at};
+ghost use Rattle.std.specs.Prelude.{◌≡◌, ℕ, ◌+◌, ◌<◌, length, IfOk, OnOk};
 ghost use Rattle.address_map.specs.Maps.{hosts_of};
 ghost use Rattle.netlist.specs.Netlists.{driver_of};
 ghost use Rattle.netlist.specs.Longer.{Extends};
@@ -15,29 +12,12 @@ ghost use Rattle.interconnect.specs.Hosts.{AreHostsIn, host_outputs};
 
 use crate::outputs::{Output, drive_at, input_net, input_of};
 use av_base::{List, NoMemory};
-use iface_roles::{Finished, HostPort, proper_records_are_bounded};
-use link_rules::{Plan, ends_are_known};
+use link_rules::Plan;
 use mm_fabric::{HostEnd, HostPart};
 use mm_host::HostNets;
 use netlist::Builder;
 use port_tables::{PortMap, PortRole, ports_are_known};
 use std::alloc::Global;
-use system_tables::EndId;
-
-/// The ports of a host of the plan.
-fn host_port(plan: &Plan, end: EndId) -> HostPort
-    requires { (number : ℕ) × (slice_get (hosts_of plan.now.system) number ≡ Some end) }
-    ensures known { known_at plan.now.system end ≡ Host result }
-    ensures bounded { IsBoundedHost result }
-{
-    plan.well_made();
-    ends_are_known();
-    proper_records_are_bounded();
-    match plan.interface(end) {
-        Finished::Host(port) => port,
-        _ => unreachable!(),
-    }
-}
 
 /// Appends the host of this number, with the nets that it gives, to those before it.
 fn push_host(
@@ -55,7 +35,7 @@ fn push_host(
 {
     ports_are_known(plan);
     let end = plan.hosts()[number];
-    let port = host_port(plan, end);
+    let port = plan.host(number);
     ends.push(HostEnd {
         port,
         nets: HostNets {

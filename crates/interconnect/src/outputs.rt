@@ -49,10 +49,7 @@ pub(crate) fn input_net(
     ensures net { (width : ℕ) → IsInput plan.now.system end role width → input_at plan.now.system end role width ≡ Some result }
     ensures is { (width : ℕ) → IsInput plan.now.system end role width → IsNetOfWidth builder.now result width }
 {
-    match ports.port_at(plan, end, role) {
-        Some(port) => builder.input(port),
-        None => unreachable!(),
-    }
+    input_of(builder, plan, ports, end, role).unwrap()
 }
 
 /// What drives the output of a role.

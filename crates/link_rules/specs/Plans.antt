@@ -1,8 +1,12 @@
 -- A plan: a system that no rule and no limit refuses, and the maps of its hosts.
 use Rattle.std.specs.Prelude.{◌≡◌, ℕ, List, [], Option, Some, None, slice_get}
 use Rattle.std.specs.Option.{option_map_or}
+use Rattle.iface_roles.specs.declared.records.HostPort.{HostPort}
+use Rattle.iface_roles.specs.declared.records.AgentPort.{AgentPort}
+use Rattle.iface_roles.specs.declared.records.Finished.TheVariants.{Host, Agent}
 use Rattle.system_tables.specs.declared.tables.EndId.{EndId}
 use Rattle.system_tables.specs.Tables.{SystemTable, InstanceTable, IsSystem}
+use Rattle.address_map.specs.Footprints.{known_at}
 use Rattle.address_map.specs.declared.host_map.MapEntry.{MapEntry}
 use Rattle.address_map.specs.Maps.{AreMapsOf, hosts_of, agents_of}
 use Rattle.link_rules.specs.Links.{KeepsLinkRules, limit_tests, streams_of}
@@ -23,6 +27,17 @@ interface_name_of (Some instance) interface = option_map_or (λ table. table.nam
 -- the name of the interface at an end; empty where there is none
 abbrev pub interface_name_at : SystemTable → EndId → List ℕ
 interface_name_at system end = interface_name_of (slice_get system.instances end.instance) end.interface
+
+-- the host, or the agent, of this number and its record
+pub record IsHostAt (system : SystemTable) (number : ℕ) (port : HostPort) : Type 0 where
+  pub end : EndId
+  pub end_is : slice_get (hosts_of system) number ≡ Some end
+  pub is : known_at system end ≡ Host port
+
+pub record IsAgentAt (system : SystemTable) (number : ℕ) (port : AgentPort) : Type 0 where
+  pub end : EndId
+  pub end_is : slice_get (agents_of system) number ≡ Some end
+  pub is : known_at system end ≡ Agent port
 
 pub record PlanTable : Type 0 where
   pub system : SystemTable

@@ -1,20 +1,23 @@
-ghost use Rattle.std.specs.Prelude.{◌≡◌, ◌^◌, ◌≤◌, ℕ, length, slice_get, Some, OnOk, IfOk, IfErr};
+ghost use Rattle.std.specs.Prelude.{◌≡◌, ◌^◌, ◌<◌, ◌≤◌, ℕ, length, slice_get, Some, OnOk, IfOk, IfErr};
 ghost use Rattle.iface_roles.specs.declared.records.Finished.{Finished as Known};
+ghost use Rattle.iface_roles.specs.Proper.{IsBoundedHost, IsBoundedAgent, IsBoundedStream};
+ghost use Rattle.system_tables.specs.declared.tables.EndId.{EndId as Id};
 ghost use Rattle.system_tables.specs.Tables.{IsEnd};
 ghost use Rattle.address_map.specs.Maps.{AreMapsOf, hosts_of, agents_of, mm_connections};
 ghost use Rattle.link_rules.specs.Links.{streams_of, weight_of, too_many, limit_tests, KeepsLinkRules, IsPassedBy, IsCause};
 ghost use Rattle.link_rules.specs.Pairs.{KeepsAll};
-ghost use Rattle.link_rules.specs.PlanConnections.{stream_connections, memory_connections};
-ghost use Rattle.link_rules.specs.Plans.{IsPlan, instance_name_at, interface_name_at};
+ghost use Rattle.link_rules.specs.PlanConnections.{stream_connections, memory_connections, IsStreamConnection, KeepsStreamRules};
+ghost use Rattle.link_rules.specs.Plans.{IsPlan, IsHostAt, IsAgentAt, instance_name_at, interface_name_at};
 
 use crate::faults::PlanFault;
+use crate::laws::{ends_are_known, links_keep_rules, streams_are_numbered};
 use crate::links::{check_limits, check_links, mm_count, streams};
 use crate::plan_connections::{
     MemoryConnection, StreamConnection, memory_connections, stream_connections,
 };
 use address_map::{Ends, Maps, ends_have_one_number, mm_ends};
 use av_base::{List, NoMemory};
-use iface_roles::{Finished, Side};
+use iface_roles::{AgentPort, Finished, HostPort, Side, proper_records_are_bounded};
 use std::alloc::Global;
 use std::marker::Model;
 use system_tables::{Connection, EndId, System};
@@ -171,6 +174,56 @@ impl Plan {
         ensures { result.now ≡ agents_of self.now.system }
     {
         self.numbers.agents.as_slice()
+    }
+
+    /// The host of this number.
+    pub fn host(&self, number: usize) -> HostPort
+        requires { number < length (hosts_of self.now.system) }
+        ensures at { IsHostAt self.now.system number result }
+        ensures end { (end : Id) → slice_get (hosts_of self.now.system) number ≡ Some end
+            → IsEnd self.now.system end (Known.Host result) }
+        ensures bounded { IsBoundedHost result }
+    {
+        self.well_made();
+        ends_are_known();
+        proper_records_are_bounded();
+        match self.interface(self.hosts()[number]) {
+            Finished::Host(port) => port,
+            _ => unreachable!(),
+        }
+    }
+
+    /// The agent of this number.
+    pub fn agent(&self, number: usize) -> AgentPort
+        requires { number < length (agents_of self.now.system) }
+        ensures at { IsAgentAt self.now.system number result }
+        ensures end { (end : Id) → slice_get (agents_of self.now.system) number ≡ Some end
+            → IsEnd self.now.system end (Known.Agent result) }
+        ensures bounded { IsBoundedAgent result }
+    {
+        self.well_made();
+        ends_are_known();
+        proper_records_are_bounded();
+        match self.interface(self.agents()[number]) {
+            Finished::Agent(port) => port,
+            _ => unreachable!(),
+        }
+    }
+
+    /// The stream of this number.
+    pub fn stream(&self, number: usize) -> StreamConnection
+        requires { number < length (stream_connections self.now.system) }
+        ensures at { slice_get (stream_connections self.now.system) number ≡ Some result }
+        ensures is { IsStreamConnection self.now.system number result }
+        ensures source { IsBoundedStream result.source }
+        ensures sink { IsBoundedStream result.sink }
+        ensures rules { KeepsStreamRules self.now.system result }
+    {
+        self.well_made();
+        streams_are_numbered();
+        links_keep_rules();
+        proper_records_are_bounded();
+        self.stream_connections()[number]
     }
 
     /// The numbers of the streams' connections, by the streams' numbers.

@@ -199,11 +199,9 @@ fn put_counts(
 fn put_accepted(text: &mut String, plan: &Plan) -> Result<(), NoMemory>
     ensures { OnOk result (string_bytes text.new ≡ string_bytes text.old ++ accepted_line plan.now.system) }
 {
-    plan.well_made();
-    streams_are_numbered();
     let hosts = plan.hosts().len();
     let agents = plan.agents().len();
-    let streams = plan.stream_connections().len();
+    let streams = plan.streams().len();
     put_counts(text, hosts, agents, streams, plan.weight())
 }
 

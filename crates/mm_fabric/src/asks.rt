@@ -78,13 +78,10 @@ fn commands_for(
     let mut asking = Vec::new(alloc);
     for asker in askers {
         let host = &begun[asker.host as usize];
-        match command_to(host.routes.as_slice(), &host.commands, agent) {
-            Some(command) => asking.push(Asking {
-                port: host.port,
-                command,
-            })?,
-            None => unreachable!(),
-        }
+        asking.push(Asking {
+            port: host.port,
+            command: command_to(host.routes.as_slice(), &host.commands, agent).unwrap(),
+        })?;
     }
     Ok(asking)
 }

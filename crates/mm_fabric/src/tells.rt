@@ -49,10 +49,8 @@ fn backs_for(
     let mut backs = Vec::new(alloc);
     for route in routes {
         let part = &parts[route.agent as usize];
-        match seat_of(part.seats.as_slice(), host) {
-            Some(seat) => backs.push(seat.told)?,
-            None => unreachable!(),
-        }
+        let seat = seat_of(part.seats.as_slice(), host).unwrap();
+        backs.push(seat.told)?;
     }
     Ok(backs)
 }

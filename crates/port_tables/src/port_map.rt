@@ -78,10 +78,7 @@ impl PortMap {
         requires { (place : ℕ) × IsAt ends.now self.now.entries number role place }
         ensures { IsAt ends.now self.now.entries number role result }
     {
-        match self.find(ends[number as usize], role) {
-            Some(port) => port,
-            None => unreachable!(),
-        }
+        self.find(ends[number as usize], role).unwrap()
     }
 }
 

@@ -1,11 +1,9 @@
 -- Scenarios that fit a plan.
+pub use Rattle.link_rules.specs.Plans.{IsHostAt, IsAgentAt}
 use Rattle.std.specs.Prelude.{◌≡◌, ◌≤◌, ℕ, List, length, slice_get, Some}
 use Rattle.iface_roles.specs.declared.records.HostPort.{HostPort}
 use Rattle.iface_roles.specs.declared.records.AgentPort.{AgentPort}
-use Rattle.iface_roles.specs.declared.records.Finished.TheVariants.{Host, Agent}
-use Rattle.system_tables.specs.declared.tables.EndId.{EndId}
 use Rattle.system_tables.specs.Tables.{SystemTable}
-use Rattle.address_map.specs.Footprints.{known_at}
 use Rattle.address_map.specs.Maps.{hosts_of, agents_of}
 use Rattle.link_rules.specs.declared.plan_connections.StreamConnection.{StreamConnection}
 use Rattle.link_rules.specs.PlanConnections.{stream_connections}
@@ -15,17 +13,6 @@ use Rattle.scenario_tables.specs.declared.statements.SourceStatement.{SourceStat
 use Rattle.scenario_tables.specs.declared.statements.Pattern.{Pattern}
 use Rattle.scenario_tables.specs.declared.scenario.Scenario.{Scenario}
 use Rattle.scenario_tables.specs.Statements.{IsHostScript, IsAgentScript, IsSourceScript, IsSinkScript}
-
--- the host, or the agent, of this number and its record
-pub record IsHostAt (system : SystemTable) (number : ℕ) (port : HostPort) : Type 0 where
-  pub end : EndId
-  pub end_is : slice_get (hosts_of system) number ≡ Some end
-  pub is : known_at system end ≡ Host port
-
-pub record IsAgentAt (system : SystemTable) (number : ℕ) (port : AgentPort) : Type 0 where
-  pub end : EndId
-  pub end_is : slice_get (agents_of system) number ≡ Some end
-  pub is : known_at system end ≡ Agent port
 
 -- there are scripts for all interfaces of the system, and each fits the record of its own
 pub record IsScenario (system : SystemTable) (scenario : Scenario) : Type 0 where

@@ -1,6 +1,5 @@
 -- A host of 32-bit words with 8 address bits that count bytes and bursts of up to 4 beats, an agent of 8-bit words with 4 bytes
--- and response, and a source
--- of 2 symbols of 8 bits with packets and 4 channels.
+-- and response, and a source of 2 symbols of 8 bits with packets and 4 channels.
 use Rattle.std.specs.Prelude.{true, false}
 use Rattle.iface_roles.specs.declared.records.HostPort.{HostPort}
 use Rattle.iface_roles.specs.declared.records.AgentPort.{AgentPort}

@@ -1,4 +1,3 @@
-pub mod EndLemmas
 pub mod NameLemmas
 pub mod PortLemmas
 pub mod RuleLemmas

@@ -1,5 +1,5 @@
 -- The interfaces that statements name.
-use Rattle.std.specs.Prelude.{◌≡◌, ◌<◌, ℕ, List, length, Option, Some, None, option_and_then, position, slice_get}
+use Rattle.std.specs.Prelude.{ℕ, List, Option, Some, None, option_and_then, position, slice_get}
 use Rattle.std.specs.Str.{bytes_eq}
 use Rattle.iface_roles.specs.declared.kinds.Side.{Side}
 use Rattle.iface_roles.specs.declared.kinds.Side.TheVariants.{Start, End}
@@ -9,7 +9,7 @@ use Rattle.iface_roles.specs.declared.records.StreamPort.{StreamPort}
 use Rattle.iface_roles.specs.declared.records.Finished.{Finished}
 use Rattle.iface_roles.specs.declared.records.Finished.TheVariants.{Host, Agent}
 use Rattle.system_tables.specs.declared.tables.EndId.{EndId}
-use Rattle.system_tables.specs.Tables.{SystemTable, IsEnd}
+use Rattle.system_tables.specs.Tables.{SystemTable}
 use Rattle.address_map.specs.Footprints.{known_at}
 use Rattle.address_map.specs.Maps.{hosts_of, agents_of}
 use Rattle.link_rules.specs.declared.plan_connections.StreamConnection.{StreamConnection}
@@ -20,14 +20,6 @@ use Rattle.scenarios.specs.declared.interfaces.Named.{Named}
 -- the place of the first end whose name, INSTANCE.INTERFACE, is the word
 abbrev pub place_of : SystemTable → List EndId → List ℕ → Option ℕ
 place_of system ends word = position (λ end. bytes_eq (end_name system end) word) ends
-
--- what is known of the interface that the word names first among the ends
-pub record IsNamed (system : SystemTable) (ends : List EndId) (word : List ℕ) (known : Named Finished) : Type 0 where
-  pub end : EndId
-  pub place : place_of system ends word ≡ Some known.number
-  pub inside : known.number < length ends
-  pub end_is : slice_get ends known.number ≡ Some end
-  pub is : IsEnd system end known.port
 
 -- with a number
 abbrev pub numbered : {P : Type 0} → ℕ → Option P → Option (Named P)

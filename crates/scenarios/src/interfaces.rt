@@ -12,10 +12,10 @@ ghost use Rattle.link_rules.specs.declared.plan_connections.StreamConnection.{St
 ghost use Rattle.link_rules.specs.PlanConnections.{stream_connections};
 ghost use Rattle.map_text.specs.Text.{end_name};
 ghost use Rattle.scenarios.specs.declared.faults.ScenarioRule.TheVariants.{Interfaces};
-ghost use Rattle.scenarios.specs.Interfaces.{place_of, IsNamed, host_named, agent_named, stream_end, stream_port, stream_named};
+ghost use Rattle.scenarios.specs.Interfaces.{place_of, host_named, agent_named, stream_end, stream_port, stream_named};
 
 use crate::faults::{ScenarioRule, refuse_if};
-use iface_roles::{AgentPort, Finished, HostPort, Side, StreamPort, proper_records_are_bounded};
+use iface_roles::{AgentPort, HostPort, Side, StreamPort};
 use link_rules::{Plan, StreamConnection, ends_are_known, streams_are_numbered};
 use system_tables::EndId;
 
@@ -66,22 +66,16 @@ fn place_len(plan: &Plan, ends: &[EndId], word: &[u8]) -> usize
     count
 }
 
-/// The interface that a word names among these ends.
-fn interface_named(
-    plan: &Plan,
-    ends: &[EndId],
-    word: &[u8],
-) -> Result<Named<Finished>, ScenarioRule>
+/// The number of the end that a word names among these.
+fn number_named(plan: &Plan, ends: &[EndId], word: &[u8]) -> Result<usize, ScenarioRule>
     requires { (k : ℕ) (end : Id) → slice_get ends.now k ≡ Some end → (known : Known) × IsEnd plan.now.system end known }
-    ensures ok { IfOk result (IsNamed plan.now.system ends.now word.now) }
+    ensures ok { IfOk result (λ number. place_of plan.now.system ends.now word.now ≡ Some number) }
+    ensures inside { IfOk result (λ number. number < length ends.now) }
     ensures none { IfErr result (λ rule. (place_of plan.now.system ends.now word.now ≡ None) × (rule ≡ Interfaces)) }
 {
     let number = place_len(plan, ends, word);
     refuse_if(ends.len() <= number, ScenarioRule::Interfaces)?;
-    Ok(Named {
-        number,
-        port: plan.interface(ends[number]),
-    })
+    Ok(number)
 }
 
 /// The host that a word names.
@@ -94,14 +88,10 @@ pub(crate) fn host_named(plan: &Plan, word: &[u8]) -> Result<Named<HostPort>, Sc
 {
     plan.well_made();
     ends_are_known();
-    proper_records_are_bounded();
-    let known = interface_named(plan, plan.hosts(), word)?;
-    let Finished::Host(port) = known.port else {
-        unreachable!();
-    };
+    let number = number_named(plan, plan.hosts(), word)?;
     Ok(Named {
-        number: known.number,
-        port,
+        number,
+        port: plan.host(number),
     })
 }
 
@@ -115,14 +105,10 @@ pub(crate) fn agent_named(plan: &Plan, word: &[u8]) -> Result<Named<AgentPort>, 
 {
     plan.well_made();
     ends_are_known();
-    proper_records_are_bounded();
-    let known = interface_named(plan, plan.agents(), word)?;
-    let Finished::Agent(port) = known.port else {
-        unreachable!();
-    };
+    let number = number_named(plan, plan.agents(), word)?;
     Ok(Named {
-        number: known.number,
-        port,
+        number,
+        port: plan.agent(number),
     })
 }
 
@@ -174,16 +160,14 @@ pub(crate) fn stream_named(
     ensures port { IfOk result (λ stream. IsBoundedStream stream.port) }
     ensures none { IfErr result (λ rule. (stream_named plan.now.system side word.now ≡ None) × (rule ≡ Interfaces)) }
 {
-    plan.well_made();
-    streams_are_numbered();
-    proper_records_are_bounded();
     let number = stream_len(plan, side, word);
     refuse_if(
         plan.stream_connections().len() <= number,
         ScenarioRule::Interfaces,
     )?;
+    let link = plan.stream(number);
     Ok(Named {
         number,
-        port: port_of(&plan.stream_connections()[number], side),
+        port: port_of(&link, side),
     })
 }

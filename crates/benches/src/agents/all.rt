@@ -2,11 +2,7 @@
 
 ghost use Rattle.std.specs.Prelude.{◌≡◌, ◌<◌, ◌≤◌, ℕ, List as Sequence, length, flat_map, slice_get, Some, true, IfOk, IsTrue, IsFalse};
 ghost use Rattle.iface_roles.specs.declared.records.AgentPort.{AgentPort as Record};
-ghost use Rattle.iface_roles.specs.declared.records.Finished.{Finished as Known};
-ghost use Rattle.iface_roles.specs.Proper.{IsBoundedAgent};
-ghost use Rattle.system_tables.specs.Tables.{IsEnd};
 ghost use Rattle.address_map.specs.Maps.{agents_of};
-ghost use Rattle.link_rules.specs.PlanConnections.{IsAgentEnd};
 ghost use Rattle.port_tables.specs.Ports.{ports_of};
 ghost use Rattle.port_tables.specs.PortMaps.{AreTold};
 ghost use Rattle.port_rows.specs.Levels.{AllFit, set_levels};
@@ -18,41 +14,15 @@ ghost use Rattle.benches.specs.Agents.{BenchAgentValue, AreFirstAgents, IsFirstA
 use crate::agents::agent::BenchAgent;
 use crate::parts::Simulator;
 use av_base::NoMemory;
-use iface_roles::{AgentPort, Finished, proper_records_are_bounded};
 use interconnect::PortMap;
-use link_rules::{Plan, ends_are_known};
+use link_rules::Plan;
 use netlist::PortLine;
 use port_rows::agent_ends::{AgentPlaces, AgentPorts, script_holds_bytes};
 use port_rows::{InputRow, levels_stand};
 use scenario_tables::{AgentStatement, Scripts};
 use stand_ins::AgentStandIn;
 use std::alloc::Global;
-use system_tables::EndId;
 use trace_lines::EndName;
-
-/// The end of the agent of this number.
-fn agent_end(plan: &Plan, number: usize) -> EndId
-    requires { number < length (agents_of plan.now.system) }
-    ensures is { slice_get (agents_of plan.now.system) number ≡ Some result }
-    ensures known { IsAgentEnd plan.now.system result }
-{
-    plan.well_made();
-    ends_are_known();
-    plan.agents()[number]
-}
-
-/// The record of the agent at this end.
-fn agent_port(plan: &Plan, end: EndId) -> AgentPort
-    requires { IsAgentEnd plan.now.system end }
-    ensures is { IsEnd plan.now.system end (Known.Agent result) }
-    ensures bounded { IsBoundedAgent result }
-{
-    proper_records_are_bounded();
-    let Finished::Agent(port) = plan.interface(end) else {
-        unreachable!();
-    };
-    port
-}
 
 /// The agent of this number, before the first cycle of its script.
 fn agent_of_plan<'a>(
@@ -73,8 +43,8 @@ fn agent_of_plan<'a>(
 {
     plan.is_within_limits();
     script_holds_bytes(script);
-    let end = agent_end(plan, number);
-    let port = agent_port(plan, end);
+    let end = plan.agents()[number];
+    let port = plan.agent(number);
     let stand_in = match AgentStandIn::new(alloc, &port, script, cycles) {
         Ok(stand_in) => stand_in,
         Err(error) => return Err(error),

@@ -31,8 +31,7 @@ use stand_ins::stand_ins_stand_for_runs;
 use trace_lines::agents_are_told_by_their_ports;
 
 /// An agent of a system's module can take part in its simulation. What it sets has room in a row where it fits its ports, and
-/// where it
-/// stands in the row, the run shows it. What the run commands it is what stands at the outputs that command it.
+/// where it stands in the row, the run shows it. What the run commands it is what stands at the outputs that command it.
 pub fn agents_take_part()
     ensures fit { (system : SystemTable) (number : ℕ) (agent : BenchAgentValue) (sim : SimValue) → HasKnownPorts system
         → sim.netlist.ports ≡ ports_of system → IsAgentOf system number agent
@@ -66,8 +65,7 @@ pub fn agents_take_part()
 }
 
 /// Where a view shows what an agent shows and is commanded, what is told and counted of the agent is what the definitions tell
-/// and count
-/// of the view, and behind the cycle the agent still stands for it.
+/// and count of the view, and behind the cycle the agent still stands for it.
 pub fn agents_are_told()
     ensures lines { (script : List AgentStatement) (view : AgentView) (sim : SimValue) (agent : BenchAgentValue)
         → StandsFor script agent.stand_in view → IsSeen view sim agent

@@ -1,12 +1,10 @@
 //! What stands for a host in a test bench.
 
-ghost use Rattle.std.specs.Prelude.{◌≡◌, ◌*◌, ◌≤◌, ℕ, List as Sequence, Some, true, length, slice_get, IfOk};
+ghost use Rattle.std.specs.Prelude.{◌≡◌, ◌*◌, ◌<◌, ◌≤◌, ℕ, List as Sequence, Some, true, length, slice_get, IfOk};
 ghost use Rattle.av_base.specs.Word.{word};
 ghost use Rattle.histories.specs.History.{is_raised};
 ghost use Rattle.iface_roles.specs.declared.records.HostPort.{HostPort as Port};
-ghost use Rattle.iface_roles.specs.declared.records.Finished.TheVariants.{Host};
 ghost use Rattle.iface_roles.specs.Proper.{IsBoundedHost};
-ghost use Rattle.address_map.specs.Footprints.{known_at};
 ghost use Rattle.address_map.specs.Maps.{hosts_of};
 ghost use Rattle.port_tables.specs.Ports.{ports_of};
 ghost use Rattle.port_tables.specs.PortMaps.{AreTold};
@@ -20,9 +18,9 @@ ghost use Rattle.benches.specs.Hosts.{AreFirstHosts, Fits, IsFirstHost, behind, 
 use crate::parts::{Component, Simulator, level_at};
 use av_base::{NoMemory, Val};
 use av_files::{Sink, put_all};
-use iface_roles::{Finished, HostPort, proper_records_are_bounded};
+use iface_roles::HostPort;
 use interconnect::PortMap;
-use link_rules::{Plan, ends_are_known};
+use link_rules::Plan;
 use netlist::PortLine;
 use port_rows::InputRow;
 use port_rows::host_ends::{HostPlaces, HostPorts};
@@ -30,7 +28,6 @@ use scenario_tables::{HostStatement, Scripts};
 use stand_ins::hosts::HostStandIn;
 use std::alloc::Global;
 use std::marker::Model;
-use system_tables::EndId;
 use trace_lines::{Counts, EndName, WordGiven, get_line};
 
 /// A host of a test bench: its name, where its signals stand, which outputs answer it, and what stands in for it.
@@ -57,39 +54,22 @@ impl<'a> Model for BenchHost<'a> {
     ghost invariant = { λ s. (s.port ≡ s.stand_in.port) × IsBoundedHost s.port };
 }
 
-/// The ports of a host of the plan.
-fn host_port(plan: &Plan, end: EndId) -> HostPort
-    requires { (number : ℕ) × (slice_get (hosts_of plan.now.system) number ≡ Some end) }
-    ensures known { known_at plan.now.system end ≡ Host result }
-    ensures bounded { IsBoundedHost result }
-{
-    plan.well_made();
-    ends_are_known();
-    proper_records_are_bounded();
-    match plan.interface(end) {
-        Finished::Host(port) => port,
-        _ => unreachable!(),
-    }
-}
-
-/// The host at an end of the plan, before the first statement of its script.
+/// The host of this number, before the first statement of its script.
 fn first_host<'a>(
     plan: &'a Plan,
     ports: &PortMap,
     header: &[PortLine],
-    end: EndId,
     script: &'a [HostStatement],
+    number: usize,
 ) -> BenchHost<'a>
     requires told { AreTold plan.now.system ports.now }
     requires header { header.now ≡ ports_of plan.now.system }
-    requires end { (number : ℕ) × (slice_get (hosts_of plan.now.system) number ≡ Some end) }
-    requires script { (port : Port) → known_at plan.now.system end ≡ Host port → IsHostScript port script.now }
-    ensures { (number : ℕ) → slice_get (hosts_of plan.now.system) number ≡ Some end
-        → IsFirstHost plan.now.system number script.now result }
+    requires number { number < length (hosts_of plan.now.system) }
+    requires script { (port : Port) → IsHostAt plan.now.system number port → IsHostScript port script.now }
+    ensures { IsFirstHost plan.now.system number script.now result }
 {
-    ends_are_known();
-    plan.well_made();
-    let port = host_port(plan, end);
+    let end = plan.hosts()[number];
+    let port = plan.host(number);
     BenchHost {
         name: EndName::of(plan, end),
         places: HostPlaces::of(plan, ports, header, end),
@@ -115,8 +95,9 @@ pub fn hosts_of_plan<'a>(
     ensures { IfOk result (λ hosts. AreFirstHosts plan.now.system scripts.now hosts.items) }
 {
     let mut hosts = Vec::new(alloc);
-    'hosts: for (number, end) in plan.hosts().iter().enumerate() {
-        hosts.push(first_host(plan, ports, header, *end, scripts.script(number)))?;
+    'hosts: for number in 0..scripts.len() {
+        let script = scripts.script(number);
+        hosts.push(first_host(plan, ports, header, script, number))?;
     }
     Ok(hosts)
 }

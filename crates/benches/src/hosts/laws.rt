@@ -25,8 +25,7 @@ ghost use Rattle.benches.specs.Hosts.{BenchHostValue, IsHostOf, IsSeen, Fits, be
 use port_rows::host_ends::{hosts_are_answered, hosts_are_shown};
 
 /// A host of a plan can take part in every cycle: the outputs that answer it are there, what it shows has room in a row, and
-/// where that stands there,
-/// the run shows it.
+/// where that stands there, the run shows it.
 pub fn hosts_take_part()
     ensures fit { (system : SystemTable) (number : ℕ) (host : BenchHostValue) (sim : SimValue) → HasKnownPorts system
         → sim.netlist.ports ≡ ports_of system

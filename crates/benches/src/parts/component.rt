@@ -18,8 +18,7 @@ pub trait Component {
     ghost sets: { Self → Sequence Given };
 
     /// It can take part in the present cycle of this simulator: the ports that it reads are outputs of its module, as wide as
-    /// they are
-    /// to be, and a further cycle has room.
+    /// they are to be, and a further cycle has room.
     ghost fits: { Self → SimValue → Type 0 };
 
     /// The lines that tell of it in the cycle of this number.

@@ -1,21 +1,23 @@
-use Rattle.std.proofs.Common.{◌≡◌, Some, None, sym, ◌∙◌}
-use Rattle.interconnect.proofs.Driving.{input_found}
+use Rattle.std.proofs.Common.{Option, is_some, IfSome, sym, ap, subst, ◌∙◌}
+use Rattle.netlist.specs.Nets.{NetValue}
+use Rattle.net_parts.specs.Nets.{IsNetOfWidth}
+use Rattle.interconnect.proofs.Driving.{input_may, input_some}
 use Rattle.interconnect.proofs.outputs.input_net.Goals as goal
 
-pub unreachable-requires : goal.unreachable-requires
-unreachable-requires c =
-    let is = c.requires.input.1.place_is in
-    let none = c.in-None.is in
-    let found = c.port_at.ensures in
-    let both : Some c.requires.input.1.place ≡ None = sym is ∙ sym found ∙ none in
-    cc
+pub input_of-requires-clause-input : goal.input_of-requires-clause-input
+input_of-requires-clause-input c = (c.requires.input.0, input_may c.args.plan.now.system c.args.end c.args.role c.requires.input.0 c.requires.input.1)
+
+pub unwrap-requires : goal.unwrap-requires
+unwrap-requires c =
+    let system = c.args.plan.now.system in
+    let width = c.requires.input.0 in
+    let read = c.input_of.ensures.net width (input_may system c.args.end c.args.role width c.requires.input.1) in
+    ap is_some read ∙ input_some system c.args.end c.args.role width c.requires.input.1
 
 pub returns-clause-net : goal.returns-clause-net
-returns-clause-net c width is =
-    (input_found c.args.plan.now.system c.args.builder.now c.args.end c.args.role width c.in-Some.port c.port_at.result c.input.result c.requires.builder c.port_at.ensures c.in-Some.is is
-    c.input.ensures.net c.input.ensures.number c.input.ensures.width).net_is
+returns-clause-net c width is = sym (c.input_of.ensures.net width (input_may c.args.plan.now.system c.args.end c.args.role width is)) ∙ c.unwrap.ensures
 
 pub returns-clause-is : goal.returns-clause-is
 returns-clause-is c width is =
-    (input_found c.args.plan.now.system c.args.builder.now c.args.end c.args.role width c.in-Some.port c.port_at.result c.input.result c.requires.builder c.port_at.ensures c.in-Some.is is
-    c.input.ensures.net c.input.ensures.number c.input.ensures.width).is
+    subst (λ (net : Option NetValue). IfSome net (λ n. IsNetOfWidth c.args.builder.now n width)) c.unwrap.ensures
+    (c.input_of.ensures.is width (input_may c.args.plan.now.system c.args.end c.args.role width is))

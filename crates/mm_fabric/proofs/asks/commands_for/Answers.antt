@@ -1,4 +1,4 @@
-use Rattle.std.proofs.Common.{List, [], ◌∷◌, ◌++◌, get_or, take, sym, subst, ap}
+use Rattle.std.proofs.Common.{◌≡◌, Some, is_some, List, [], ◌∷◌, ◌++◌, get_or, take, sym, subst, ap}
 use Rattle.std.specs.List.{AllZip}
 use Rattle.std.proofs.lemmas.List.{take_more}
 use Rattle.std.proofs.lemmas.Option.{slice_get_within}
@@ -24,16 +24,17 @@ command_to-requires c =
     let commands = c.deref.ensures.value in
     rw (routes, commands, sym same) many
 
-pub unreachable-requires : goal.unreachable-requires
-unreachable-requires c =
-    let have = (have_at c.args.agent c.args.begun.now c.args.askers.now c.loop-asker.asker-index _ c.requires c.loop-asker-test.true).1 in
+pub unwrap-requires : goal.unwrap-requires
+unwrap-requires c =
+    let found = have_at c.args.agent c.args.begun.now c.args.askers.now c.loop-asker.asker-index _ c.requires c.loop-asker-test.true in
+    let have = found.1 in
     let same = same_host c.args.begun.now _ have.host c.index-begun-asker.result have.at c.index-begun-asker.is in
     let leads = have.leads in
     let routes = c.as_slice.ensures in
     let commands = c.deref.ensures.value in
     let gives = c.command_to.ensures in
-    let none = c.in-None.is in
-    absurd (cc)
+    let some : c.command_to.result ≡ Some found.0 = cc in
+    ap is_some some
 
 pub loop-asker-preserved : goal.loop-asker-preserved
 loop-asker-preserved c =
@@ -45,9 +46,9 @@ loop-asker-preserved c =
     let routes = c.as_slice.ensures in
     let commands = c.deref.ensures.value in
     let gives = c.command_to.ensures in
-    let some = c.in-Some.is in
-    let one : Asking = record { port = c.index-begun-asker.result.port; command = c.in-Some.command } in
+    let some = c.unwrap.ensures in
+    let one : Asking = record { port = c.index-begun-asker.result.port; command = c.unwrap.result } in
     let last : AsksAs c.args.agent c.args.begun.now (get_or askers k none) one = record { is = record { host = have.host; at = have.at; many = have.many; leads = cc }; port = ap (λ (b : BegunHost). b.port) (sym same) } in
     subst (λ (xs : List Asker). AllZip (AsksAs c.args.agent c.args.begun.now) xs c.push.new.self.items) (sym (take_more askers k none c.loop-asker-test.true))
-    (subst (λ (ys : List Asking). AllZip (AsksAs c.args.agent c.args.begun.now) (take k askers ++ get_or askers k none ∷ []) ys) (sym c.in_ok-push-in-Some.ensures.items)
+    (subst (λ (ys : List Asking). AllZip (AsksAs c.args.agent c.args.begun.now) (take k askers ++ get_or askers k none ∷ []) ys) (sym c.in_ok-push.ensures.items)
     (zip_push (AsksAs c.args.agent c.args.begun.now) (take k askers) c.loop-asker.asking.items (get_or askers k none) one c.loop-asker.invariant last))

@@ -1,17 +1,13 @@
-use Rattle.std.proofs.Common.{subst}
-use Rattle.iface_roles.specs.Proper.{IsProper}
-use Rattle.scenarios.proofs.InterfaceLemmas.{an_agent, agent_record}
+use Rattle.std.proofs.Common.{◌<◌, List, length, subst}
+use Rattle.system_tables.specs.declared.tables.EndId.{EndId}
+use Rattle.scenarios.proofs.InterfaceLemmas.{an_agent}
 use Rattle.scenarios.proofs.interfaces.agent_named.Goals as goal
 
-pub unreachable-requires : goal.unreachable-requires
-unreachable-requires c =
-    let one = agent_record c.args.plan.now.system c.agents.result.now c.args.word.now c.in_ok-known.known c.agents.ensures c.in_ok-known.ensures.ok (c.ends_are_known.ensures.agents c.args.plan.now.system c.well_made.ensures.system) in
-    c.in_default.not-Agent one.agent one.is
+pub agent-requires : goal.agent-requires
+agent-requires c = subst (λ (ends : List EndId). c.in_ok-number.number < length ends) c.agents.ensures c.in_ok-number.ensures.inside
 
 pub returns-clause-ok : goal.returns-clause-ok
-returns-clause-ok c = an_agent c.args.plan.now.system c.agents.result.now c.args.word.now c.in_ok-known.known c.in-Agent.port c.agents.ensures c.in_ok-known.ensures.ok c.in-Agent.is
+returns-clause-ok c = an_agent c.args.plan.now.system c.agents.result.now c.args.word.now c.in_ok-number.number c.agent.result c.agents.ensures c.in_ok-number.ensures.ok c.agent.ensures.at
 
-pub returns-clause-port : goal.returns-clause-port
-returns-clause-port c =
-    let one = agent_record c.args.plan.now.system c.agents.result.now c.args.word.now c.in_ok-known.known c.agents.ensures c.in_ok-known.ensures.ok (c.ends_are_known.ensures.agents c.args.plan.now.system c.well_made.ensures.system) in
-    c.proper_records_are_bounded.ensures.agent _ (subst IsProper c.in-Agent.is one.proper)
+pub returns-clause-number : goal.returns-clause-number
+returns-clause-number c = subst (λ (ends : List EndId). c.in_ok-number.number < length ends) c.agents.ensures c.in_ok-number.ensures.inside

@@ -1,17 +1,13 @@
-use Rattle.std.proofs.Common.{subst}
-use Rattle.iface_roles.specs.Proper.{IsProper}
-use Rattle.scenarios.proofs.InterfaceLemmas.{a_host, host_record}
+use Rattle.std.proofs.Common.{◌<◌, List, length, subst}
+use Rattle.system_tables.specs.declared.tables.EndId.{EndId}
+use Rattle.scenarios.proofs.InterfaceLemmas.{a_host}
 use Rattle.scenarios.proofs.interfaces.host_named.Goals as goal
 
-pub unreachable-requires : goal.unreachable-requires
-unreachable-requires c =
-    let one = host_record c.args.plan.now.system c.hosts.result.now c.args.word.now c.in_ok-known.known c.hosts.ensures c.in_ok-known.ensures.ok (c.ends_are_known.ensures.hosts c.args.plan.now.system c.well_made.ensures.system) in
-    c.in_default.not-Host one.host one.is
+pub host-requires : goal.host-requires
+host-requires c = subst (λ (ends : List EndId). c.in_ok-number.number < length ends) c.hosts.ensures c.in_ok-number.ensures.inside
 
 pub returns-clause-ok : goal.returns-clause-ok
-returns-clause-ok c = a_host c.args.plan.now.system c.hosts.result.now c.args.word.now c.in_ok-known.known c.in-Host.port c.hosts.ensures c.in_ok-known.ensures.ok c.in-Host.is
+returns-clause-ok c = a_host c.args.plan.now.system c.hosts.result.now c.args.word.now c.in_ok-number.number c.host.result c.hosts.ensures c.in_ok-number.ensures.ok c.host.ensures.at
 
-pub returns-clause-port : goal.returns-clause-port
-returns-clause-port c =
-    let one = host_record c.args.plan.now.system c.hosts.result.now c.args.word.now c.in_ok-known.known c.hosts.ensures c.in_ok-known.ensures.ok (c.ends_are_known.ensures.hosts c.args.plan.now.system c.well_made.ensures.system) in
-    c.proper_records_are_bounded.ensures.host _ (subst IsProper c.in-Host.is one.proper)
+pub returns-clause-number : goal.returns-clause-number
+returns-clause-number c = subst (λ (ends : List EndId). c.in_ok-number.number < length ends) c.hosts.ensures c.in_ok-number.ensures.inside
