@@ -1,5 +1,5 @@
 -- What drives the ports of an end, one after the other, and what stays as a netlist grows.
-use Rattle.std.proofs.Common.{◌≡◌, ◌≢◌, ◌⊎◌, inl, inr, ℕ, zero, suc, ◌+◌, ◌<◌, ◌≤◌, true, false, List, [], ◌∷◌, slice_get, Option, Some, None, refl, sym, ap, subst, ◌∙◌, arith}
+use Rattle.std.proofs.Common.{◌≡◌, ◌≢◌, ◌⊎◌, inl, inr, ℕ, zero, suc, ◌+◌, ◌<◌, ◌≤◌, true, false, List, [], ◌∷◌, slice_get, Option, Some, None, is_some, refl, sym, ap, subst, ◌∙◌, arith}
 use Rattle.std.specs.Prelude.{IfSome, option_map}
 use Rattle.std.proofs.lemmas.Bool.{false≢true}
 use Rattle.std.proofs.lemmas.Option.{slice_get-map}
@@ -20,7 +20,7 @@ use Rattle.port_tables.specs.Ends.{IsAnEnd}
 use Rattle.port_tables.specs.Ports.{ends_of, ports_of}
 use Rattle.port_tables.specs.PortMaps.{IsPortIf, HasKnownPorts, port_at}
 use Rattle.interconnect.specs.declared.outputs.Output.{Output}
-use Rattle.interconnect.specs.Outputs.{IsInput, input_at, output_of, outputs_by, HaveOwnRoles, HasSameNets, MayDrive, MayDriveAt, IsDrivenAs, AreDrivenAt, AreDrivenBelow, IsNoPortOf, IsNoOutputBelow}
+use Rattle.interconnect.specs.Outputs.{IsInputIf, IsInput, input_at, output_of, outputs_by, HaveOwnRoles, HasSameNets, MayDrive, MayDriveAt, IsDrivenAs, AreDrivenAt, AreDrivenBelow, IsNoPortOf, IsNoOutputBelow}
 use Rattle.interconnect.specs.Streams.{low_line}
 
 -- ---- numbers
@@ -46,27 +46,12 @@ other_port system a b r k h mine other apart there s here = apart (h.one_role a 
 
 -- ---- inputs
 
--- the net of an input that was found
-pub record IsInputNet (system : SystemTable) (netlist : Netlist) (end : EndId) (r : PortRole) (width : ℕ) (net : NetValue) : Type 0 where
-  pub net_is : input_at system end r width ≡ Some net
-  pub is : IsNetOfWidth netlist net width
+-- an input that is there is one that may be there, and its net is there
+pub input_may : (system : SystemTable) (end : EndId) (r : PortRole) (width : ℕ) → IsInput system end r width → IsInputIf system end r width
+input_may system end r width is = subst (λ (o : Option ℕ). IfSome o (λ port. IsInputPort (ports_of system) port width)) (sym is.place_is) is.port
 
-net_by : (net : NetValue) (n w : ℕ) → net.number ≡ n → net.width ≡ w → net_of n w ≡ net
-net_by net n w e f = ap (λ (k : ℕ). net_of k w) (sym e) ∙ ap (λ (k : ℕ). net_of net.number k) (sym f)
-
-pub input_found : (system : SystemTable) (netlist : Netlist) (end : EndId) (r : PortRole) (width port : ℕ) (o : Option ℕ) (net : NetValue) → netlist.ports ≡ ports_of system → o ≡ port_at system end r → o ≡ Some port
-    → IsInput system end r width → IsNet netlist net → net.number ≡ input_net netlist.ports port → ((w : ℕ) → IsInputPort netlist.ports port w → net.width ≡ w) → IsInputNet system netlist end r width net
-input_found system netlist end r width port o net ports e f is is_net number widths =
-    let found : port_at system end r ≡ Some port = sym e ∙ f in
-    let place = is.place_is in
-    let same : is.place ≡ port = cc in
-    let here : IsInputPort netlist.ports port width = subst (λ (ps : List PortLine). IsInputPort ps port width) (sym ports) (subst (λ (k : ℕ). IsInputPort (ports_of system) k width) same is.port) in
-    let wide = widths width here in
-    let numbered : net.number ≡ input_net (ports_of system) port = number ∙ ap (λ (ps : List PortLine). input_net ps port) ports in
-    record {
-      net_is = ap (option_map (λ (k : ℕ). net_of (input_net (ports_of system) k) width)) found ∙ ap Some (net_by net (input_net (ports_of system) port) width numbered wide);
-      is = record { is_net = is_net; has_width = wide };
-    }
+pub input_some : (system : SystemTable) (end : EndId) (r : PortRole) (width : ℕ) → IsInput system end r width → is_some (input_at system end r width) ≡ true
+input_some system end r width is = ap (λ (o : Option ℕ). is_some (option_map (λ port. net_of (input_net (ports_of system) port) width) o)) is.place_is
 
 -- ---- what may drive an output
 

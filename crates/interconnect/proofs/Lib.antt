@@ -10,6 +10,7 @@ pub mod Weights
 pub mod Gathered
 pub mod Adding
 pub mod FabricJoins
+pub mod NumberedEnds
 pub mod Joining
 pub mod LowNets
 pub mod WireNets

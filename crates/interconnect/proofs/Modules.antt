@@ -3,7 +3,7 @@ use Rattle.std.proofs.Common.{◌≡◌, inl, inr, ℕ, ◌+◌, ◌-◌, ◌<�
 use Rattle.std.specs.Prelude.{IsSome}
 use Rattle.std.specs.List.{flat_map}
 use Rattle.std.proofs.lemmas.Bool.{cases_lt}
-use Rattle.std.proofs.lemmas.Option.{slice_get_within}
+use Rattle.std.proofs.lemmas.Option.{same_Some, slice_get_within}
 use Rattle.iface_roles.specs.declared.records.Finished.{Finished}
 use Rattle.iface_roles.specs.declared.records.Finished.TheVariants.{Source, Sink}
 use Rattle.iface_roles.specs.declared.records.StreamPort.{StreamPort}
@@ -15,6 +15,7 @@ use Rattle.address_map.specs.Footprints.{known_at}
 use Rattle.address_map.specs.Maps.{hosts_of, agents_of}
 use Rattle.link_rules.specs.Links.{streams_of, weight_of}
 use Rattle.link_rules.specs.Plans.{PlanTable}
+use Rattle.netlist.specs.declared.line.Line.{Line}
 use Rattle.netlist.specs.declared.line.PortLine.{PortLine}
 use Rattle.netlist.specs.Netlists.{Netlist, IsDriven, IsWellMade, driver_of, input_count}
 use Rattle.netlist.specs.Runs.{Run, IsRun, GoesOn}
@@ -28,12 +29,13 @@ use Rattle.port_tables.specs.Ends.{IsStreamPlace}
 use Rattle.port_tables.specs.EndFacts.{IsPlanned, known_is, known_proper}
 use Rattle.port_tables.specs.Numbering.{stream_number, stream_at, ends_at}
 use Rattle.port_tables.specs.Wires.{is_wire, is_wire_at, wires_before, is_wire_stream}
-use Rattle.interconnect.specs.Streams.{IsStream, IsWired}
+use Rattle.interconnect.specs.Streams.{IsStream, IsWired, low_line}
 use Rattle.pruned_netlists.specs.Needed.{IsNeeded}
 use Rattle.pruned_netlists.specs.Pruned.{IsPruned}
 use Rattle.pruned_netlists.specs.Inputs.{inputs_needed}
 use Rattle.settled_netlists.specs.Settled.{IsSettled}
-use Rattle.interconnect.proofs.Unneeded.{Replaces, KeepsWires, pruned_replaces, settled_replaces, pruned_keeps, settled_keeps, memory_as, stream_as, wired_as, counted_at}
+use Rattle.narrowed_netlists.specs.Narrowed.{IsNarrowed, AreFixed, is_fixed}
+use Rattle.interconnect.proofs.Unneeded.{Replaces, KeepsWires, pruned_replaces, settled_replaces, narrowed_replaces, pruned_keeps, settled_keeps, narrowed_keeps, first_fixed, memory_as, stream_as, wired_as, counted_at}
 use Rattle.interconnect.specs.Going.{LegalRunsGoOn}
 use Rattle.interconnect.specs.Joins.{IsJoinedUpTo}
 use Rattle.interconnect.specs.Interconnect.{IsInterconnect}
@@ -198,39 +200,64 @@ wire_back system connection place source sink is e f test =
     let wire : is_wire system connection ≡ true = rw is at test in
     rw (e, f) at wire
 
--- below the low net of a stream stand those of inputs, and of wires, each of which drives its `dropped`
+-- a net behind those of inputs, below the low net of a stream, is that of a wire, which drives its `dropped`
+record IsLowNet (plan : PlanTable) (netlist : Netlist) (m : ℕ) : Type 0 where
+  pub port : ℕ
+  pub drives : driver_of netlist port ≡ Some m
+  pub is_low : slice_get netlist.lines m ≡ Some low_line
+
+low_below : (plan : PlanTable) (netlist : Netlist) (number m : ℕ) → HasKnownPorts plan.system → IsInterconnect plan netlist → input_count netlist.ports ≤ m → m < input_count netlist.ports + wires_before plan.system number → IsLowNet plan netlist m
+low_below plan netlist number m ports i behind lt =
+    let its = counted_at (is_wire_at plan.system) (streams_of plan.system) number (m - input_count netlist.ports) (omega (arith, lt, behind)) in
+    let known = stream_number plan.system its.item (among_at (streams_of plan.system) its.place its.item its.at) in
+    let at = stream_at plan.system its.item known.connection ports.planned known.is known.kind in
+    let source_is = known_is plan.system known.connection.start (Source at.joins.source) at.joins.start in
+    let sink_is = known_is plan.system known.connection.end (Sink at.joins.sink) at.joins.end in
+    let is : IsStream plan.system its.place known.connection at.joins.source at.joins.sink = record {
+      place = its.item;
+      place_is = its.at;
+      connection_is = known.is;
+      source_is = source_is;
+      sink_is = sink_is;
+    } in
+    let wired = i.wired its.place known.connection at.joins.source at.joins.sink is (wire_back plan.system known.connection its.item at.joins.source at.joins.sink known.is source_is sink_is its.test_is) in
+    let count = its.count in
+    let number_is : input_count netlist.ports + wires_before plan.system its.place ≡ m = omega (arith, count, behind) in
+    subst (IsLowNet plan netlist) number_is (record { port = wired.dropped_port; drives = wired.dropped; is_low = wired.is_low })
+
+-- below the low net of a stream stand those of inputs, and of wires, each of which is needed
 lows_needed : (plan : PlanTable) (netlist : Netlist) (number m : ℕ) → HasKnownPorts plan.system → IsWellMade netlist → IsInterconnect plan netlist → m < input_count netlist.ports + wires_before plan.system number → IsNeeded netlist m
 lows_needed plan netlist number m ports made i lt = elim (cases_lt m (input_count netlist.ports)) [
   | inl inside ↦ inputs_needed netlist (input_count netlist.ports) made (omega arith) m inside
-  | inr behind ↦
-      (let its = counted_at (is_wire_at plan.system) (streams_of plan.system) number (m - input_count netlist.ports) (omega (arith, lt, behind)) in
-      let known = stream_number plan.system its.item (among_at (streams_of plan.system) its.place its.item its.at) in
-      let at = stream_at plan.system its.item known.connection ports.planned known.is known.kind in
-      let source_is = known_is plan.system known.connection.start (Source at.joins.source) at.joins.start in
-      let sink_is = known_is plan.system known.connection.end (Sink at.joins.sink) at.joins.end in
-      let is : IsStream plan.system its.place known.connection at.joins.source at.joins.sink = record {
-        place = its.item;
-        place_is = its.at;
-        connection_is = known.is;
-        source_is = source_is;
-        sink_is = sink_is;
-      } in
-      let wired = i.wired its.place known.connection at.joins.source at.joins.sink is (wire_back plan.system known.connection its.item at.joins.source at.joins.sink known.is source_is sink_is its.test_is) in
-      let count = its.count in
-      let number_is : input_count netlist.ports + wires_before plan.system its.place ≡ m = omega (arith, count, behind) in
-      subst (IsNeeded netlist) number_is (IsNeeded.drives wired.dropped_port (input_count netlist.ports + wires_before plan.system its.place) wired.dropped))
+  | inr behind ↦ (let its = low_below plan netlist number m ports i behind lt in IsNeeded.drives its.port m its.drives)
+]
+
+low_fixed : (netlist : Netlist) (m : ℕ) (line : Line) → slice_get netlist.lines m ≡ Some low_line → slice_get netlist.lines m ≡ Some line → is_fixed line.equation ≡ true
+low_fixed netlist m line low at = ap (λ (l : Line). is_fixed l.equation) (sym (same_Some _ _ (sym low ∙ at)))
+
+-- each of them and the low net itself is an input or a constant
+lows_fixed : (plan : PlanTable) (netlist : Netlist) (number : ℕ) → HasKnownPorts plan.system → IsWellMade netlist → IsInterconnect plan netlist
+    → slice_get netlist.lines (input_count netlist.ports + wires_before plan.system number) ≡ Some low_line → AreFixed netlist (input_count netlist.ports + wires_before plan.system number + 1)
+lows_fixed plan netlist number ports made i low m line lt at = elim (cases_lt m (input_count netlist.ports)) [
+  | inl inside ↦ first_fixed netlist m line made inside at
+  | inr behind ↦ elim (cases_lt m (input_count netlist.ports + wires_before plan.system number)) [
+    | inl below ↦ low_fixed netlist m line (low_below plan netlist number m ports i behind below).is_low at
+    | inr from ↦ (let same : input_count netlist.ports + wires_before plan.system number ≡ m = omega (arith, lt, from) in
+        low_fixed netlist m line (subst (λ k. slice_get netlist.lines k ≡ Some low_line) same low) at)
+  ]
 ]
 
 -- all that is said of the whole module holds of one that shows the same and keeps its wires
-interconnect_as : (plan : PlanTable) (whole other : Netlist) → other.name ≡ whole.name → length other.lines ≤ length whole.lines → other.ports ≡ whole.ports → Replaces whole other
-    → ((number : ℕ) → KeepsWires whole other (input_count whole.ports + wires_before plan.system number)) → IsInterconnect plan whole → IsInterconnect plan other
-interconnect_as plan whole other name fewer ports r wires i = record {
+interconnect_as : (plan : PlanTable) (whole other : Netlist) → other.name ≡ whole.name → length other.lines ≤ weight_of plan.system → other.ports ≡ whole.ports → Replaces whole other
+    → ((number : ℕ) → slice_get whole.lines (input_count whole.ports + wires_before plan.system number) ≡ Some low_line → KeepsWires whole other (input_count whole.ports + wires_before plan.system number))
+    → IsInterconnect plan whole → IsInterconnect plan other
+interconnect_as plan whole other name few ports r wires i = record {
   name = name ∙ i.name;
   ports = ports ∙ i.ports;
-  few = (let few = i.few in omega (arith, fewer, few));
+  few = few;
   wired = λ number connection source sink is wire.
       subst (λ (ps : List PortLine). IsWired other (name_at plan.system connection.start) (name_at plan.system connection.end) (declared source) (input_count ps + wires_before plan.system number)) (sym ports)
-      (wired_as whole other (name_at plan.system connection.start) (name_at plan.system connection.end) (declared source) (input_count whole.ports + wires_before plan.system number) (wires number)
+      (wired_as whole other (name_at plan.system connection.start) (name_at plan.system connection.end) (declared source) (input_count whole.ports + wires_before plan.system number) (wires number (i.wired number connection source sink is wire).is_low)
       (i.wired number connection source sink is wire));
   streams = λ number connection source sink is. stream_as whole other (name_at plan.system connection.start) (name_at plan.system connection.end) (declared source) (declared sink) connection.fifo r
       (i.streams number connection source sink is);
@@ -239,9 +266,15 @@ interconnect_as plan whole other name fewer ports r wires i = record {
 
 pub interconnect_settled : (plan : PlanTable) (whole settled : Netlist) → IsSettled whole settled → IsInterconnect plan whole → IsInterconnect plan settled
 interconnect_settled plan whole settled s i =
-    interconnect_as plan whole settled s.name (let same = s.count in omega (arith, same)) s.ports (settled_replaces whole settled s) (λ number. settled_keeps whole settled (input_count whole.ports + wires_before plan.system number) s) i
+    interconnect_as plan whole settled s.name (let same = s.count in let few = i.few in omega (arith, same, few)) s.ports (settled_replaces whole settled s) (λ number at. settled_keeps whole settled (input_count whole.ports + wires_before plan.system number) s) i
 
 pub interconnect_pruned : (plan : PlanTable) (whole pruned : Netlist) → HasKnownPorts plan.system → IsWellMade whole → IsPruned whole pruned → IsInterconnect plan whole → IsInterconnect plan pruned
 interconnect_pruned plan whole pruned ports made p i =
-    interconnect_as plan whole pruned p.name p.few p.ports (pruned_replaces whole pruned p)
-    (λ number. pruned_keeps whole pruned (input_count whole.ports + wires_before plan.system number) made p (λ m lt. lows_needed plan whole number m ports made i lt)) i
+    interconnect_as plan whole pruned p.name (let fewer = p.few in let few = i.few in omega (arith, fewer, few)) p.ports (pruned_replaces whole pruned p)
+    (λ number at. pruned_keeps whole pruned (input_count whole.ports + wires_before plan.system number) made p (λ m lt. lows_needed plan whole number m ports made i lt)) i
+
+pub interconnect_narrowed : (plan : PlanTable) (whole narrowed : Netlist) → HasKnownPorts plan.system → IsWellMade whole → length narrowed.lines ≤ weight_of plan.system → IsNarrowed whole narrowed → IsInterconnect plan whole
+    → IsInterconnect plan narrowed
+interconnect_narrowed plan whole narrowed ports made few n i =
+    interconnect_as plan whole narrowed n.name few n.ports (narrowed_replaces whole narrowed n)
+    (λ number at. narrowed_keeps whole narrowed (input_count whole.ports + wires_before plan.system number) (omega arith) (lows_fixed plan whole number ports made i at) n) i

@@ -1,6 +1,7 @@
 -- What is said of a plan's module holds of the one with constants for settled nets, and of the one without what no output depends on.
-use Rattle.std.proofs.Common.{◌≡◌, ℕ, zero, suc, ◌+◌, ◌-◌, ◌^◌, ◌<◌, Bool, true, false, cond, List, [], ◌∷◌, take, count_by, slice_get, Option, Some, refl, sym, ap, subst, ◌∙◌, arith}
-use Rattle.std.specs.Prelude.{codes}
+use Rattle.std.proofs.Common.{◌≡◌, ℕ, zero, suc, ◌+◌, ◌-◌, ◌^◌, ◌<◌, ◌≤◌, Bool, true, false, cond, List, [], ◌∷◌, take, count_by, slice_get, Option, Some, refl, sym, ap, subst, ◌∙◌, arith}
+use Rattle.std.specs.Prelude.{codes, if◌then◌else◌}
+use Rattle.std.proofs.lemmas.Option.{same_Some}
 use Rattle.std.specs.Option.{option_map_or}
 use Rattle.std.proofs.Math.Path.{fun_ext}
 use Rattle.std.proofs.lemmas.List.Sums.{sum_by-cons}
@@ -8,9 +9,10 @@ use Rattle.av_base.specs.Word.{word}
 use Rattle.system_tables.specs.declared.tables.EndId.{EndId}
 use Rattle.address_map.specs.Maps.{hosts_of, agents_of}
 use Rattle.link_rules.specs.Plans.{PlanTable}
+use Rattle.netlist.specs.declared.line.Line.{Line}
 use Rattle.netlist.specs.declared.line.PortLine.{PortLine}
-use Rattle.netlist.specs.declared.line.Equation.TheVariants.{Constant}
-use Rattle.netlist.specs.Netlists.{Netlist, IsWellMade, driver_of, input_net, line_of}
+use Rattle.netlist.specs.declared.line.Equation.TheVariants.{Input, Constant}
+use Rattle.netlist.specs.Netlists.{Netlist, IsWellMade, driver_of, input_count, input_lines, input_net, line_of}
 use Rattle.netlist.specs.Runs.{Cycle, Run, IsRun}
 use Rattle.netlist.specs.Signals.{signal, port_named}
 use Rattle.stream_runs.specs.Source.{IsLegalSource}
@@ -33,6 +35,9 @@ use Rattle.pruned_netlists.specs.Needed.{IsNeeded}
 use Rattle.pruned_netlists.specs.Pruned.{IsPruned, HasWholeRun, HasWholeState, AreNeededBelow, over_and_over}
 use Rattle.pruned_netlists.specs.Inputs.{inputs_needed, input_net_few}
 use Rattle.settled_netlists.specs.Settled.{IsSettled}
+use Rattle.narrowed_netlists.specs.Narrowed.{IsNarrowed, AreFixed, is_fixed}
+use Rattle.port_tables.specs.Lists.{slice_get-some}
+use Rattle.interconnect.proofs.LowNets.{length-input_lines}
 use Rattle.interconnect.specs.Memory.{ServesMemory, CanShow, module_run}
 use Rattle.interconnect.specs.Streams.{ServesStream, IsDrivenBy, IsJoinedBy, IsWired}
 
@@ -120,6 +125,9 @@ settled_replaces whole settled s = record {
   };
 }
 
+pub narrowed_replaces : (whole narrowed : Netlist) → IsNarrowed whole narrowed → Replaces whole narrowed
+narrowed_replaces whole narrowed n = record { runs = n.runs; states = n.states }
+
 -- ---- memory and streams
 
 can_show : (plan : PlanTable) (whole pruned : Netlist) (state : Cycle) (moment : Moment) → (s : HasWholeState whole pruned state) → CanShow plan pruned state moment → CanShow plan whole s.whole_state moment
@@ -192,6 +200,14 @@ settled_keeps whole settled low s = record {
   is_low = λ k e at. s.constants low 1 (word 1 0) at;
 }
 
+pub narrowed_keeps : (whole narrowed : Netlist) (low : ℕ) → input_count whole.ports ≤ low → AreFixed whole (low + 1) → IsNarrowed whole narrowed → KeepsWires whole narrowed low
+narrowed_keeps whole narrowed low behind fixed n = record {
+  ports = n.ports;
+  inputs = λ k j e. n.drivers k (input_net whole.ports j) e (λ m line lt at. (let few = input_net_few whole.ports j in fixed m line (omega (arith, lt, few, behind)) at));
+  dropped = λ k e. n.drivers k low e fixed;
+  is_low = λ k e at. n.lines low (line_of 1 (Constant (word 1 0))) at fixed;
+}
+
 driven_as : (whole other : Netlist) (output input : List ℕ) (low : ℕ) → KeepsWires whole other low → IsDrivenBy whole output input → IsDrivenBy other output input
 driven_as whole other output input low w d = record {
   output_port = d.output_port;
@@ -215,6 +231,24 @@ wired_as whole other from to declared low w h = record {
 }
 
 -- ---- the low nets stand behind those of inputs, each of them needed
+
+input_fixed : (p : PortLine) (ports : List PortLine) (j n : ℕ) (line : Line) (t : Bool) → slice_get (if t then input_lines (j + 1) ports else line_of p.width (Input j) ∷ input_lines (j + 1) ports) n ≡ Some line
+    → ((m : ℕ) → slice_get (input_lines (j + 1) ports) m ≡ Some line → is_fixed line.equation ≡ true) → is_fixed line.equation ≡ true
+input_fixed p ports j n line true at rest = rest n at
+input_fixed p ports j zero line false at rest = ap (λ (l : Line). is_fixed l.equation) (sym (same_Some _ _ at))
+input_fixed p ports j (suc m) line false at rest = rest m at
+
+inputs_fixed : (ports : List PortLine) (j n : ℕ) (line : Line) → slice_get (input_lines j ports) n ≡ Some line → is_fixed line.equation ≡ true
+inputs_fixed [] j n line e = cc
+inputs_fixed (p ∷ ports) j n line e = input_fixed p ports j n line p.output e (λ m at. inputs_fixed ports (j + 1) m line at)
+
+-- the first nets are those of inputs
+pub first_fixed : (netlist : Netlist) (n : ℕ) (line : Line) → IsWellMade netlist → n < input_count netlist.ports → slice_get netlist.lines n ≡ Some line → is_fixed line.equation ≡ true
+first_fixed netlist n line m lt at =
+    let many = length-input_lines netlist.ports 0 in
+    let some = slice_get-some (input_lines 0 netlist.ports) n (omega (arith, lt, many)) in
+    let same : some.0 ≡ line = same_Some _ _ (sym (m.inputs.first n some.0 some.1) ∙ at) in
+    subst (λ (l : Line). is_fixed l.equation ≡ true) same (inputs_fixed netlist.ports 0 n some.0 some.1)
 
 -- the place at which a test holds for the j-th time
 pub record IsCounted (test : ℕ → Bool) (xs : List ℕ) (j : ℕ) : Type 0 where

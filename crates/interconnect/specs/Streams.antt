@@ -47,9 +47,8 @@ abbrev pub dropped_signal : Netlist → Run → EndName → ℕ → ℕ
 dropped_signal netlist run name = signal_or 0 (signal netlist run (port_name name (codes "dropped")))
 
 -- in every run of the module whose source is legal, the stream is served: the sink is given a prefix of the source's symbols, at
--- most the stated
--- number behind, by the rules of ready, and `dropped` is high exactly where a beat doesn't reach it; and it never idles beyond
--- its window
+-- most the stated number behind, by the rules of ready, and `dropped` is high exactly where a beat doesn't reach it; and it never
+-- idles beyond its window
 abbrev pub ServesStream : Netlist → EndName → EndName → Declared → Declared → ℕ → Type 0
 ServesStream netlist from to source sink fifo =
     (run : Run) (cycles : ℕ) → IsRun netlist run cycles

@@ -30,8 +30,8 @@ finish-whole-requires-clause-driven c =
     } in
     all_driven plan c.join_streams.new.builder whole
 
-pub returns-clause-module : goal.returns-clause-module
-returns-clause-module c =
+pub without_constant_bits-requires-clause-whole : goal.without_constant_bits-requires-clause-whole
+without_constant_bits-requires-clause-whole c =
     let plan = c.args.plan.now in
     let is_plan = c.well_made.ensures in
     let whole : IsWhole plan c.join_streams.new.builder = record {
@@ -49,8 +49,7 @@ returns-clause-module c =
       few_links = record { connections = c.links_are_connections.ensures plan is_plan; agents = c.links_are_few.ensures plan is_plan };
     } in
     let settled : IsSettled c.join_streams.new.builder c.in_ok-settled.settled = subst (λ (b : Netlist). IsSettled b c.in_ok-settled.settled) c.finish-whole.ensures.same c.in_ok-settled.ensures in
-    interconnect_pruned plan c.in_ok-settled.settled c.in_ok-module.module whole.known c.well_made-3.ensures.well_made c.in_ok-module.ensures
-    (interconnect_settled plan c.join_streams.new.builder c.in_ok-settled.settled settled
+    interconnect_settled plan c.join_streams.new.builder c.in_ok-settled.settled settled
     (interconnect_is plan c.join_streams.new.builder (record {
       kept = c.plans_are_memory_plans.ensures.kept plan is_plan;
       safe = c.fabrics_are_served.ensures.safe plan is_plan;
@@ -71,7 +70,11 @@ returns-clause-module c =
       packed = c.packed_runs_agree.ensures;
       reads = c.memory_is_read_back.ensures;
     }) (c.goes_on.ensures c.join_streams.new.builder c.well_made-2.ensures)
-    (c.legal_runs_go_on.ensures c.join_streams.new.builder c.well_made-2.ensures whole.upto.ports) whole))
+    (c.legal_runs_go_on.ensures c.join_streams.new.builder c.well_made-2.ensures whole.upto.ports) whole)
+
+pub returns-clause-module : goal.returns-clause-module
+returns-clause-module c =
+    interconnect_pruned c.args.plan.now c.in_ok-twice.twice c.in_ok-module.module c.ports_are_known.ensures c.well_made-3.ensures.well_made c.in_ok-module.ensures c.in_ok-twice.ensures
 
 pub returns-clause-needed : goal.returns-clause-needed
 returns-clause-needed c = c.in_ok-module.ensures.needed

@@ -1,0 +1,11 @@
+pub mod Lists
+pub mod BitLemmas
+pub mod GapLemmas
+pub mod Allowing
+pub mod Growing
+pub mod Copying
+pub mod Making
+pub mod Reading
+pub mod Fixed
+pub mod Finishing
+pub mod Law
