@@ -2,7 +2,7 @@
 use Rattle.std.proofs.Common.{ℕ, zero, suc, ◌<◌, ◌≤◌, ◌≡◌, ◌+◌, ◌-◌, ◌*◌, ◌/◌, ◌%◌, ◌^◌, max, Bool, true, false, not, ◌&&◌, ◌||◌, if◌then◌else◌, ◌==◌, nat_eq, nat_lt, arith, refl, sym, ap, ap₂, subst, ◌∙◌}
 use Rattle.std.proofs.lemmas.Bool.{eqb-true, eqb-false, eq-eqb, ne_eqb, lt-ltb, le-ltb, ltb-true, ltb-false}
 use Rattle.std.proofs.lemmas.Nat.{pow-add, pow_pos}
-use Rattle.std.proofs.Math.Nat.{mod-eq_of_lt, max-eq_left, max-eq_right, div-lt_iff_lt-mul, div-eq_of_lt, mul_comm, mul-le-mul_left, mul-div_cancel_left}
+use Rattle.std.proofs.Math.Nat.{mod-eq_of_lt, add-mod_right, max-eq_left, max-eq_right, div-lt_iff_lt-mul, div-eq_of_lt, mul_comm, mul-le-mul_left, mul-div_cancel_left}
 use Rattle.net_parts.specs.Growth.{fit_nets}
 use Rattle.std.proofs.Math.Pow.{pow_mono}
 use Rattle.histories.specs.History.{is_raised, one_if}
@@ -101,25 +101,31 @@ pub address_put : (a w k width low high offset net : ℕ) → width ≡ w → lo
 address_put a w k width low high offset net e f fits within apart is whole =
     replaced a w k high offset net k fits within (λ same. apart (e ∙ same ∙ sym f)) refl (is ∙ ap₂ (λ x y. a / 2 ^ y % 2 ^ (x - 1 - y + 1)) e f) whole
 
-one_more : (count : ℕ) → count < 31 → (count + 1) % 2 ^ 5 ≡ suc count
-one_more count few = mod-eq_of_lt {n = count + 1} {m = 2 ^ 5} (omega (arith, few)) ∙ omega arith
+one_more : (limit count : ℕ) → count + 1 < limit → (count + 1) % limit ≡ suc count
+one_more limit count few = mod-eq_of_lt {n = count + 1} {m = limit} few ∙ omega arith
 
-fewer_is : (some : Bool) (count : ℕ) → nat_lt 0 count ≡ some → count < 31 → (if some then (count + 31) % 2 ^ 5 else count) ≡ count - 1
-fewer_is true count e few = let least = ltb-true 0 count e in omega (arith, least, few)
-fewer_is false count e few = let none = ltb-false 0 count e in omega (arith, none)
+-- the highest number more is one less
+one_fewer : (limit count high : ℕ) → 1 ≤ count → count < limit → high + 1 ≡ limit → (count + high) % limit ≡ count - 1
+one_fewer limit count high some few whole =
+    let round : count + high ≡ (count - 1) + limit = omega (arith, some, whole) in
+    ap (λ n. n % limit) round ∙ add-mod_right (count - 1) limit ∙ mod-eq_of_lt {n = count - 1} {m = limit} (omega (arith, some, few))
 
-moved : (count : ℕ) (comes goes : Bool) → count < 31 →
-    (if (if comes then not goes else goes) && (comes || nat_lt 0 count) then (count + (if comes then 1 else 31)) % 2 ^ 5 else count) ≡ (count + one_if comes) - one_if goes
-moved count true true few = omega arith
-moved count true false few = one_more count few ∙ omega arith
-moved count false true few = fewer_is (nat_lt 0 count) count refl few ∙ omega arith
-moved count false false few = omega arith
+fewer_is : (some : Bool) (limit count high : ℕ) → nat_lt 0 count ≡ some → count < limit → high + 1 ≡ limit → (if some then (count + high) % limit else count) ≡ count - 1
+fewer_is true limit count high e few whole = one_fewer limit count high (ltb-true 0 count e) few whole
+fewer_is false limit count high e few whole = let none = ltb-false 0 count e in omega (arith, none)
+
+moved : (limit count high : ℕ) (comes goes : Bool) → count + one_if comes < limit → high + 1 ≡ limit →
+    (if (if comes then not goes else goes) && (comes || nat_lt 0 count) then (count + (if comes then 1 else high)) % limit else count) ≡ (count + one_if comes) - one_if goes
+moved limit count high true true few whole = omega arith
+moved limit count high true false few whole = one_more limit count few ∙ omega arith
+moved limit count high false true few whole = fewer_is (nat_lt 0 count) limit count high refl (omega (arith, few)) whole ∙ omega arith
+moved limit count high false false few whole = omega arith
 
 -- one comes, one goes, or both
-pub counted : (width count : ℕ) (comes goes : Bool) → width ≡ 5 → count < 31 →
-    (if (if comes then not goes else goes) && (comes || nat_lt 0 count) then (count + (if comes then 1 else 31)) % 2 ^ width else count) ≡ (count + one_if comes) - one_if goes
-counted width count comes goes five few =
-    ap (λ w. if (if comes then not goes else goes) && (comes || nat_lt 0 count) then (count + (if comes then 1 else 31)) % 2 ^ w else count) five ∙ moved count comes goes few
+pub counted : (width bits count high : ℕ) (comes goes : Bool) → width ≡ bits → count + one_if comes < 2 ^ bits → high + 1 ≡ 2 ^ bits →
+    (if (if comes then not goes else goes) && (comes || nat_lt 0 count) then (count + (if comes then 1 else high)) % 2 ^ width else count) ≡ (count + one_if comes) - one_if goes
+counted width bits count high comes goes same few whole =
+    ap (λ w. if (if comes then not goes else goes) && (comes || nat_lt 0 count) then (count + (if comes then 1 else high)) % 2 ^ w else count) same ∙ moved (2 ^ bits) count high comes goes few whole
 
 -- ---- the places of a word's pieces
 

@@ -278,12 +278,17 @@ module _ (split : Split) (form : Form) (kept : SplitKept) (wait up : NetValue) (
       let low : is_raised (raw c).levels.write ≡ false = turned_low _ (and_right (takes above c) _ h) in
       ltb-true (run.net c kept.registers.reads.number) split.reads (and_left _ _ (sym (ap (λ w. w || (nat_lt (run.net c kept.registers.reads.number) split.reads && (nat_lt 0 (run.net c kept.registers.place.number) || (nat_eq (run.net c kept.registers.reads.number) 0 || are_same (state.set c) (asked_at above below c))))) low) ∙ opens_is c ∙ goes))
 
-  few_room : split.reads ≤ 16
-  few_room = let room = f.sizes.room in let few = f.sizes.are.room in omega (arith, room, few)
+  reads_fit : (c : ℕ) → run.net c kept.registers.reads.number ≤ split.reads → run.net c kept.registers.reads.number + one_if (is_raised (run.net c b.taken.above.number) && not (is_raised (raw c).levels.write)) < 2 ^ kept.sizes.room_bits
+  reads_fit c few =
+      let most = counted_few (takes_read above c) (run.net c kept.registers.reads.number) split.reads few (room_for c) in
+      let room = f.sizes.room in
+      let fits = f.sizes.are.room_fits in
+      let same : one_if (takes_read above c) ≡ one_if (is_raised (run.net c b.taken.above.number) && not (is_raised (raw c).levels.write)) = ap (λ t. one_if (t && not (is_raised (raw c).levels.write))) (taken_above c) in
+      omega (arith, most, room, fits, same)
 
   reads_step : (c : ℕ) → run.net c kept.registers.reads.number ≤ split.reads → state.reads (suc c) ≡ (state.reads c + one_if (takes_read above c)) - one_if (is_raised (run.net c back.valid.number))
   reads_step c few =
-      ap (λ l. first_value (drop 2 l)) (step c) ∙ (nexts c).reads (let room = few_room in omega (arith, few, room))
+      ap (λ l. first_value (drop 2 l)) (step c) ∙ (nexts c).reads (reads_fit c few)
       ∙ ap (λ t. (run.net c kept.registers.reads.number + one_if (t && not (is_raised (raw c).levels.write))) - one_if (is_raised (run.net c back.valid.number))) (sym (taken_above c))
 
   reads_few : (c : ℕ) → run.net c kept.registers.reads.number ≤ split.reads

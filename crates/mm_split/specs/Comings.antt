@@ -63,7 +63,10 @@ pub record NextAre (sizes : Sizes) (registers : SplitRegisters) (from : CommandN
   pub set : cycle.net next.set.number
       ≡ (if is_raised (cycle.net taken.below.number) && not (is_raised (cycle.net part.below.write.number))
       then cycle.net part.asked.number else cycle.net registers.set.number)
-  pub reads : cycle.net registers.reads.number < 31 → cycle.net next.reads.number
+  pub reads : cycle.net registers.reads.number
+      + one_if (is_raised (cycle.net taken.above.number) && not (is_raised (cycle.net from.write.number)))
+      < 2 ^ sizes.room_bits
+      → cycle.net next.reads.number
       ≡ (cycle.net registers.reads.number
       + one_if (is_raised (cycle.net taken.above.number) && not (is_raised (cycle.net from.write.number))))
       - one_if (is_raised (cycle.net valid.number))

@@ -25,7 +25,7 @@ owns made n = InGroup (group_of made) n
 pub record AreRegisterNets (netlist : Netlist) (sizes : Sizes) (made : SplitRegisters) : Type 0 where
   pub place : IsNetOfWidth netlist made.place sizes.place_bits
   pub set : IsNetOfWidth netlist made.set sizes.pieces
-  pub reads : IsNetOfWidth netlist made.reads 5
+  pub reads : IsNetOfWidth netlist made.reads sizes.room_bits
   pub come : IsNetOfWidth netlist made.come sizes.place_bits
   pub word : IsNetOfWidth netlist made.word ((sizes.pieces - 1) * (sizes.narrow_bytes * 8))
   pub code : IsNetOfWidth netlist made.code 2
@@ -44,7 +44,7 @@ pub register_nets_last : (old new : Netlist) (sizes : Sizes) (made : SplitRegist
 register_nets_last old new sizes made e h = record {
   place = net_lasts old new made.place sizes.place_bits e h.place;
   set = net_lasts old new made.set sizes.pieces e h.set;
-  reads = net_lasts old new made.reads 5 e h.reads;
+  reads = net_lasts old new made.reads sizes.room_bits e h.reads;
   come = net_lasts old new made.come sizes.place_bits e h.come;
   word = net_lasts old new made.word ((sizes.pieces - 1) * (sizes.narrow_bytes * 8)) e h.word;
   code = net_lasts old new made.code 2 e h.code;

@@ -26,3 +26,6 @@ pub record AreSizes (sizes : Sizes) : Type 0 where
   pub few : sizes.pieces ≤ 16
   pub some : 1 ≤ sizes.room
   pub room : sizes.room ≤ 16
+  pub some_room : 1 ≤ sizes.room_bits
+  pub few_room : sizes.room_bits ≤ 5
+  pub room_fits : sizes.room < 2 ^ sizes.room_bits

@@ -196,22 +196,53 @@ fn step_on(builder: &mut Builder, register: Net, clears: Net, moves: Net) -> Res
     step(builder, register, clears, moves, next)
 }
 
-/// What the count of reads takes, in five bits: one more where a read comes, one less where one goes.
+/// The highest number of so many bits.
+fn highest(bits: u8) -> u128
+    requires some { 1 ≤ bits }
+    requires few { bits ≤ 5 }
+    ensures { result + 1 ≡ 2 ^ bits }
+{
+    if bits == 1 {
+        1
+    } else if bits == 2 {
+        3
+    } else if bits == 3 {
+        7
+    } else if bits == 4 {
+        15
+    } else {
+        31
+    }
+}
+
+/// What the count of reads takes, in so many bits: one more where a read comes, one less where one goes.
 #[tactic(auto, using(net_parts::specs::Laws::growing))]
-fn count_reads(builder: &mut Builder, count: Net, comes: Net, goes: Net) -> Result<Net, NetFault>
-    requires count { IsNetOfWidth builder.old count 5 }
+fn count_reads(
+    builder: &mut Builder,
+    count: Net,
+    bits: u8,
+    comes: Net,
+    goes: Net,
+) -> Result<Net, NetFault>
+    requires some { 1 ≤ bits }
+    requires few { bits ≤ 5 }
+    requires count { IsNetOfWidth builder.old count bits }
     requires comes { IsBit builder.old comes }
     requires goes { IsBit builder.old goes }
-    ensures net { IfOk result (λ net. IsNetOfWidth builder.new net 5) }
-    ensures value { IfOk result (λ net. Always builder.new (λ cycle. cycle.net count.number < 31
+    ensures net { IfOk result (λ net. IsNetOfWidth builder.new net bits) }
+    ensures value { IfOk result (λ net. Always builder.new (λ cycle.
+        cycle.net count.number + one_if (is_raised (cycle.net comes.number)) < 2 ^ bits
         → cycle.net net.number
         ≡ (cycle.net count.number + one_if (is_raised (cycle.net comes.number))) - one_if (is_raised (cycle.net goes.number)))) }
     ensures adds { AddsNets 9 builder.old builder.new }
     ensures full { result ≡ Err NetFault.TooManyNets → 2 ^ 20 < length builder.old.lines + 9 }
 {
-    // in five bits 31 more is one less
-    let more = Constant { bits: 5, value: 1 };
-    let fewer = Constant { bits: 5, value: 31 };
+    // the highest number more is one less
+    let more = Constant { bits, value: 1 };
+    let fewer = Constant {
+        bits,
+        value: highest(bits),
+    };
     let next = Add(Bus(count), MuxWord(Wire(comes), more, fewer));
     let moves = And(
         Xor(Wire(comes), Wire(goes)),
@@ -233,6 +264,7 @@ pub(crate) fn next_registers(
     valid: Net,
     sizes: &Sizes,
 ) -> Result<SplitRegisters, NetFault>
+    requires sizes { AreSizes sizes.now }
     requires registers { AreRegisterNets builder.old sizes.now registers.now }
     requires from { AreCommandNets builder.old from.now }
     requires part { ArePartNets builder.old sizes.now part.now }
@@ -249,7 +281,8 @@ pub(crate) fn next_registers(
     let reads_below = And(Wire(taken.below), Not(Wire(part.below.write)));
     let set = MuxWord(reads_below, Bus(part.asked), Bus(registers.set)).emit_word(builder)?;
     let reads_above = And(Wire(taken.above), Not(Wire(from.write))).emit(builder)?;
-    let reads = count_reads(builder, registers.reads, reads_above, valid)?;
+    let bits = sizes.room_bits;
+    let reads = count_reads(builder, registers.reads, bits, reads_above, valid)?;
     let come = step_on(builder, registers.come, valid, arrives)?;
     let word = choose(builder, arrives, coming.low, registers.word)?;
     let code = step(builder, registers.code, valid, arrives, coming.code)?;

@@ -51,26 +51,26 @@ fn opens(
     registers: &SplitRegisters,
     write: Net,
     asked: Net,
-    room: u8,
+    sizes: &Sizes,
 ) -> Result<Net, NetFault>
-    requires reads { IsNetOfWidth builder.old registers.now.reads 5 }
+    requires sizes { AreSizes sizes.now }
+    requires reads { IsNetOfWidth builder.old registers.now.reads sizes.now.room_bits }
     requires place { IsNet builder.old registers.now.place }
     requires set { IsNet builder.old registers.now.set }
     requires write { IsBit builder.old write }
     requires asked { IsNetOfWidth builder.old asked registers.now.set.width }
-    requires room { room ≤ 16 }
     ensures net { IfOk result (λ net. IsBit builder.new net) }
     ensures value { IfOk result (λ net. Always builder.new (λ cycle. is_raised (cycle.net net.number)
-        ≡ may_go room (cycle.net write.number) (cycle.net registers.now.place.number) (cycle.net registers.now.reads.number)
-        (cycle.net registers.now.set.number) (cycle.net asked.number))) }
+        ≡ may_go sizes.now.room (cycle.net write.number) (cycle.net registers.now.place.number)
+        (cycle.net registers.now.reads.number) (cycle.net registers.now.set.number) (cycle.net asked.number))) }
     ensures adds { AddsNets 10 builder.old builder.new }
     ensures full { result ≡ Err NetFault.TooManyNets → 2 ^ 20 < length builder.old.lines + 10 }
 {
     let has_room = Less(
         Bus(registers.reads),
         Constant {
-            bits: 5,
-            value: room as u128,
+            bits: sizes.room_bits,
+            value: sizes.room as u128,
         },
     );
     // one that begins finds no reads under way, or only such of the same pieces
@@ -316,7 +316,7 @@ fn look(
     let place = fit_bits(builder, registers.place, sizes.place_bits, 5)?;
     let found = find(builder, &Search { mask, place, zeros }, sizes.pieces)?;
     let asked = asked_mask(builder, mask, sizes.pieces)?;
-    let opens = opens(builder, registers, from.write, asked, sizes.room)?;
+    let opens = opens(builder, registers, from.write, asked, sizes)?;
     let parts = count_parts(builder, from, found.count)?;
     let above = look_above(builder, from, opens, place, parts)?;
     Ok(Looked {

@@ -78,8 +78,7 @@ fn fill_first(builder: &mut Builder, gather: &Gather, bits: u8, count: u8) -> Re
 }
 
 /// What stands below the last piece of the whole word. Where all pieces are asked, the last one comes last, so the others have
-/// come and
-/// nothing is put beside them.
+/// come and nothing is put beside them.
 #[tactic(auto, using(net_parts::specs::Laws::growing))]
 fn fill_below(
     builder: &mut Builder,

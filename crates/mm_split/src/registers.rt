@@ -74,7 +74,7 @@ pub(crate) fn hold(builder: &mut Builder, sizes: &Sizes) -> Result<SplitRegister
     let bits = sizes.narrow_bytes * 8;
     let place = register(builder, sizes.place_bits)?;
     let set = full_register(builder, sizes.pieces)?;
-    let reads = register(builder, 5)?;
+    let reads = register(builder, sizes.room_bits)?;
     let come = register(builder, sizes.place_bits)?;
     let word = register(builder, (sizes.pieces - 1) * bits)?;
     let code = register(builder, 2)?;

@@ -1,6 +1,6 @@
 //! The numbers of a splitter.
 
-ghost use Rattle.std.specs.Prelude.{◌≡◌, ◌*◌, ◌^◌};
+ghost use Rattle.std.specs.Prelude.{◌≡◌, ◌*◌, ◌^◌, ◌<◌, ◌≤◌};
 ghost use Rattle.mm_split.specs.Sizes.{AreSplitSizes, AreSizes};
 
 use crate::split::Split;
@@ -18,8 +18,30 @@ pub struct Sizes {
     pub wide_bits: u8,
     /// How many wide reads may be under way.
     pub room: u8,
+    /// The bits of their number.
+    pub room_bits: u8,
     /// Whether all pieces are asked.
     pub all_lanes: bool,
+}
+
+/// How many bits a count up to this number needs.
+fn bits_to(most: u8) -> u8
+    requires { most ≤ 16 }
+    ensures some { 1 ≤ result }
+    ensures few { result ≤ 5 }
+    ensures fits { most < 2 ^ result }
+{
+    if most < 2 {
+        1
+    } else if most < 4 {
+        2
+    } else if most < 8 {
+        3
+    } else if most < 16 {
+        4
+    } else {
+        5
+    }
 }
 
 impl Split {
@@ -39,6 +61,7 @@ impl Split {
             narrow_bytes: self.narrow_bytes,
             wide_bits,
             room: self.reads,
+            room_bits: bits_to(self.reads),
             all_lanes: self.all_lanes,
         }
     }

@@ -1,4 +1,4 @@
-use Rattle.std.proofs.Common.{◌+◌, ◌-◌, ◌%◌, ◌^◌, if◌then◌else◌, sym, ap, ◌∙◌, arith}
+use Rattle.std.proofs.Common.{◌+◌, ◌-◌, ◌%◌, ◌^◌, ◌<◌, subst, if◌then◌else◌, sym, ap, ◌∙◌, arith}
 use Rattle.net_parts.specs.Laws.{extends_twice, adds_twice, adds_fewer, net_lasts}
 use Rattle.net_parts.specs.Refusing.{handed_on}
 use Rattle.histories.specs.History.{is_raised, one_if}
@@ -158,7 +158,7 @@ returns-clause-value c cycle v =
       place = c.in_ok-place.ensures.value cycle v0
           ∙ ap (λ n. if is_raised (cycle.net c.args.taken.now.above.number) then 0 else if is_raised (cycle.net c.args.taken.now.below.number) then (cycle.net c.args.registers.now.place.number + 1) % 2 ^ n else cycle.net c.args.registers.now.place.number) c.requires.registers.place.has_width;
       set = c.in_ok-set.ensures.value cycle v1;
-      reads = λ few. c.in_ok-reads.ensures.value cycle v3 few ∙ ap (λ b. (cycle.net c.args.registers.now.reads.number + one_if b) - one_if (is_raised (cycle.net c.args.valid.number))) (c.in_ok-reads_above.ensures.value cycle v2);
+      reads = λ few. c.in_ok-reads.ensures.value cycle v3 (subst (λ b. cycle.net c.args.registers.now.reads.number + one_if b < 2 ^ c.args.sizes.now.room_bits) (sym (c.in_ok-reads_above.ensures.value cycle v2)) few) ∙ ap (λ b. (cycle.net c.args.registers.now.reads.number + one_if b) - one_if (is_raised (cycle.net c.args.valid.number))) (c.in_ok-reads_above.ensures.value cycle v2);
       come = c.in_ok-come.ensures.value cycle v4
           ∙ ap (λ n. if is_raised (cycle.net c.args.valid.number) then 0 else if is_raised (cycle.net c.args.arrives.number) then (cycle.net c.args.registers.now.come.number + 1) % 2 ^ n else cycle.net c.args.registers.now.come.number) c.requires.registers.come.has_width;
       word = c.in_ok-word.ensures.value cycle v5 ∙ chosen_raised (cycle.net c.args.arrives.number) (cycle.net c.args.coming.now.low.number) (cycle.net c.args.registers.now.word.number);

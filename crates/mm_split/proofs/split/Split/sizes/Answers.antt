@@ -26,4 +26,7 @@ returns-clause-sizes c =
       few = (let most = power_most (c.lane_bits-wide_bits.result - c.lane_bits-narrow_bits.result) (omega (arith, few)) in omega (arith, are, most));
       some = c.requires.some;
       room = c.requires.few;
+      some_room = c.bits_to.ensures.some;
+      few_room = c.bits_to.ensures.few;
+      room_fits = c.bits_to.ensures.fits;
     }

@@ -34,6 +34,9 @@ both-requires-clause-a c = net_lasts _ _ _ _ (extends_twice _ _ _ c.take.ensures
 pub both-requires-clause-b : goal.both-requires-clause-b
 both-requires-clause-b c = c.in_ok-coming.ensures.nets.completes
 
+pub next_registers-requires-clause-sizes : goal.next_registers-requires-clause-sizes
+next_registers-requires-clause-sizes c = c.requires.kept.sizes.are
+
 pub next_registers-requires-clause-registers : goal.next_registers-requires-clause-registers
 next_registers-requires-clause-registers c = register_nets_last _ _ _ _ (extends_twice _ _ _ c.take.ensures.adds.grows.extends (extends_twice _ _ _ c.come.ensures.adds.grows.extends c.both.ensures.adds.grows.extends)) c.requires.kept.registers.nets
 
