@@ -21,6 +21,7 @@ use Rattle.system_tables.specs.Names.{is_name}
 use Rattle.script_words.specs.Names.{place_of}
 use Rattle.script_words.specs.Words.{IsRefusal, text_at, check, refusal_of}
 use Rattle.component_scripts.specs.declared.component_draft.ComponentDraft.TheInside.{Inside}
+use Rattle.script_words.specs.declared.rule.CommandRule.TheVariants.{NotAName, Taken, OutOfRange}
 use Rattle.script_words.specs.declared.judge.Refusal.{Refusal}
 use Rattle.tcl_words.specs.declared.words.Word.{Word}
 use Rattle.tcl_words.specs.Script.{Script}
@@ -178,7 +179,7 @@ pub property_not_outside : (names : List (List ℕ)) (draft : DraftedComponent) 
     → is_outside (property_named declared.interface.kind (text_at words 2)) (text_at words 3) ≡ false
 unfolding property_checks property_at
 property_not_outside names draft words k declared h clean =
-    let passes = none_fails words (property_checks draft words) 3 (check 11 3 (option_map_or (λ known. is_outside known (text_at words 3)) (property_at draft words) false)) clean (lit< tt) refl in
+    let passes = none_fails words (property_checks draft words) 3 (check OutOfRange 3 (option_map_or (λ known. is_outside known (text_at words 3)) (property_at draft words) false)) clean (lit< tt) refl in
     ap (λ held. option_map_or (λ known. is_outside known (text_at words 3)) (option_map (λ (i : Held). property_named i.kind (text_at words 2)) held) false)
     (sym (held_at names draft (text_at words 1) k declared h))
     ∙ passes
@@ -201,14 +202,14 @@ pub port_is_new : (draft : DraftedComponent) (words : List Word) → refusal_of 
     → is_some (place_of draft.ports (text_at words 2)) ≡ false
 unfolding port_checks
 port_is_new draft words clean =
-    none_fails words (port_checks draft words) 1 (check 4 2 (is_some (place_of draft.ports (text_at words 2)))) clean (lit< tt) refl
+    none_fails words (port_checks draft words) 1 (check Taken 2 (is_some (place_of draft.ports (text_at words 2)))) clean (lit< tt) refl
 
 pub role_is_new : (names : List (List ℕ)) (draft : DraftedComponent) (words : List Word) (k : ℕ) (declared : DeclaredInterface)
     → IsNamedAt names draft (text_at words 1) k declared → refusal_of words (port_checks draft words) ≡ None
     → has_role (text_at words 3) declared.interface ≡ false
 unfolding port_checks
 role_is_new names draft words k declared h clean =
-    let passes = none_fails words (port_checks draft words) 2 (check 4 3 (option_map_or (has_role (text_at words 3)) (held_named draft.interfaces (text_at words 1)) false)) clean (lit< tt) refl in
+    let passes = none_fails words (port_checks draft words) 2 (check Taken 3 (option_map_or (has_role (text_at words 3)) (held_named draft.interfaces (text_at words 1)) false)) clean (lit< tt) refl in
     ap (λ held. option_map_or (has_role (text_at words 3)) held false) (sym (held_at names draft (text_at words 1) k declared h)) ∙ passes
 
 pub port_added : (names : List (List ℕ)) (draft : DraftedComponent) (words : List Word) (k : ℕ) (declared : DeclaredInterface)
@@ -250,21 +251,21 @@ pub type_is_named : (draft : DraftedComponent) (words : List Word) → refusal_o
     → IsTrue (is_name (text_at words 2))
 unfolding module_checks
 type_is_named draft words clean names =
-    let passes = none_fails words (module_checks draft words) 0 (check 3 2 (names_type words && not (is_name (text_at words 2)))) clean (lit< tt) refl in
+    let passes = none_fails words (module_checks draft words) 0 (check NotAName 2 (names_type words && not (is_name (text_at words 2)))) clean (lit< tt) refl in
     not-false (is_name (text_at words 2)) (ap (λ b. b && not (is_name (text_at words 2))) (sym names) ∙ passes)
 
 pub interface_is_named : (draft : DraftedComponent) (words : List Word) → refusal_of words (interface_checks draft words) ≡ None
     → IsTrue (is_name (text_at words 1))
 unfolding interface_checks
 interface_is_named draft words clean =
-    let passes = none_fails words (interface_checks draft words) 0 (check 3 1 (not (is_name (text_at words 1)))) clean (lit< tt) refl in
+    let passes = none_fails words (interface_checks draft words) 0 (check NotAName 1 (not (is_name (text_at words 1)))) clean (lit< tt) refl in
     not-false (is_name (text_at words 1)) passes
 
 pub interface_is_new : (draft : DraftedComponent) (words : List Word) → refusal_of words (interface_checks draft words) ≡ None
     → is_some (held_named draft.interfaces (text_at words 1)) ≡ false
 unfolding interface_checks
 interface_is_new draft words clean =
-    none_fails words (interface_checks draft words) 1 (check 4 1 (is_some (held_named draft.interfaces (text_at words 1)))) clean (lit< tt) refl
+    none_fails words (interface_checks draft words) 1 (check Taken 1 (is_some (held_named draft.interfaces (text_at words 1)))) clean (lit< tt) refl
 
 -- of an interface that isn't refused, the rest decides
 pub first_some-more : (f : DeclaredInterface → Option Refusal) (xs : List DeclaredInterface) (i : ℕ) (d : DeclaredInterface) → i < length xs → d ≡ get_or xs i d

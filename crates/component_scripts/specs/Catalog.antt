@@ -4,6 +4,8 @@ use Rattle.std.specs.Str.{bytes_eq}
 use Rattle.script_words.specs.declared.faults.ScriptFault.{ScriptFault}
 use Rattle.script_words.specs.declared.faults.ScriptFault.TheVariants.{Refused, NoMemory}
 use Rattle.script_words.specs.declared.faults.ScriptRule.TheVariants.{Command}
+use Rattle.script_words.specs.declared.rule.CommandRule.TheVariants.{TypeTaken}
+use Rattle.script_words.specs.Rules.{rule_number}
 use Rattle.script_words.specs.Names.{place_of}
 use Rattle.component_scripts.specs.Tables.{ComponentTable}
 
@@ -27,5 +29,5 @@ pub record IsCatalog (names : List (List ℕ)) (components : List ComponentTable
 -- a fault in adding a component: C15 at the name of its type, where that is refused, or want of memory
 abbrev pub IsAddFault : List ComponentTable → ComponentTable → ScriptFault → Type 0
 IsAddFault components component (Refused place rule) =
-    (is_refused components component ≡ true) × (place ≡ component.place) × (rule ≡ Command 15)
+    (is_refused components component ≡ true) × (place ≡ component.place) × (rule ≡ Command (rule_number TypeTaken))
 IsAddFault components component NoMemory = Unit {0}

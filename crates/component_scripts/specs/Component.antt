@@ -25,6 +25,7 @@ use Rattle.iface_roles.specs.Rules.{breaks}
 use Rattle.component_scripts.specs.declared.component.DeclaredInterface.{DeclaredInterface}
 use Rattle.component_scripts.specs.declared.component.ComponentCommand.{ComponentCommand}
 use Rattle.component_scripts.specs.declared.component.ComponentCommand.TheVariants.{Package, SetModuleProperty, AddInterface, SetInterfaceProperty, AddInterfacePort, SetPortProperty, PassedOver as Nothing}
+use Rattle.script_words.specs.declared.rule.CommandRule.TheVariants.{UnknownCommand, NotAName, Taken, NotStated, UnknownKind, WrongDirection, UnknownRole, UnknownProperty, Misread, OutOfRange, TypeName, UnknownPortProperty}
 use Rattle.script_words.specs.declared.faults.ScriptRule.TheVariants.{Command, Interface}
 use Rattle.script_words.specs.declared.judge.Check.{Check}
 use Rattle.script_words.specs.declared.judge.Refusal.{Refusal}
@@ -33,6 +34,7 @@ use Rattle.system_tables.specs.Names.{is_name}
 use Rattle.script_words.specs.Names.{is_empty, place_of}
 use Rattle.script_words.specs.Numbers.{number_of}
 use Rattle.script_words.specs.Package.{package_checks}
+use Rattle.script_words.specs.Rules.{rule_number}
 use Rattle.system_tables.specs.declared.tables.InterfaceTable.{InterfaceTable}
 use Rattle.component_scripts.specs.Tables.{ComponentTable}
 use Rattle.script_words.specs.Judgements.{counted, first_some, judged}
@@ -87,8 +89,8 @@ names_type words = same_name (codes "NAME") (text_at words 1)
 -- C3: the type's name is a name. C14: it isn't given twice.
 unfoldable pub module_checks : DraftedComponent → List Word → List Check
 module_checks draft words =
-    check 3 2 (names_type words && not (is_name (text_at words 2)))
-    ∷ check 14 1 (names_type words && is_some draft.type_name) ∷ []
+    check NotAName 2 (names_type words && not (is_name (text_at words 2)))
+    ∷ check TypeName 1 (names_type words && is_some draft.type_name) ∷ []
 
 unfoldable pub module_effect : DraftedComponent → List Word → DraftedComponent
 module_effect draft words =
@@ -109,10 +111,10 @@ changed (declared ∷ rest) name change =
 -- C3: a new name is a name. C4: no interface has it. C6: the kind is known. C7: the direction fits the kind.
 unfoldable pub interface_checks : DraftedComponent → List Word → List Check
 interface_checks draft words =
-    check 3 1 (not (is_name (text_at words 1)))
-    ∷ check 4 1 (is_some (held_named draft.interfaces (text_at words 1)))
-    ∷ check 6 2 (is_none (kind_named (text_at words 2)))
-    ∷ check 7 3 (is_misdirected words) ∷ []
+    check NotAName 1 (not (is_name (text_at words 1)))
+    ∷ check Taken 1 (is_some (held_named draft.interfaces (text_at words 1)))
+    ∷ check UnknownKind 2 (is_none (kind_named (text_at words 2)))
+    ∷ check WrongDirection 3 (is_misdirected words) ∷ []
 
 -- the kind and the side that the words of `add_interface` name
 unfoldable pub kind_and_side : List Word → Option (Kind × Side)
@@ -167,10 +169,10 @@ property_at draft words =
 unfoldable pub property_checks : DraftedComponent → List Word → List Check
 property_checks draft words =
     let property = property_at draft words in
-    check 5 1 (is_none property)
-    ∷ check 9 2 (option_map_or is_not_known property false)
-    ∷ check 10 3 (option_map_or (λ known. is_misread known (text_at words 3)) property false)
-    ∷ check 11 3 (option_map_or (λ known. is_outside known (text_at words 3)) property false) ∷ []
+    check NotStated 1 (is_none property)
+    ∷ check UnknownProperty 2 (option_map_or is_not_known property false)
+    ∷ check Misread 3 (option_map_or (λ known. is_misread known (text_at words 3)) property false)
+    ∷ check OutOfRange 3 (option_map_or (λ known. is_outside known (text_at words 3)) property false) ∷ []
 
 -- an interface whose property is set: the last setting counts
 unfoldable pub set_to_number : DeclaredInterface → PropertyId → List ℕ → ℕ → DeclaredInterface
@@ -205,14 +207,14 @@ lacks_role text held = is_avalon held.kind && is_none (role_named held.kind text
 unfoldable pub port_checks : DraftedComponent → List Word → List Check
 port_checks draft words =
     let interface = held_named draft.interfaces (text_at words 1) in
-    check 3 2 (not (is_name (text_at words 2)))
-    ∷ check 4 2 (is_some (place_of draft.ports (text_at words 2)))
-    ∷ check 4 3 (option_map_or (has_role (text_at words 3)) interface false)
-    ∷ check 5 1 (is_none interface)
-    ∷ check 7 4 (is_none (direction_named (text_at words 4)))
-    ∷ check 8 3 (option_map_or (lacks_role (text_at words 3)) interface false)
-    ∷ check 10 5 (is_none (number_of (text_at words 5)))
-    ∷ check 11 5 (option_map_or (λ width. width == 0) (number_of (text_at words 5)) false) ∷ []
+    check NotAName 2 (not (is_name (text_at words 2)))
+    ∷ check Taken 2 (is_some (place_of draft.ports (text_at words 2)))
+    ∷ check Taken 3 (option_map_or (has_role (text_at words 3)) interface false)
+    ∷ check NotStated 1 (is_none interface)
+    ∷ check WrongDirection 4 (is_none (direction_named (text_at words 4)))
+    ∷ check UnknownRole 3 (option_map_or (lacks_role (text_at words 3)) interface false)
+    ∷ check Misread 5 (is_none (number_of (text_at words 5)))
+    ∷ check OutOfRange 5 (option_map_or (λ width. width == 0) (number_of (text_at words 5)) false) ∷ []
 
 -- the port that the words `DIRECTION WIDTH` state
 unfoldable pub port_stated : List Word → Option (PortDirection × ℕ)
@@ -239,7 +241,7 @@ port_effect draft words =
 
 -- C19: ports have no other property than `VHDL_TYPE`
 unfoldable pub port_property_checks : List Word → List Check
-port_property_checks words = check 19 2 (not (same_name (codes "VHDL_TYPE") (text_at words 2))) ∷ []
+port_property_checks words = check UnknownPortProperty 2 (not (same_name (codes "VHDL_TYPE") (text_at words 2))) ∷ []
 
 -- all that is asked of a command
 abbrev pub component_checks : ComponentCommand → DraftedComponent → List Word → List Check
@@ -262,7 +264,7 @@ component_effect SetPortProperty draft words = draft
 component_effect Nothing draft words = draft
 
 abbrev pub component_refusal_at : DraftedComponent → List Word → Option ComponentCommand → Option Refusal
-component_refusal_at draft words None = Some (refused_at words 1 0)
+component_refusal_at draft words None = Some (refused_at words UnknownCommand 0)
 component_refusal_at draft words (Some command) =
     counted (takes command (length words - 1)) words (refusal_of words (component_checks command draft words))
 
@@ -324,7 +326,7 @@ named name interfaces = record { name = name.text; place = name.place; interface
 
 -- a file's last rules, behind its last byte: C14, there is a `NAME`; then the I rules for the interfaces in order
 abbrev pub ended_as : Place → Option Word → List DeclaredInterface → Result ComponentTable Refusal
-ended_as end None interfaces = Err (record { place = end; rule = Command 14 })
+ended_as end None interfaces = Err (record { place = end; rule = Command (rule_number TypeName) })
 ended_as end (Some name) interfaces = unless (first_some (interface_refusal interfaces) interfaces) (named name interfaces)
 
 unfoldable pub ended : Place → DraftedComponent → Result ComponentTable Refusal

@@ -13,6 +13,13 @@ use crate::settings::{is_misread, is_not_known, is_outside, set_as, with_role};
 use crate::types::{Component, is_name};
 use av_base::{NoMemory, Place, Text};
 use iface_roles::{Finished, Interface, Kind, Property, Side};
+use script_words::CommandRule::{
+    Misread, NotAName, NotStated, OutOfRange, Taken, TypeName, UnknownCommand, UnknownKind,
+    UnknownProperty, UnknownRole, WrongCount, WrongDirection,
+};
+use script_words::places::{
+    COMMAND, add_interface, add_interface_port, set_interface_property, set_module_property,
+};
 use script_words::values::{direction_named, kind_named, number_of, property_named, same_kind};
 use script_words::words::{check, is_misdirected, place, refusal_of, refused_at, text};
 use script_words::{Names, Refusal, ScriptFault, ScriptRule, judge_package};
@@ -86,12 +93,20 @@ impl ComponentDraft {
     fn judge_module_property(&self, words: &[Word]) -> Option<Refusal>
         ensures { result ≡ refusal_of words.now (module_checks self.now words.now) }
     {
-        let value = text(words, 2);
+        let value = text(words, set_module_property::VALUE);
         refusal_of(
             words,
             &[
-                check(3, 2, names_type(words) && !is_name(value)),
-                check(14, 1, names_type(words) && self.type_name.is_some()),
+                check(
+                    NotAName,
+                    set_module_property::VALUE,
+                    names_type(words) && !is_name(value),
+                ),
+                check(
+                    TypeName,
+                    set_module_property::PROPERTY,
+                    names_type(words) && self.type_name.is_some(),
+                ),
             ],
         )
     }
@@ -100,14 +115,22 @@ impl ComponentDraft {
     fn judge_interface(&self, words: &[Word]) -> Option<Refusal>
         ensures { result ≡ refusal_of words.now (interface_checks self.now words.now) }
     {
-        let name = text(words, 1);
+        let name = text(words, add_interface::NAME);
         refusal_of(
             words,
             &[
-                check(3, 1, !is_name(name)),
-                check(4, 1, self.held_named(name).is_some()),
-                check(6, 2, kind_named(text(words, 2)).is_none()),
-                check(7, 3, is_misdirected(words)),
+                check(NotAName, add_interface::NAME, !is_name(name)),
+                check(Taken, add_interface::NAME, self.held_named(name).is_some()),
+                check(
+                    UnknownKind,
+                    add_interface::KIND,
+                    kind_named(text(words, add_interface::KIND)).is_none(),
+                ),
+                check(
+                    WrongDirection,
+                    add_interface::DIRECTION,
+                    is_misdirected(words),
+                ),
             ],
         )
     }
@@ -116,8 +139,11 @@ impl ComponentDraft {
     fn property_at(&self, words: &[Word]) -> Option<Property>
         ensures { result ≡ property_at self.now words.now }
     {
-        let interface = self.held_named(text(words, 1))?;
-        Some(property_named(interface.kind(), text(words, 2)))
+        let interface = self.held_named(text(words, set_interface_property::INTERFACE))?;
+        Some(property_named(
+            interface.kind(),
+            text(words, set_interface_property::PROPERTY),
+        ))
     }
 
     #[tactic(auto, unfolding(crate::specs::Component::property_checks))]
@@ -125,14 +151,30 @@ impl ComponentDraft {
         ensures { result ≡ refusal_of words.now (property_checks self.now words.now) }
     {
         let property = self.property_at(words);
-        let value = text(words, 3);
+        let value = text(words, set_interface_property::VALUE);
         refusal_of(
             words,
             &[
-                check(5, 1, property.is_none()),
-                check(9, 2, is_not_known(property)),
-                check(10, 3, is_misread(property, value)),
-                check(11, 3, is_outside(property, value)),
+                check(
+                    NotStated,
+                    set_interface_property::INTERFACE,
+                    property.is_none(),
+                ),
+                check(
+                    UnknownProperty,
+                    set_interface_property::PROPERTY,
+                    is_not_known(property),
+                ),
+                check(
+                    Misread,
+                    set_interface_property::VALUE,
+                    is_misread(property, value),
+                ),
+                check(
+                    OutOfRange,
+                    set_interface_property::VALUE,
+                    is_outside(property, value),
+                ),
             ],
         )
     }
@@ -141,20 +183,46 @@ impl ComponentDraft {
     fn judge_port(&self, words: &[Word]) -> Option<Refusal>
         ensures { result ≡ refusal_of words.now (port_checks self.now words.now) }
     {
-        let interface = self.held_named(text(words, 1));
-        let role = text(words, 3);
-        let width = number_of(text(words, 5));
+        let interface = self.held_named(text(words, add_interface_port::INTERFACE));
+        let role = text(words, add_interface_port::ROLE);
+        let width = number_of(text(words, add_interface_port::WIDTH));
         refusal_of(
             words,
             &[
-                check(3, 2, !is_name(text(words, 2))),
-                check(4, 2, self.ports.find(text(words, 2)).is_some()),
-                check(4, 3, has_role(role, interface)),
-                check(5, 1, interface.is_none()),
-                check(7, 4, direction_named(text(words, 4)).is_none()),
-                check(8, 3, lacks_role(role, interface)),
-                check(10, 5, width.is_none()),
-                check(11, 5, matches!(width, Some(0))),
+                check(
+                    NotAName,
+                    add_interface_port::PORT,
+                    !is_name(text(words, add_interface_port::PORT)),
+                ),
+                check(
+                    Taken,
+                    add_interface_port::PORT,
+                    self.ports
+                        .find(text(words, add_interface_port::PORT))
+                        .is_some(),
+                ),
+                check(Taken, add_interface_port::ROLE, has_role(role, interface)),
+                check(
+                    NotStated,
+                    add_interface_port::INTERFACE,
+                    interface.is_none(),
+                ),
+                check(
+                    WrongDirection,
+                    add_interface_port::DIRECTION,
+                    direction_named(text(words, add_interface_port::DIRECTION)).is_none(),
+                ),
+                check(
+                    UnknownRole,
+                    add_interface_port::ROLE,
+                    lacks_role(role, interface),
+                ),
+                check(Misread, add_interface_port::WIDTH, width.is_none()),
+                check(
+                    OutOfRange,
+                    add_interface_port::WIDTH,
+                    matches!(width, Some(0)),
+                ),
             ],
         )
     }
@@ -181,8 +249,8 @@ impl ComponentDraft {
     {
         if names_type(words) {
             self.type_name = Some(Word {
-                text: Text::copy(alloc, text(words, 2))?,
-                place: place(words, 2),
+                text: Text::copy(alloc, text(words, set_module_property::VALUE))?,
+                place: place(words, set_module_property::VALUE),
             });
         }
         Ok(())
@@ -216,12 +284,15 @@ impl ComponentDraft {
         requires { refusal_of words.now (property_checks self.old words.now) ≡ None }
         ensures { OnOk result (self.new ≡ property_effect self.old words.now) }
     {
-        if let Some(k) = self.names.find(text(words, 1)) {
+        if let Some(k) = self
+            .names
+            .find(text(words, set_interface_property::INTERFACE))
+        {
             set_as(
                 alloc,
                 &mut self.interfaces[k],
-                text(words, 2),
-                text(words, 3),
+                text(words, set_interface_property::PROPERTY),
+                text(words, set_interface_property::VALUE),
             )?;
         }
         Ok(())
@@ -232,8 +303,9 @@ impl ComponentDraft {
         requires { refusal_of words.now (port_checks self.old words.now) ≡ None }
         ensures { OnOk result (self.new ≡ port_effect self.old words.now) }
     {
-        self.ports.add(alloc, text(words, 2))?;
-        if let Some(k) = self.names.find(text(words, 1)) {
+        self.ports
+            .add(alloc, text(words, add_interface_port::PORT))?;
+        if let Some(k) = self.names.find(text(words, add_interface_port::INTERFACE)) {
             with_role(&mut self.interfaces[k], words);
         }
         Ok(())
@@ -267,11 +339,11 @@ impl ComponentDraft {
         ensures stated { OnOk result (self.new ≡ component_after self.old words.now) }
         ensures refused { IfErr result (λ fault. IsRefusal fault (component_refusal self.old words.now)) }
     {
-        let Some(command) = component_command(text(words, 0)) else {
-            return Err(refused_at(words, 1, 0).into());
+        let Some(command) = component_command(text(words, COMMAND)) else {
+            return Err(refused_at(words, UnknownCommand, COMMAND).into());
         };
         if !takes(command, words.len().saturating_sub(1)) {
-            return Err(refused_at(words, 2, 0).into());
+            return Err(refused_at(words, WrongCount, COMMAND).into());
         }
         if let Some(refusal) = self.judge(command, words) {
             return Err(refusal.into());
@@ -374,7 +446,7 @@ impl ComponentDraft {
         if self.type_name.is_none() {
             return Err(ScriptFault::Refused {
                 place: end,
-                rule: ScriptRule::Command(14),
+                rule: ScriptRule::Command(TypeName.number()),
             });
         }
         Ok(self.interface_tables(alloc)?)
@@ -419,11 +491,11 @@ fn declared_as(
 ) -> Result<DeclaredInterface, NoMemory>
     ensures { IfOk result (λ declared. declared ≡ declared_as words.now (kind, side)) }
 {
-    let name = Text::copy(alloc, text(words, 1))?;
+    let name = Text::copy(alloc, text(words, add_interface::NAME))?;
     let clock = Text::copy(alloc, "")?;
     Ok(DeclaredInterface {
         name,
-        place: place(words, 1),
+        place: place(words, add_interface::NAME),
         clock,
         interface: Interface::new(kind, side),
     })

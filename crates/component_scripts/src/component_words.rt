@@ -8,7 +8,9 @@ ghost use Rattle.script_words.specs.Words.{refusal_of};
 
 use crate::component::ComponentCommand;
 use iface_roles::{Interface, Kind, Side};
+use script_words::CommandRule::UnknownPortProperty;
 use script_words::Refusal;
+use script_words::places::{add_interface, set_module_property, set_port_property};
 use script_words::values::{is_among, kind_named, role_named, same_name, same_text, side_named};
 use script_words::words::{check, refusal_of, text};
 use tcl_words::Word;
@@ -76,7 +78,7 @@ pub(crate) fn takes(command: ComponentCommand, count: usize) -> bool
 pub(crate) fn names_type(words: &[Word]) -> bool
     ensures { result ≡ names_type words.now }
 {
-    same_name("NAME", text(words, 1))
+    same_name("NAME", text(words, set_module_property::PROPERTY))
 }
 
 /// The kind and the side that the words of `add_interface` name.
@@ -84,8 +86,8 @@ pub(crate) fn names_type(words: &[Word]) -> bool
 pub(crate) fn kind_and_side(words: &[Word]) -> Option<(Kind, Side)>
     ensures { result ≡ kind_and_side words.now }
 {
-    let kind = kind_named(text(words, 2))?;
-    let side = side_named(kind, text(words, 3))?;
+    let kind = kind_named(text(words, add_interface::KIND))?;
+    let side = side_named(kind, text(words, add_interface::DIRECTION))?;
     Some((kind, side))
 }
 
@@ -118,6 +120,10 @@ pub(crate) fn judge_port_property(words: &[Word]) -> Option<Refusal>
 {
     refusal_of(
         words,
-        &[check(19, 2, !same_name("VHDL_TYPE", text(words, 2)))],
+        &[check(
+            UnknownPortProperty,
+            set_port_property::PROPERTY,
+            !same_name("VHDL_TYPE", text(words, set_port_property::PROPERTY)),
+        )],
     )
 }

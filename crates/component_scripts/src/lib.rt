@@ -1,4 +1,4 @@
-//! The components that component files state.
+//! Components, those that a system may name, and those that component files state.
 #![tactic(auto)]
 
 mod component;

@@ -10,6 +10,7 @@ use crate::component::DeclaredInterface;
 use crate::types::is_name;
 use av_base::{NoMemory, Text};
 use iface_roles::{PortDirection, Property, PropertyId, Values};
+use script_words::places::add_interface_port;
 use script_words::values::{direction_named, number_of, property_named, role_named};
 use script_words::words::text;
 use std::alloc::Global;
@@ -121,8 +122,8 @@ pub(crate) fn set_as(
 fn port_stated(words: &[Word]) -> Option<(PortDirection, u32)>
     ensures { result ≡ port_stated words.now }
 {
-    let direction = direction_named(text(words, 4))?;
-    let width = number_of(text(words, 5))?;
+    let direction = direction_named(text(words, add_interface_port::DIRECTION))?;
+    let width = number_of(text(words, add_interface_port::WIDTH))?;
     Some((direction, width))
 }
 
@@ -133,7 +134,10 @@ pub(crate) fn with_role(declared: &mut DeclaredInterface, words: &[Word])
     ensures same { declared.new ≡ with_role declared.old words.now }
     ensures name { declared.new.name ≡ declared.old.name }
 {
-    if let Some(role) = role_named(declared.interface.kind(), text(words, 3)) {
+    if let Some(role) = role_named(
+        declared.interface.kind(),
+        text(words, add_interface_port::ROLE),
+    ) {
         if let Some((direction, width)) = port_stated(words) {
             declared.interface.add_port(role, direction, width);
         }

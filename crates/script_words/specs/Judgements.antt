@@ -2,6 +2,7 @@
 use Rattle.std.specs.Prelude.{◌≡◌, Bool, true, false, List, [], ◌∷◌, Option, Some, None, Result, Err}
 use Rattle.std.specs.Option.{option_or}
 use Rattle.tcl_words.specs.declared.words.Word.{Word}
+use Rattle.script_words.specs.declared.rule.CommandRule.TheVariants.{WrongCount}
 use Rattle.script_words.specs.declared.faults.ScriptFault.{ScriptFault}
 use Rattle.script_words.specs.declared.faults.ScriptFault.TheVariants.{Refused, NoMemory}
 use Rattle.script_words.specs.declared.judge.Refusal.{Refusal}
@@ -10,7 +11,7 @@ use Rattle.script_words.specs.Words.{refused_at}
 -- what refuses a command, where it has a right number of words; else that
 abbrev pub counted : Bool → List Word → Option Refusal → Option Refusal
 counted true words refusal = refusal
-counted false words refusal = Some (refused_at words 2 0)
+counted false words refusal = Some (refused_at words WrongCount 0)
 
 -- what the first item with an answer has
 abbrev pub first_some : {A B : Type 0} → (A → Option B) → List A → Option B

@@ -4,6 +4,7 @@ pub mod Laws
 pub mod Names
 pub mod Numbers
 pub mod Package
+pub mod Rules
 pub mod Words
 pub mod Commands
 pub mod Joints

@@ -6,9 +6,11 @@ use Rattle.tcl_words.specs.declared.words.Word.{Word}
 use Rattle.script_words.specs.declared.faults.ScriptFault.{ScriptFault}
 use Rattle.script_words.specs.declared.faults.ScriptFault.TheVariants.{Refused, NoMemory}
 use Rattle.script_words.specs.declared.faults.ScriptRule.TheVariants.{Command}
+use Rattle.script_words.specs.declared.rule.CommandRule.{CommandRule}
 use Rattle.script_words.specs.declared.judge.Check.{Check}
 use Rattle.script_words.specs.declared.judge.Refusal.{Refusal}
 use Rattle.script_words.specs.Kinds.{kind_named, side_named}
+use Rattle.script_words.specs.Rules.{rule_number}
 
 -- the text of a command's word, counted from its name; empty where the command has no such word
 unfoldable pub text_at : List Word → ℕ → List ℕ
@@ -18,13 +20,13 @@ text_at words k = option_map_or (λ word. word.text) (slice_get words k) []
 unfoldable pub place_at : List Word → ℕ → Place
 place_at words k = option_map_or (λ word. word.place) (slice_get words k) (record { file = 0; line = 0; byte = 0 })
 
--- the rule of this number is asked of this word, and may fail there
-abbrev pub check : ℕ → ℕ → Bool → Check
+-- the rule is asked of this word, and may fail there
+abbrev pub check : CommandRule → ℕ → Bool → Check
 check rule word fails = record { rule = rule; word = word; fails = fails }
 
--- the rule of this number refuses the command at this word
-abbrev pub refused_at : List Word → ℕ → ℕ → Refusal
-refused_at words rule word = record { place = place_at words word; rule = Command rule }
+-- the rule refuses the command at this word
+abbrev pub refused_at : List Word → CommandRule → ℕ → Refusal
+refused_at words rule word = record { place = place_at words word; rule = Command (rule_number rule) }
 
 -- what refuses a command of which all this is asked: the least rule that fails, at the first word where it does.
 -- Checks are listed by rule, and then by word.

@@ -2,12 +2,13 @@ ghost use Rattle.std.specs.Prelude.{◌≡◌};
 ghost use Rattle.script_words.specs.declared.faults.ScriptFault.TheVariants.{Refused};
 
 use crate::faults::{ScriptFault, ScriptRule};
+use crate::rule::CommandRule;
 use av_base::Place;
 
 /// A rule of commands that is asked of a word, counted from the command's name, and whether it fails there.
 #[derive(Clone, Copy)]
 pub struct Check {
-    pub rule: u8,
+    pub rule: CommandRule,
     pub word: usize,
     pub fails: bool,
 }

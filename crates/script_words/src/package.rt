@@ -3,6 +3,8 @@ ghost use Rattle.script_words.specs.Package.{asks_exact, qsys_place, package_che
 ghost use Rattle.script_words.specs.Words.{refusal_of};
 
 use crate::judge::Refusal;
+use crate::places::package;
+use crate::rule::CommandRule::PackageWords;
 use crate::values::same_text;
 use crate::words::{check, refusal_of, text};
 use tcl_words::Word;
@@ -10,7 +12,7 @@ use tcl_words::Word;
 fn asks_exact(words: &[Word]) -> bool
     ensures { result ≡ asks_exact words.now }
 {
-    same_text(text(words, 2), "-exact")
+    same_text(text(words, package::EXACT), "-exact")
 }
 
 #[tactic(auto, unfolding(crate::specs::Package::qsys_place))]
@@ -30,10 +32,18 @@ pub fn judge_package(words: &[Word]) -> Option<Refusal>
     refusal_of(
         words,
         &[
-            check(12, 1, !same_text(text(words, 1), "require")),
-            check(12, 2, asks_exact(words) && words.len() <= 3),
-            check(12, due, !same_text(text(words, due), "qsys")),
-            check(12, due + 2, due + 2 < words.len()),
+            check(
+                PackageWords,
+                package::REQUIRE,
+                !same_text(text(words, package::REQUIRE), "require"),
+            ),
+            check(
+                PackageWords,
+                package::EXACT,
+                asks_exact(words) && words.len() <= 3,
+            ),
+            check(PackageWords, due, !same_text(text(words, due), "qsys")),
+            check(PackageWords, due + 2, due + 2 < words.len()),
         ],
     )
 }

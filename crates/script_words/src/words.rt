@@ -3,6 +3,8 @@ ghost use Rattle.script_words.specs.Words.{text_at, place_at, check, refused_at,
 
 use crate::faults::ScriptRule;
 use crate::judge::{Check, Refusal};
+use crate::places::add_interface;
+use crate::rule::CommandRule;
 use crate::values::{kind_named, side_named};
 use av_base::Place;
 use tcl_words::Word;
@@ -34,19 +36,19 @@ pub fn place(words: &[Word], k: usize) -> Place
 }
 
 /// What a rule asks of a word, and whether it fails there.
-pub fn check(rule: u8, word: usize, fails: bool) -> Check
+pub fn check(rule: CommandRule, word: usize, fails: bool) -> Check
     ensures { result ≡ check rule word fails }
 {
     Check { rule, word, fails }
 }
 
-/// The rule of this number refuses the command at this word.
-pub fn refused_at(words: &[Word], rule: u8, word: usize) -> Refusal
+/// The rule refuses the command at this word.
+pub fn refused_at(words: &[Word], rule: CommandRule, word: usize) -> Refusal
     ensures { result ≡ refused_at words.now rule word }
 {
     Refusal {
         place: place(words, word),
-        rule: ScriptRule::Command(rule),
+        rule: ScriptRule::Command(rule.number()),
     }
 }
 
@@ -70,8 +72,8 @@ pub fn refusal_of(words: &[Word], checks: &[Check]) -> Option<Refusal>
 pub fn is_misdirected(words: &[Word]) -> bool
     ensures { result ≡ is_misdirected words.now }
 {
-    match kind_named(text(words, 2)) {
-        Some(kind) => side_named(kind, text(words, 3)).is_none(),
+    match kind_named(text(words, add_interface::KIND)) {
+        Some(kind) => side_named(kind, text(words, add_interface::DIRECTION)).is_none(),
         None => false,
     }
 }

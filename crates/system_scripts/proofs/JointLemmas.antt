@@ -37,6 +37,7 @@ use Rattle.script_words.specs.Laws.{none_passes}
 use Rattle.system_scripts.proofs.SystemDraftLemmas.{connection_is_new, parameter_not_exceeds, ends_and_kind-with_number}
 use Rattle.system_scripts.proofs.SoundLemmas.{all_fail}
 use Rattle.script_words.specs.Laws.{same_kind-Decides}
+use Rattle.script_words.specs.declared.rule.CommandRule.TheVariants.{UnlikeEnds, StreamTaken}
 
 some_at : {A : Type 0} (xs : List A) (k : ℕ) → k < length xs → (x : A) × (slice_get xs k ≡ Some x)
 some_at [] k h = absurd (omega arith)
@@ -158,8 +159,8 @@ ends_of components draft words start end clean first second =
     let other = sort_of_end components draft.instances others end ends in
     let first_sort : option_and_then (sort_at components draft.instances) (first_end components draft words) ≡ Some sort.0 = ap (option_and_then (sort_at components draft.instances)) first ∙ sort.1 in
     let second_sort : option_and_then (sort_at components draft.instances) (second_end components draft words) ≡ Some other.0 = ap (option_and_then (sort_at components draft.instances)) second ∙ other.1 in
-    let fits = none_fails words (connection_checks components draft words) 5 (check 16 0 (of_both (option_and_then (sort_at components draft.instances) (first_end components draft words)) (option_and_then (sort_at components draft.instances) (second_end components draft words)) (is_mismatched words))) clean (lit< tt) refl in
-    let taken = none_fails words (connection_checks components draft words) 6 (check 17 0 (of_both (first_end components draft words) (second_end components draft words) (λ a b. is_taken draft.joints a || is_taken draft.joints b))) clean (lit< tt) refl in
+    let fits = none_fails words (connection_checks components draft words) 5 (check UnlikeEnds 0 (of_both (option_and_then (sort_at components draft.instances) (first_end components draft words)) (option_and_then (sort_at components draft.instances) (second_end components draft words)) (is_mismatched words))) clean (lit< tt) refl in
+    let taken = none_fails words (connection_checks components draft words) 6 (check StreamTaken 0 (of_both (first_end components draft words) (second_end components draft words) (λ a b. is_taken draft.joints a || is_taken draft.joints b))) clean (lit< tt) refl in
     record {
       sort = sort.0;
       other = other.0;

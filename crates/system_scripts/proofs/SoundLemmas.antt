@@ -27,6 +27,7 @@ use Rattle.script_words.specs.Words.{text_at, check, refusal_of}
 use Rattle.script_words.specs.Laws.{none_fails}
 use Rattle.script_words.specs.Laws.{none_passes}
 use Rattle.system_scripts.proofs.SystemDraftLemmas.{stages_are_few, instance_is_new}
+use Rattle.script_words.specs.declared.rule.CommandRule.TheVariants.{NotAName}
 
 pub sound_nothing : (components : List ComponentTable) → IsSoundSystemDraft components empty_system_draft
 sound_nothing components =
@@ -49,7 +50,7 @@ pub sound_create : (components : List ComponentTable) (draft : DraftedSystem) (w
     → refusal_of words (create_checks draft words) ≡ None → IsSoundSystemDraft components (create_effect draft words)
 unfolding create_checks create_effect
 sound_create components draft words kept clean =
-    let named = none_fails words (create_checks draft words) 0 (check 3 1 (has_word words 1 && not (is_name (text_at words 1)))) clean (lit< tt) refl in
+    let named = none_fails words (create_checks draft words) 0 (check NotAName 1 (has_word words 1 && not (is_name (text_at words 1)))) clean (lit< tt) refl in
     record {
       name = created_name (has_word words 1) (text_at words 1) named;
       stages = kept.stages;
@@ -132,7 +133,7 @@ unfolding instance_checks instance_effect
 sound_instance components draft words kept clean = by (type_place components (text_at words 2))
   where
     named : IsTrue (is_name (text_at words 1))
-    named = not-false (is_name (text_at words 1)) (none_fails words (instance_checks components draft words) 0 (check 3 1 (not (is_name (text_at words 1)))) clean (lit< tt) refl)
+    named = not-false (is_name (text_at words 1)) (none_fails words (instance_checks components draft words) 0 (check NotAName 1 (not (is_name (text_at words 1)))) clean (lit< tt) refl)
 
     by : (place : Option ℕ) → IsSoundSystemDraft components (option_map_or (λ component. record draft { instances = draft.instances ++ record { name = text_at words 1; component = component } ∷ [] }) place draft)
     by None = kept

@@ -11,6 +11,7 @@ use Rattle.tcl_words.specs.declared.words.Word.{Word}
 use Rattle.iface_roles.specs.declared.kinds.Kind.{Kind}
 use Rattle.iface_roles.specs.declared.kinds.Kind.TheVariants.{Stream}
 use Rattle.iface_roles.specs.Kinds.{is_avalon}
+use Rattle.script_words.specs.declared.rule.CommandRule.TheVariants.{Taken, OutOfRange}
 use Rattle.script_words.specs.declared.faults.ScriptFault.{ScriptFault}
 use Rattle.script_words.specs.declared.faults.ScriptFault.TheVariants.{Refused, NoMemory}
 use Rattle.script_words.specs.declared.system.joints.Joint.{Joint}
@@ -35,7 +36,7 @@ pub stages_are_few : (draft : DraftedSystem) (words : List Word) (stages : ℕ) 
     → sets_stages words ≡ true → number_of (text_at words 3) ≡ Some stages → stages ≤ 4
 unfolding requirement_checks
 stages_are_few draft words stages clean sets is =
-    let passes = none_fails words (requirement_checks draft words) 1 (check 11 3 (sets_stages words && option_map_or (λ number. nat_lt 4 number) (number_of (text_at words 3)) false)) clean (lit< tt) refl in
+    let passes = none_fails words (requirement_checks draft words) 1 (check OutOfRange 3 (sets_stages words && option_map_or (λ number. nat_lt 4 number) (number_of (text_at words 3)) false)) clean (lit< tt) refl in
     let few : nat_lt 4 stages ≡ false =
     ap (λ o. option_map_or (λ number. nat_lt 4 number) o false) (sym is) ∙ ap (λ b. b && option_map_or (λ number. nat_lt 4 number) (number_of (text_at words 3)) false) (sym sets) ∙ passes in
     grind (arith, nat_tests)
@@ -44,13 +45,13 @@ pub exported_is_new : (draft : DraftedSystem) (words : List Word) → refusal_of
     → is_some (place_of draft.exported (text_at words 1)) ≡ false
 unfolding exported_checks
 exported_is_new draft words clean =
-    none_fails words (exported_checks draft words) 1 (check 4 1 (is_some (place_of draft.exported (text_at words 1)))) clean (lit< tt) refl
+    none_fails words (exported_checks draft words) 1 (check Taken 1 (is_some (place_of draft.exported (text_at words 1)))) clean (lit< tt) refl
 
 pub instance_is_new : (components : List ComponentTable) (draft : DraftedSystem) (words : List Word) → refusal_of words (instance_checks components draft words) ≡ None
     → is_some (place_of (map (λ (instance : Instance). instance.name) draft.instances) (text_at words 1)) ≡ false
 unfolding instance_checks instance_place
 instance_is_new components draft words clean =
-    none_fails words (instance_checks components draft words) 1 (check 4 1 (is_some (instance_place draft.instances (text_at words 1)))) clean (lit< tt) refl
+    none_fails words (instance_checks components draft words) 1 (check Taken 1 (is_some (instance_place draft.instances (text_at words 1)))) clean (lit< tt) refl
 
 pub connection_is_new : (components : List ComponentTable) (draft : DraftedSystem) (words : List Word) (start end : Terminal)
     → refusal_of words (connection_checks components draft words) ≡ None
@@ -59,7 +60,7 @@ pub connection_is_new : (components : List ComponentTable) (draft : DraftedSyste
 unfolding connection_checks
 connection_is_new components draft words start end clean first second =
     let there : Terminal → Terminal → Bool = λ a b. is_some (position (joins a b) draft.joints) in
-    let passes = none_fails words (connection_checks components draft words) 0 (check 4 0 (of_both (first_end components draft words) (second_end components draft words) there)) clean (lit< tt) refl in
+    let passes = none_fails words (connection_checks components draft words) 0 (check Taken 0 (of_both (first_end components draft words) (second_end components draft words) there)) clean (lit< tt) refl in
     sym (ap (λ o. of_both o (second_end components draft words) there) first ∙ ap (λ o. of_both (Some start) o there) second) ∙ passes
 
 -- a connection that a word names stands among the connections
@@ -90,7 +91,7 @@ unfolding parameter_checks
 parameter_not_exceeds components draft words k joint parameter is_set clean =
     let value = text_at words 3 in
     let kind = kind_of_joint draft.joints (joint_place components draft (text_at words 1)) in
-    let passes = none_fails words (parameter_checks components draft words) 2 (check 11 3 (of_both kind (parameter_named (text_at words 2)) (exceeds value))) clean (lit< tt) refl in
+    let passes = none_fails words (parameter_checks components draft words) 2 (check OutOfRange 3 (of_both kind (parameter_named (text_at words 2)) (exceeds value))) clean (lit< tt) refl in
     let at : slice_get draft.joints k ≡ Some joint = slice_get-get_or draft.joints k joint (joint_place-within components draft (text_at words 1) k is_set.stands) ∙ ap Some (sym is_set.there) in
     let kind_is : kind ≡ Some joint.kind = ap (kind_of_joint draft.joints) is_set.stands ∙ ap (option_map (λ (j : Joint). j.kind)) at in
     sym (ap (λ o. of_both o (parameter_named (text_at words 2)) (exceeds value)) kind_is ∙ ap (λ o. of_both (Some joint.kind) o (exceeds value)) is_set.named) ∙ passes

@@ -5,6 +5,8 @@ use Rattle.av_base.specs.declared.faults.Place.{Place}
 use Rattle.tcl_words.specs.Script.{Script}
 use Rattle.iface_roles.specs.Kinds.{is_avalon}
 use Rattle.script_words.specs.declared.faults.ScriptRule.TheVariants.{Command}
+use Rattle.script_words.specs.declared.rule.CommandRule.TheVariants.{Creation}
+use Rattle.script_words.specs.Rules.{rule_number}
 use Rattle.script_words.specs.declared.system.joints.Joint.{Joint}
 use Rattle.script_words.specs.declared.system.joints.Terminal.{Terminal}
 use Rattle.script_words.specs.declared.judge.Refusal.{Refusal}
@@ -88,7 +90,7 @@ stated_system components draft name =
 
 -- a file's last rule, behind its last byte: C13, a system was created
 abbrev pub no_system : Place → Result SystemTable Refusal
-no_system end = Err (record { place = end; rule = Command 13 })
+no_system end = Err (record { place = end; rule = Command (rule_number Creation) })
 
 abbrev pub ended_system : Place → List ComponentTable → DraftedSystem → Option (List ℕ) → Result SystemTable Refusal
 ended_system end components draft None = no_system end

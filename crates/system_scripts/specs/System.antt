@@ -13,6 +13,7 @@ use Rattle.script_words.specs.declared.system.joints.Parameter.{Parameter}
 use Rattle.script_words.specs.declared.system.joints.Parameter.TheVariants.{BaseAddress, ArbitrationPriority, FifoDepth, DefaultConnection}
 use Rattle.script_words.specs.declared.system.joints.SystemCommand.{SystemCommand}
 use Rattle.script_words.specs.declared.system.joints.SystemCommand.TheVariants.{Package, CreateSystem, AddInstance, AddConnection, SetParameter, AddInterface, SetInterfaceProperty, SetRequirement, SaveSystem, PassedOver}
+use Rattle.script_words.specs.declared.rule.CommandRule.TheVariants.{UnknownCommand, NotAName, Taken, NotStated, UnknownKind, WrongDirection, Misread, OutOfRange, Creation, UnlikeEnds, StreamTaken, Misplaced, NotAnEnd}
 use Rattle.script_words.specs.declared.judge.Check.{Check}
 use Rattle.script_words.specs.declared.judge.Refusal.{Refusal}
 use Rattle.system_tables.specs.declared.system.Instance.{Instance}
@@ -54,7 +55,7 @@ is_early draft = is_none draft.name
 -- `create_system [NAME]`. C3: a name is a name. C13: it is the first.
 unfoldable pub create_checks : DraftedSystem → List Word → List Check
 create_checks draft words =
-    check 3 1 (has_word words 1 && not (is_name (text_at words 1))) ∷ check 13 0 (is_some draft.name) ∷ []
+    check NotAName 1 (has_word words 1 && not (is_name (text_at words 1))) ∷ check Creation 0 (is_some draft.name) ∷ []
 
 unfoldable pub create_effect : DraftedSystem → List Word → DraftedSystem
 create_effect draft words =
@@ -67,10 +68,10 @@ instance_place instances name = place_of (map (λ (instance : Instance). instanc
 -- `add_instance NAME TYPE [VERSION]`. C3: a name is a name. C4: it is new. C5: the type is there. C13: the system too.
 unfoldable pub instance_checks : List ComponentTable → DraftedSystem → List Word → List Check
 instance_checks components draft words =
-    check 3 1 (not (is_name (text_at words 1)))
-    ∷ check 4 1 (is_some (instance_place draft.instances (text_at words 1)))
-    ∷ check 5 2 (is_none (type_place components (text_at words 2)))
-    ∷ check 13 0 (is_early draft) ∷ []
+    check NotAName 1 (not (is_name (text_at words 1)))
+    ∷ check Taken 1 (is_some (instance_place draft.instances (text_at words 1)))
+    ∷ check NotStated 2 (is_none (type_place components (text_at words 2)))
+    ∷ check Creation 0 (is_early draft) ∷ []
 
 unfoldable pub instance_effect : List ComponentTable → DraftedSystem → List Word → DraftedSystem
 instance_effect components draft words =
@@ -143,18 +144,18 @@ connection_checks components draft words =
     let end_name = second_named words in
     let start = first_end components draft words in
     let end = second_end components draft words in
-    check 4 0 (of_both start end (λ a b. is_some (position (joins a b) draft.joints)))
-    ∷ check 5 1 (is_some start_name && is_none start)
-    ∷ check 5 (second_word words) (is_some end_name && is_none end)
-    ∷ check 6 3 (has_word words 3 && is_none (kind_named (text_at words 3)))
-    ∷ check 13 0 (is_early draft)
-    ∷ check 16 0 (of_both
+    check Taken 0 (of_both start end (λ a b. is_some (position (joins a b) draft.joints)))
+    ∷ check NotStated 1 (is_some start_name && is_none start)
+    ∷ check NotStated (second_word words) (is_some end_name && is_none end)
+    ∷ check UnknownKind 3 (has_word words 3 && is_none (kind_named (text_at words 3)))
+    ∷ check Creation 0 (is_early draft)
+    ∷ check UnlikeEnds 0 (of_both
     (option_and_then (sort_at components draft.instances) start)
     (option_and_then (sort_at components draft.instances) end)
     (is_mismatched words))
-    ∷ check 17 0 (of_both start end (λ a b. is_taken draft.joints a || is_taken draft.joints b))
-    ∷ check 20 1 (is_none start_name)
-    ∷ check 20 (second_word words) (is_none end_name) ∷ []
+    ∷ check StreamTaken 0 (of_both start end (λ a b. is_taken draft.joints a || is_taken draft.joints b))
+    ∷ check NotAnEnd 1 (is_none start_name)
+    ∷ check NotAnEnd (second_word words) (is_none end_name) ∷ []
 
 abbrev pub joint_of : Terminal → Terminal → Kind → Joint
 joint_of start end kind = record { start = start; end = end; kind = kind; base = 0; shares = 1; fifo = 0 }
@@ -190,13 +191,13 @@ parameter_checks components draft words =
     let kind = kind_of_joint draft.joints (joint_place components draft (text_at words 1)) in
     let parameter = parameter_named (text_at words 2) in
     let value = text_at words 3 in
-    check 5 1 (is_some (pair_named (text_at words 1)) && is_none kind)
-    ∷ check 10 3 (of_both kind parameter (misreads value))
-    ∷ check 11 3 (of_both kind parameter (exceeds value))
-    ∷ check 13 0 (is_early draft)
-    ∷ check 18 2 (of_both kind parameter is_misplaced)
-    ∷ check 18 3 (of_both kind parameter (λ k p. asks_default k p value))
-    ∷ check 20 1 (is_none (pair_named (text_at words 1))) ∷ []
+    check NotStated 1 (is_some (pair_named (text_at words 1)) && is_none kind)
+    ∷ check Misread 3 (of_both kind parameter (misreads value))
+    ∷ check OutOfRange 3 (of_both kind parameter (exceeds value))
+    ∷ check Creation 0 (is_early draft)
+    ∷ check Misplaced 2 (of_both kind parameter is_misplaced)
+    ∷ check Misplaced 3 (of_both kind parameter (λ k p. asks_default k p value))
+    ∷ check NotAnEnd 1 (is_none (pair_named (text_at words 1))) ∷ []
 
 -- a connection whose parameter is set: the last setting counts; a stream's and a host's alone mean something
 abbrev pub with_parameter : Joint → Parameter → ℕ → Joint
@@ -224,11 +225,11 @@ parameter_effect components draft words =
 -- `add_interface NAME KIND DIRECTION`. C3: a name is a name. C4: no exported name is the same. C6, C7: as in a component.
 unfoldable pub exported_checks : DraftedSystem → List Word → List Check
 exported_checks draft words =
-    check 3 1 (not (is_name (text_at words 1)))
-    ∷ check 4 1 (is_some (place_of draft.exported (text_at words 1)))
-    ∷ check 6 2 (is_none (kind_named (text_at words 2)))
-    ∷ check 7 3 (is_misdirected words)
-    ∷ check 13 0 (is_early draft) ∷ []
+    check NotAName 1 (not (is_name (text_at words 1)))
+    ∷ check Taken 1 (is_some (place_of draft.exported (text_at words 1)))
+    ∷ check UnknownKind 2 (is_none (kind_named (text_at words 2)))
+    ∷ check WrongDirection 3 (is_misdirected words)
+    ∷ check Creation 0 (is_early draft) ∷ []
 
 unfoldable pub exported_effect : DraftedSystem → List Word → DraftedSystem
 exported_effect draft words = record draft { exported = draft.exported ++ text_at words 1 ∷ [] }
@@ -238,17 +239,17 @@ exported_effect draft words = record draft { exported = draft.exported ++ text_a
 unfoldable pub export_checks : List ComponentTable → DraftedSystem → List Word → List Check
 export_checks components draft words =
     let named = end_named (text_at words 3) in
-    check 5 1 (is_none (place_of draft.exported (text_at words 1)))
-    ∷ check 5 3 (exports words && is_some named && is_none (option_and_then (end_of components draft.instances) named))
-    ∷ check 13 0 (is_early draft)
-    ∷ check 20 3 (exports words && is_none named) ∷ []
+    check NotStated 1 (is_none (place_of draft.exported (text_at words 1)))
+    ∷ check NotStated 3 (exports words && is_some named && is_none (option_and_then (end_of components draft.instances) named))
+    ∷ check Creation 0 (is_early draft)
+    ∷ check NotAnEnd 3 (exports words && is_none named) ∷ []
 
 -- `set_interconnect_requirement ELEMENT R V`. C10, C11: the stages are a number, 4 at most. C13: the system is there.
 unfoldable pub requirement_checks : DraftedSystem → List Word → List Check
 requirement_checks draft words =
-    check 10 3 (sets_stages words && is_none (number_of (text_at words 3)))
-    ∷ check 11 3 (sets_stages words && option_map_or (λ number. nat_lt 4 number) (number_of (text_at words 3)) false)
-    ∷ check 13 0 (is_early draft) ∷ []
+    check Misread 3 (sets_stages words && is_none (number_of (text_at words 3)))
+    ∷ check OutOfRange 3 (sets_stages words && option_map_or (λ number. nat_lt 4 number) (number_of (text_at words 3)) false)
+    ∷ check Creation 0 (is_early draft) ∷ []
 
 -- the last setting counts
 unfoldable pub requirement_effect : DraftedSystem → List Word → DraftedSystem
@@ -258,7 +259,7 @@ requirement_effect draft words =
 
 -- C13: the system is there
 unfoldable pub late_checks : DraftedSystem → List Check
-late_checks draft = check 13 0 (is_early draft) ∷ []
+late_checks draft = check Creation 0 (is_early draft) ∷ []
 
 -- all that is asked of a command
 abbrev pub system_checks : SystemCommand → List ComponentTable → DraftedSystem → List Word → List Check
@@ -287,7 +288,7 @@ system_effect SaveSystem components draft words = draft
 system_effect PassedOver components draft words = draft
 
 abbrev pub system_refusal_at : List ComponentTable → DraftedSystem → List Word → Option SystemCommand → Option Refusal
-system_refusal_at components draft words None = Some (refused_at words 1 0)
+system_refusal_at components draft words None = Some (refused_at words UnknownCommand 0)
 system_refusal_at components draft words (Some command) =
     counted (system_takes command (length words - 1)) words (refusal_of words (system_checks command components draft words))
 

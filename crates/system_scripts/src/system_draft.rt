@@ -5,6 +5,8 @@ mod state;
 use av_base::Text;
 use component_scripts::types::{Component, Library};
 use iface_roles::{Kind, Side};
+use script_words::CommandRule::{UnknownCommand, WrongCount};
+use script_words::places::COMMAND;
 use script_words::system::commands::{
     first_named, pair_named, second_named, system_command, system_takes,
 };
@@ -98,11 +100,11 @@ impl SystemDraft {
         ensures stated { OnOk result (self.new ≡ system_after library.now self.old words.now) }
         ensures refused { IfErr result (λ fault. IsRefusal fault (system_refusal library.now self.old words.now)) }
     {
-        let Some(command) = system_command(text(words, 0)) else {
-            return Err(refused_at(words, 1, 0).into());
+        let Some(command) = system_command(text(words, COMMAND)) else {
+            return Err(refused_at(words, UnknownCommand, COMMAND).into());
         };
         if !system_takes(command, words.len().saturating_sub(1)) {
-            return Err(refused_at(words, 2, 0).into());
+            return Err(refused_at(words, WrongCount, COMMAND).into());
         }
         if let Some(refusal) = self.judge(command, library, words) {
             return Err(refusal.into());

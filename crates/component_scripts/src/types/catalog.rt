@@ -2,7 +2,7 @@ ghost use Rattle.std.specs.Prelude.{◌≡◌};
 
 use crate::types::component::Component;
 use av_base::NoMemory;
-use script_words::{Names, ScriptFault, ScriptRule};
+use script_words::{CommandRule, Names, ScriptFault, ScriptRule};
 use std::alloc::Global;
 use std::marker::Model;
 
@@ -84,7 +84,7 @@ impl Catalog {
         if self.refuses(&component) {
             return Err(ScriptFault::Refused {
                 place: component.place(),
-                rule: ScriptRule::Command(15),
+                rule: ScriptRule::Command(CommandRule::TypeTaken.number()),
             });
         }
         self.insert(component)?;

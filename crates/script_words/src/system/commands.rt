@@ -6,6 +6,7 @@ ghost use Rattle.std.specs.List.{list_any};
 ghost use Rattle.std.specs.Str.{bytes_eq};
 ghost use Rattle.script_words.specs.Commands.{later_command, system_command, system_passed_over, system_takes, pair_named, first_named, second_named, second_word, in_one_word, has_word, of_both, asks_other, parameter_named, is_number, may_be, is_misplaced, asks_default, misreads, exceeds, exports, sets_stages, has_sides};
 
+use crate::places::{add_connection, set_interconnect_requirement, set_interface_property};
 use crate::system::joints::{Parameter, SystemCommand, Terminal};
 use crate::values::{
     end_named, is_among, kind_named, number_of, parts_round, same_kind, same_name, same_text,
@@ -172,15 +173,20 @@ fn exceeds(value: &str, kind: Kind, parameter: Parameter) -> bool
 pub fn exports(words: &[Word]) -> bool
     ensures { result ≡ exports words.now }
 {
-    same_name("EXPORT_OF", text(words, 2))
+    same_name("EXPORT_OF", text(words, set_interface_property::PROPERTY))
 }
 
 /// Whether the pipeline stages of all agents are set (`$system qsys_mm.maxAdditionalLatency`).
 pub fn sets_stages(words: &[Word]) -> bool
     ensures { result ≡ sets_stages words.now }
 {
-    same_text(text(words, 1), "$system")
-        && same_text(text(words, 2), "qsys_mm.maxAdditionalLatency")
+    same_text(
+        text(words, set_interconnect_requirement::ELEMENT),
+        "$system",
+    ) && same_text(
+        text(words, set_interconnect_requirement::REQUIREMENT),
+        "qsys_mm.maxAdditionalLatency",
+    )
 }
 
 /// Whether a connection of the kind leads from a start to an end that are judged here.
@@ -215,10 +221,10 @@ pub fn first_named(words: &[Word]) -> Option<(&str, &str)>
     ensures { option_map (λ names. (names.0.now, names.1.now)) result ≡ first_named words.now }
 {
     if in_one_word(words) {
-        let (start, _) = pair_named(text(words, 1))?;
+        let (start, _) = pair_named(text(words, add_connection::PAIR))?;
         return Some(start);
     }
-    end_named(text(words, 1))
+    end_named(text(words, add_connection::START))
 }
 
 /// The names of a connection's second end.
@@ -227,10 +233,10 @@ pub fn second_named(words: &[Word]) -> Option<(&str, &str)>
     ensures { option_map (λ names. (names.0.now, names.1.now)) result ≡ second_named words.now }
 {
     if in_one_word(words) {
-        let (_, end) = pair_named(text(words, 1))?;
+        let (_, end) = pair_named(text(words, add_connection::PAIR))?;
         return Some(end);
     }
-    end_named(text(words, 2))
+    end_named(text(words, add_connection::END))
 }
 
 /// The word of a connection's second end.
@@ -238,7 +244,11 @@ pub fn second_named(words: &[Word]) -> Option<(&str, &str)>
 pub fn second_word(words: &[Word]) -> usize
     ensures { result ≡ second_word words.now }
 {
-    if in_one_word(words) { 1 } else { 2 }
+    if in_one_word(words) {
+        add_connection::PAIR
+    } else {
+        add_connection::END
+    }
 }
 
 /// Whether the first end is spelled `instance.interface`.
@@ -268,7 +278,7 @@ pub fn asks_other(words: &[Word], kind: Kind) -> bool
     ensures { result ≡ asks_other words.now kind }
 {
     words.len() > 3
-        && match kind_named(text(words, 3)) {
+        && match kind_named(text(words, add_connection::KIND)) {
             Some(asked) => !same_kind(asked, kind),
             None => false,
         }
@@ -278,7 +288,7 @@ pub fn asks_other(words: &[Word], kind: Kind) -> bool
 pub fn asks_unknown(words: &[Word]) -> bool
     ensures { result ≡ (has_word words.now 3 && is_none (kind_named (text_at words.now 3))) }
 {
-    words.len() > 3 && kind_named(text(words, 3)).is_none()
+    words.len() > 3 && kind_named(text(words, add_connection::KIND)).is_none()
 }
 
 /// Whether an end is named, and isn't there.

@@ -6,7 +6,7 @@ use av_base::{List, NoMemory, Place};
 use component_scripts::types::{Component, Library};
 use script_words::system::Roots;
 use script_words::system::joints::{Joint, Terminal};
-use script_words::{ScriptFault, ScriptRule};
+use script_words::{CommandRule, ScriptFault, ScriptRule};
 use std::alloc::Global;
 use system_tables::{Connection, EndId, InterfaceTable, System};
 use tcl_words::Commands;
@@ -186,7 +186,7 @@ impl SystemDraft {
         if self.name.is_none() {
             return Err(ScriptFault::Refused {
                 place: end,
-                rule: ScriptRule::Command(13),
+                rule: ScriptRule::Command(CommandRule::Creation.number()),
             });
         }
         Ok(())

@@ -6,6 +6,14 @@ ghost use Rattle.script_words.specs.Words.{refusal_of};
 use super::SystemDraft;
 use component_scripts::types::{Library, is_name};
 use iface_roles::{Kind, Side};
+use script_words::CommandRule::{
+    Creation, Misplaced, Misread, NotAName, NotAnEnd, NotStated, OutOfRange, StreamTaken, Taken,
+    UnknownKind, UnlikeEnds, WrongDirection,
+};
+use script_words::places::{
+    COMMAND, add_connection, add_instance, add_interface, create_system,
+    set_connection_parameter_value, set_interconnect_requirement, set_interface_property,
+};
 use script_words::system::commands::{
     any_default, any_exceeds, any_misplaced, any_misread, asks_other, asks_unknown, exports,
     has_sides, is_missing, is_no_joint, names_an_end, names_first, names_pair, names_second,
@@ -22,7 +30,7 @@ impl SystemDraft {
     fn judge_late(&self, words: &[Word]) -> Option<Refusal>
         ensures { result ≡ refusal_of words.now (late_checks self.now) }
     {
-        refusal_of(words, &[check(13, 0, self.is_early())])
+        refusal_of(words, &[check(Creation, COMMAND, self.is_early())])
     }
 
     #[tactic(auto, unfolding(crate::specs::System::create_checks))]
@@ -32,8 +40,12 @@ impl SystemDraft {
         refusal_of(
             words,
             &[
-                check(3, 1, words.len() > 1 && !is_name(text(words, 1))),
-                check(13, 0, self.name.is_some()),
+                check(
+                    NotAName,
+                    create_system::NAME,
+                    words.len() > 1 && !is_name(text(words, create_system::NAME)),
+                ),
+                check(Creation, COMMAND, self.name.is_some()),
             ],
         )
     }
@@ -42,15 +54,27 @@ impl SystemDraft {
     fn judge_exported(&self, words: &[Word]) -> Option<Refusal>
         ensures { result ≡ refusal_of words.now (exported_checks self.now words.now) }
     {
-        let name = text(words, 1);
+        let name = text(words, add_interface::NAME);
         refusal_of(
             words,
             &[
-                check(3, 1, !is_name(name)),
-                check(4, 1, self.exported.find(name).is_some()),
-                check(6, 2, kind_named(text(words, 2)).is_none()),
-                check(7, 3, is_misdirected(words)),
-                check(13, 0, self.is_early()),
+                check(NotAName, add_interface::NAME, !is_name(name)),
+                check(
+                    Taken,
+                    add_interface::NAME,
+                    self.exported.find(name).is_some(),
+                ),
+                check(
+                    UnknownKind,
+                    add_interface::KIND,
+                    kind_named(text(words, add_interface::KIND)).is_none(),
+                ),
+                check(
+                    WrongDirection,
+                    add_interface::DIRECTION,
+                    is_misdirected(words),
+                ),
+                check(Creation, COMMAND, self.is_early()),
             ],
         )
     }
@@ -59,17 +83,21 @@ impl SystemDraft {
     fn judge_requirement(&self, words: &[Word]) -> Option<Refusal>
         ensures { result ≡ refusal_of words.now (requirement_checks self.now words.now) }
     {
-        let number = number_of(text(words, 3));
+        let number = number_of(text(words, set_interconnect_requirement::VALUE));
         refusal_of(
             words,
             &[
-                check(10, 3, sets_stages(words) && number.is_none()),
                 check(
-                    11,
-                    3,
+                    Misread,
+                    set_interconnect_requirement::VALUE,
+                    sets_stages(words) && number.is_none(),
+                ),
+                check(
+                    OutOfRange,
+                    set_interconnect_requirement::VALUE,
                     sets_stages(words) && matches!(number, Some(stages) if 4 < stages),
                 ),
-                check(13, 0, self.is_early()),
+                check(Creation, COMMAND, self.is_early()),
             ],
         )
     }
@@ -84,23 +112,27 @@ impl SystemDraft {
         refusal_of(
             words,
             &[
-                check(4, 0, self.is_joined(start, end)),
-                check(5, 1, is_missing(names_first(words), start)),
-                check(5, second, is_missing(names_second(words), end)),
-                check(6, 3, asks_unknown(words)),
-                check(13, 0, self.is_early()),
+                check(Taken, COMMAND, self.is_joined(start, end)),
                 check(
-                    16,
-                    0,
+                    NotStated,
+                    add_connection::START,
+                    is_missing(names_first(words), start),
+                ),
+                check(NotStated, second, is_missing(names_second(words), end)),
+                check(UnknownKind, add_connection::KIND, asks_unknown(words)),
+                check(Creation, COMMAND, self.is_early()),
+                check(
+                    UnlikeEnds,
+                    COMMAND,
                     is_mismatched(
                         words,
                         self.sort_of(library, start),
                         self.sort_of(library, end),
                     ),
                 ),
-                check(17, 0, self.is_any_taken(start, end)),
-                check(20, 1, !names_first(words)),
-                check(20, second, !names_second(words)),
+                check(StreamTaken, COMMAND, self.is_any_taken(start, end)),
+                check(NotAnEnd, add_connection::START, !names_first(words)),
+                check(NotAnEnd, second, !names_second(words)),
             ],
         )
     }
@@ -109,14 +141,22 @@ impl SystemDraft {
     fn judge_instance(&self, library: &Library<'_>, words: &[Word]) -> Option<Refusal>
         ensures { result ≡ refusal_of words.now (instance_checks library.now self.now words.now) }
     {
-        let name = text(words, 1);
+        let name = text(words, add_instance::NAME);
         refusal_of(
             words,
             &[
-                check(3, 1, !is_name(name)),
-                check(4, 1, self.instance_place(name).is_some()),
-                check(5, 2, library.find(text(words, 2)).is_none()),
-                check(13, 0, self.is_early()),
+                check(NotAName, add_instance::NAME, !is_name(name)),
+                check(
+                    Taken,
+                    add_instance::NAME,
+                    self.instance_place(name).is_some(),
+                ),
+                check(
+                    NotStated,
+                    add_instance::TYPE,
+                    library.find(text(words, add_instance::TYPE)).is_none(),
+                ),
+                check(Creation, COMMAND, self.is_early()),
             ],
         )
     }
@@ -125,20 +165,44 @@ impl SystemDraft {
     fn judge_parameter(&self, library: &Library<'_>, words: &[Word]) -> Option<Refusal>
         ensures { result ≡ refusal_of words.now (parameter_checks library.now self.now words.now) }
     {
-        let pair = text(words, 1);
+        let pair = text(words, set_connection_parameter_value::PAIR);
         let kind = self.joint_kind(library, pair);
-        let parameter = parameter_named(text(words, 2));
-        let value = text(words, 3);
+        let parameter = parameter_named(text(words, set_connection_parameter_value::PARAMETER));
+        let value = text(words, set_connection_parameter_value::VALUE);
         refusal_of(
             words,
             &[
-                check(5, 1, is_no_joint(names_pair(pair), kind)),
-                check(10, 3, any_misread(value, kind, parameter)),
-                check(11, 3, any_exceeds(value, kind, parameter)),
-                check(13, 0, self.is_early()),
-                check(18, 2, any_misplaced(kind, parameter)),
-                check(18, 3, any_default(value, kind, parameter)),
-                check(20, 1, !names_pair(pair)),
+                check(
+                    NotStated,
+                    set_connection_parameter_value::PAIR,
+                    is_no_joint(names_pair(pair), kind),
+                ),
+                check(
+                    Misread,
+                    set_connection_parameter_value::VALUE,
+                    any_misread(value, kind, parameter),
+                ),
+                check(
+                    OutOfRange,
+                    set_connection_parameter_value::VALUE,
+                    any_exceeds(value, kind, parameter),
+                ),
+                check(Creation, COMMAND, self.is_early()),
+                check(
+                    Misplaced,
+                    set_connection_parameter_value::PARAMETER,
+                    any_misplaced(kind, parameter),
+                ),
+                check(
+                    Misplaced,
+                    set_connection_parameter_value::VALUE,
+                    any_default(value, kind, parameter),
+                ),
+                check(
+                    NotAnEnd,
+                    set_connection_parameter_value::PAIR,
+                    !names_pair(pair),
+                ),
             ],
         )
     }
@@ -147,19 +211,29 @@ impl SystemDraft {
     fn judge_export(&self, library: &Library<'_>, words: &[Word]) -> Option<Refusal>
         ensures { result ≡ refusal_of words.now (export_checks library.now self.now words.now) }
     {
-        let value = text(words, 3);
+        let value = text(words, set_interface_property::VALUE);
         let named = names_an_end(value);
         refusal_of(
             words,
             &[
-                check(5, 1, self.exported.find(text(words, 1)).is_none()),
                 check(
-                    5,
-                    3,
+                    NotStated,
+                    set_interface_property::INTERFACE,
+                    self.exported
+                        .find(text(words, set_interface_property::INTERFACE))
+                        .is_none(),
+                ),
+                check(
+                    NotStated,
+                    set_interface_property::VALUE,
                     exports(words) && is_missing(named, self.end_in_word(library, value)),
                 ),
-                check(13, 0, self.is_early()),
-                check(20, 3, exports(words) && !named),
+                check(Creation, COMMAND, self.is_early()),
+                check(
+                    NotAnEnd,
+                    set_interface_property::VALUE,
+                    exports(words) && !named,
+                ),
             ],
         )
     }

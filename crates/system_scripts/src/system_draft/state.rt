@@ -8,6 +8,10 @@ use super::SystemDraft;
 use av_base::{NoMemory, Text};
 use component_scripts::types::Library;
 use iface_roles::Kind;
+use script_words::places::{
+    add_instance, add_interface, create_system, set_connection_parameter_value,
+    set_interconnect_requirement,
+};
 use script_words::system::commands::{parameter_named, sets_stages};
 use script_words::system::joints::{Joint, Link, Parameter, SystemCommand};
 use script_words::system::links::add_link;
@@ -23,7 +27,7 @@ impl SystemDraft {
         ensures { OnOk result (self.new ≡ create_effect self.old words.now) }
     {
         let name = if words.len() > 1 {
-            text(words, 1)
+            text(words, create_system::NAME)
         } else {
             "system"
         };
@@ -36,7 +40,7 @@ impl SystemDraft {
         requires { refusal_of words.now (exported_checks self.old words.now) ≡ None }
         ensures { OnOk result (self.new ≡ exported_effect self.old words.now) }
     {
-        self.exported.add(alloc, text(words, 1))?;
+        self.exported.add(alloc, text(words, add_interface::NAME))?;
         Ok(())
     }
 
@@ -46,7 +50,7 @@ impl SystemDraft {
         ensures { self.new ≡ requirement_effect self.old words.now }
     {
         if sets_stages(words) {
-            if let Some(number) = number_of(text(words, 3)) {
+            if let Some(number) = number_of(text(words, set_interconnect_requirement::VALUE)) {
                 self.stages = number as u8;
             }
         }
@@ -62,8 +66,8 @@ impl SystemDraft {
         requires { refusal_of words.now (instance_checks library.now self.old words.now) ≡ None }
         ensures { OnOk result (self.new ≡ instance_effect library.now self.old words.now) }
     {
-        if let Some(component) = library.find(text(words, 2)) {
-            let name = Text::copy(alloc, text(words, 1))?;
+        if let Some(component) = library.find(text(words, add_instance::TYPE)) {
+            let name = Text::copy(alloc, text(words, add_instance::NAME))?;
             self.add_instance(alloc, Instance { name, component })?;
         }
         Ok(())
@@ -134,8 +138,14 @@ impl SystemDraft {
         requires { refusal_of words.now (parameter_checks library.now self.old words.now) ≡ None }
         ensures { self.new ≡ parameter_effect library.now self.old words.now }
     {
-        if let Some(k) = self.joint_place(library, text(words, 1)) {
-            if let Some(parameter) = parameter_named(text(words, 2)) {
+        if let Some(k) = self.joint_place(
+            library,
+            text(words, set_connection_parameter_value::PAIR),
+        ) {
+            if let Some(parameter) = parameter_named(text(
+                words,
+                set_connection_parameter_value::PARAMETER,
+            )) {
                 set_number(&mut self.joints[k], parameter, words);
             }
         }
@@ -176,7 +186,7 @@ fn set_number(joint: &mut Joint, parameter: Parameter, words: &[Word])
     if !joint.kind.is_avalon() {
         return;
     }
-    let Some(number) = number_of(text(words, 3)) else {
+    let Some(number) = number_of(text(words, set_connection_parameter_value::VALUE)) else {
         return;
     };
     match parameter {
