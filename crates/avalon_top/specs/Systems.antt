@@ -16,8 +16,7 @@ abbrev pub second_file : List (List ℕ) → List ℕ
 second_file files = slice_index_or files 1 []
 
 -- so many words stand before the file of a system that aren't its words: a scenario or transactions before the component files,
--- and a number
--- before all
+-- and a number before all
 abbrev pub words_before : Task → ℕ → ℕ
 words_before Generate file = 0
 words_before Check file = 0

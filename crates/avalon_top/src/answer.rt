@@ -227,19 +227,13 @@ fn decide<S: Shelf>(alloc: Global, words: &[String], shelf: &mut S) -> Result<Ou
 /// The number of a file is the place of its word, counted from 0.
 pub fn run<S: Shelf, K: Sink>(alloc: Global, words: &[String], shelf: &mut S, sink: &mut K) -> Exit
     // When each answer comes. At `Done` of `generate` the text of a module, and of no other, is written that serves each stream
-    // of
-    // the plan, and its hosts and agents, in every run. At `Done` of `replay` what is written stands at the outputs of the module
-    // of
-    // the text, in each cycle of the waves, and at `Done` of `dump` it is the dump of what stands at all of its ports. At `Done`
-    // of
-    // `undump` it is the rows of the one dump whose text the file is. At `Done` of `simulate` it is the trace of a run of such a
-    // module with what the scenario states; at `Done` of `campaign` it tells what is counted in eight such runs, each with what
-    // is drawn
-    // for its lane; at `Done` of `workload` what is counted in one of the workload system of the number. At `Done` of `bridge` it
-    // is the
-    // replies to the transactions whose beats were accepted and words given in such a run, with these words. At `Done` of `mux`,
-    // `demux`
-    // and `gather` the text of a module is written that does so in every run.
+    // of the plan, and its hosts and agents, in every run. At `Done` of `replay` what is written stands at the outputs of the
+    // module of the text, in each cycle of the waves, and at `Done` of `dump` it is the dump of what stands at all of its ports.
+    // At `Done` of `undump` it is the rows of the one dump whose text the file is. At `Done` of `simulate` it is the trace of a
+    // run of such a module with what the scenario states; at `Done` of `campaign` it tells what is counted in eight such runs,
+    // each with what is drawn for its lane; at `Done` of `workload` what is counted in one of the workload system of the number.
+    // At `Done` of `bridge` it is the replies to the transactions whose beats were accepted and words given in such a run, with
+    // these words. At `Done` of `mux`, `demux` and `gather` the text of a module is written that does so in every run.
     ensures answers { Answers (map string_bytes words.now)
         (record { told = S.told shelf.old; before = S.faults shelf.old; after = S.faults shelf.new; failed = S.failed shelf.new })
         (record

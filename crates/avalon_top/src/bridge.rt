@@ -29,8 +29,7 @@ fn answer_of(cycles: u32, fault: BridgeFault) -> Exit
 }
 
 /// The replies to the transactions among files, which host 0 of the system of the others makes in so many cycles, or the answer
-/// that the
-/// files call for.
+/// that the files call for.
 pub(crate) fn replies_of(alloc: Global, mut files: Vec<Bytes>, cycles: u32) -> Result<Replies, Exit>
     requires some_cycles { 1 ≤ cycles }
     requires few_cycles { cycles ≤ 65536 }

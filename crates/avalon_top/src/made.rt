@@ -12,7 +12,7 @@ use interconnect::build;
 use link_rules::Plan;
 use routed_modules::Routed;
 use std::alloc::Global;
-use verilog_reader::no_two_modules;
+use verilog_forms::no_two_modules;
 use verilog_writer::write_module;
 
 /// The Verilog text of the interconnect of a plan, which is that of no other module.

@@ -1,6 +1,5 @@
 //! Reads the modules whose texts the rows of the standard input have, steps or replays some of them, and prints their lines and
-//! values; then
-//! reads the texts behind the rows as modules, whole, cut and changed.
+//! values; then reads the texts behind the rows as modules, whole, cut and changed.
 #![tactic(auto)]
 
 mod files;

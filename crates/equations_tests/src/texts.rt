@@ -1,6 +1,5 @@
 //! Reads texts as modules, and each text that is one of them with one byte changed or cut short, and prints what is answered: of
-//! each
-//! text by itself, and of those that are made of it how many answers there are of each kind.
+//! each text by itself, and of those that are made of it how many answers there are of each kind.
 
 use crate::tally::Tally;
 use netlist::Module;

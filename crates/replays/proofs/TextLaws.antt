@@ -3,11 +3,11 @@ use Rattle.std.proofs.Common.{◌≡◌, ℕ, ◌⊎◌, inl, inr, ⊎_elim, Lis
 use Rattle.std.proofs.lemmas.Option.{same_Some}
 use Rattle.netlist.specs.Netlists.{Netlist, IsModule}
 use Rattle.verilog_writer.specs.Text.{text_of}
-use Rattle.verilog_reader.specs.Forms.{HasFault}
-use Rattle.verilog_reader.specs.Rules.{number_of}
-use Rattle.verilog_reader.specs.WholeTexts.{module_form}
-use Rattle.verilog_reader.specs.declared.rule.Rule.{Rule}
-use Rattle.verilog_reader.specs.declared.rule.Rule.TheVariants as rule
+use Rattle.verilog_forms.specs.Forms.{HasFault}
+use Rattle.verilog_forms.specs.Rules.{number_of}
+use Rattle.verilog_forms.specs.WholeTexts.{module_form}
+use Rattle.verilog_forms.specs.declared.rule.Rule.{Rule}
+use Rattle.verilog_forms.specs.declared.rule.Rule.TheVariants as rule
 use Rattle.verilog_reader.specs.Faults.{IsTextFault}
 use Rattle.verilog_reader.specs.declared.reading.TextFault.TheVariants as read
 use Rattle.replays.specs.declared.faults.ReplayFault.{ReplayFault}

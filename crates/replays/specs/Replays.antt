@@ -14,8 +14,7 @@ use Rattle.replays.specs.declared.faults.ReplayFault.TheVariants as replay
 use Rattle.replays.specs.Traces.{trace_text}
 
 -- A run of a module on these rows: it begins with the reset values and with memories of 0, and its inputs in each cycle are the
--- values of
--- the row, one for each input port in header order.
+-- values of the row, one for each input port in header order.
 pub record IsRunOn (netlist : Netlist) (rows : List (List Word)) (run : Run) : Type 0 where
   pub is_run : IsClearedRun netlist run (length rows)
   pub inputs : (c : ℕ) (row : List Word) → slice_get rows c ≡ Some row → (k w : ℕ) → IsInputPort netlist.ports k w

@@ -9,7 +9,7 @@ ghost use Rattle.replays.specs.Texts.{CanReplayText, IsReplayOfText, IsReplayTex
 ghost use Rattle.replays.specs.Worked.{inverter, rising};
 
 use cycle_sim::one_run;
-use verilog_reader::{no_two_modules, texts_judge};
+use verilog_forms::{no_two_modules, texts_judge};
 use waves::{never_both, no_two_first_faults, no_two_readings, rows_or_fault};
 
 /// A replay has one text at most.

@@ -18,8 +18,7 @@ use waves::Waves;
 const MOST_VALUES: u64 = 4_294_967_296;
 
 /// Replays the waves of a file on a module: the text of what stands at its outputs in each cycle. Its registers begin at their
-/// reset
-/// values, and its memories with 0.
+/// reset values, and its memories with 0.
 pub fn replay_module(alloc: Global, module: Module, bytes: &[u8]) -> Result<Bytes, ReplayFault>
     ensures text { IfOk result (IsReplayOf «module» bytes.now) }
     ensures fault { IfErr result (λ fault. (fault ≡ NoMemory) ⊎ IsReplayFault «module» bytes.now fault) }

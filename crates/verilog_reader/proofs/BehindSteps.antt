@@ -11,10 +11,10 @@ use Rattle.netlist.specs.declared.line.MemWrite.{MemWrite}
 use Rattle.netlist.specs.declared.line.PortLine.{PortLine}
 use Rattle.netlist.specs.Netlists.{width_at}
 use Rattle.verilog_reader.specs.declared.spot.Spot.{Spot}
-use Rattle.verilog_reader.specs.Forms.{Form}
-use Rattle.verilog_reader.specs.Walks.{found, IsWithin}
-use Rattle.verilog_reader.specs.ClockedLines.{write_form, assign_form}
-use Rattle.verilog_reader.specs.WholeTexts.{listed, told, clocked_form, all_clocked_form, written, all_written_form, driven, all_driven_form}
+use Rattle.verilog_forms.specs.Forms.{Form}
+use Rattle.verilog_reader.specs.Spots.{found, IsWithin}
+use Rattle.verilog_forms.specs.ClockedLines.{write_form, assign_form}
+use Rattle.verilog_forms.specs.WholeTexts.{listed, told, clocked_form, all_clocked_form, written, all_written_form, driven, all_driven_form}
 use Rattle.verilog_reader.specs.ClockedParts.{SameWidths}
 use Rattle.verilog_reader.specs.Sections.{Leads, driven_form}
 use Rattle.verilog_reader.proofs.Steps.{here, followed_found}

@@ -8,17 +8,17 @@ use Rattle.netlist.specs.declared.line.Line.{Line}
 use Rattle.netlist.specs.declared.line.Memory.{Memory}
 use Rattle.netlist.specs.declared.line.PortLine.{PortLine}
 use Rattle.netlist.specs.Netlists.{Netlist, line_of, write_of}
-use Rattle.verilog_reader.specs.declared.rule.Rule.{Rule}
-use Rattle.verilog_reader.specs.declared.rule.Rule.TheVariants.{Name, Width, Spelling, NotThere, Order, AfterEnd}
+use Rattle.verilog_forms.specs.declared.rule.Rule.{Rule}
+use Rattle.verilog_forms.specs.declared.rule.Rule.TheVariants.{Name, Width, Spelling, NotThere, Order, AfterEnd}
 use Rattle.verilog_reader.specs.declared.spot.Spot.{Spot}
 use Rattle.verilog_reader.specs.declared.holes.Wanted.TheVariants.{Exactly}
-use Rattle.verilog_reader.specs.Forms.{Form, fixed, next}
-use Rattle.verilog_reader.specs.Walks.{found, IsWithin, ahead_of, run_from, hole_from, fixed_from, past, refused, Judges, Takes}
+use Rattle.verilog_forms.specs.Forms.{Form, fixed, next}
+use Rattle.verilog_reader.specs.Spots.{found, IsWithin, ahead_of, run_from, hole_from, fixed_from, past, refused, Judges, Takes}
 use Rattle.verilog_reader.specs.Holes.{TellsNumber, TellsNet, TakesOperand}
-use Rattle.verilog_reader.specs.RightSides.{unless, is_number, value_of, is_net, net_of, or_zero, width_of, operand_test, constant_form}
-use Rattle.verilog_reader.specs.Headers.{is_next}
-use Rattle.verilog_reader.specs.ClockedLines.{net_form, clocked_net_test, clocked_memory_test, none_due, clocked_memory_form, other_net_form, other_memory_form, register_with, next_form, none_clocked_form, output_test, driver_form}
-use Rattle.verilog_reader.specs.WholeTexts.{nothing_form, last_form}
+use Rattle.verilog_forms.specs.RightSides.{unless, is_number, value_of, is_net, net_of, or_zero, width_of, operand_test, constant_form}
+use Rattle.verilog_forms.specs.Headers.{is_next}
+use Rattle.verilog_forms.specs.ClockedLines.{net_form, clocked_net_test, clocked_memory_test, none_due, clocked_memory_form, other_net_form, other_memory_form, register_with, next_form, none_clocked_form, output_test, driver_form}
+use Rattle.verilog_forms.specs.WholeTexts.{nothing_form, last_form}
 use Rattle.verilog_reader.specs.DeclaredLines.{nothing_told}
 use Rattle.verilog_reader.specs.ClockedParts.{SameWidths, Tells, is_due, due_test, Passes, clocked_register_form, written_memory_form, other_clocked_form, late_form}
 use Rattle.verilog_reader.proofs.Steps.{fixed_found, hole_found, taken_found, turn_found, refuse_found, followed_found}

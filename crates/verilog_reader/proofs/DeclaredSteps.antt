@@ -7,17 +7,17 @@ use Rattle.netlist.specs.declared.line.Line.{Line}
 use Rattle.netlist.specs.declared.line.Memory.{Memory}
 use Rattle.netlist.specs.declared.line.PortLine.{PortLine}
 use Rattle.netlist.specs.Netlists.{line_of, memory_with}
-use Rattle.verilog_reader.specs.declared.rule.Rule.TheVariants.{Name, Spelling}
+use Rattle.verilog_forms.specs.declared.rule.Rule.TheVariants.{Name, Spelling}
 use Rattle.verilog_reader.specs.declared.spot.Spot.{Spot}
-use Rattle.verilog_reader.specs.Forms.{Form, fixed, next}
-use Rattle.verilog_reader.specs.Walks.{found, ahead_of, hole_from, fixed_from, refused, Takes}
+use Rattle.verilog_forms.specs.Forms.{Form, fixed, next}
+use Rattle.verilog_reader.specs.Spots.{found, ahead_of, hole_from, fixed_from, refused, Takes}
 use Rattle.verilog_reader.specs.Holes.{capped, width_told, Ranges, named_from}
-use Rattle.verilog_reader.specs.WireLines.{high_test, number_test, range_form, named_form}
-use Rattle.verilog_reader.specs.RegisterLines.{untold, register_form}
-use Rattle.verilog_reader.specs.MemoryLines.{address_bits_of, last_test, memory_form}
-use Rattle.verilog_reader.specs.Headers.{is_next}
-use Rattle.verilog_reader.specs.InputLines.{port_test, input_wire_form, no_input_form, input_form}
-use Rattle.verilog_reader.specs.WholeTexts.{late_memory_form}
+use Rattle.verilog_forms.specs.WireLines.{high_test, number_test, range_form, named_form}
+use Rattle.verilog_forms.specs.RegisterLines.{untold, register_form}
+use Rattle.verilog_forms.specs.MemoryLines.{address_bits_of, last_test, memory_form}
+use Rattle.verilog_forms.specs.Headers.{is_next}
+use Rattle.verilog_forms.specs.InputLines.{port_test, input_wire_form, no_input_form, input_form}
+use Rattle.verilog_forms.specs.WholeTexts.{late_memory_form}
 use Rattle.verilog_reader.specs.DeclaredLines.{last_told}
 use Rattle.verilog_reader.proofs.Steps.{fixed_found, hole_found, taken_found, turn_found, refuse_found}
 

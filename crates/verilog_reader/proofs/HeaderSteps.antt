@@ -15,14 +15,14 @@ use Rattle.std.proofs.lemmas.Str.Ascii.{IsAscii-from_all}
 use Rattle.netlist.specs.Names.{begins_with_letter, is_name_byte}
 use Rattle.netlist.specs.declared.line.PortLine.{PortLine}
 use Rattle.netlist.specs.Netlists.{started}
-use Rattle.verilog_reader.specs.declared.rule.Rule.TheVariants.{Name}
+use Rattle.verilog_forms.specs.declared.rule.Rule.TheVariants.{Name}
 use Rattle.verilog_reader.specs.declared.spot.Spot.{Spot}
-use Rattle.verilog_reader.specs.Forms.{Form, fixed, followed, next, is_hole_byte}
-use Rattle.verilog_reader.specs.Walks.{found, IsWithin, ahead_of, run_from, hole_from, fixed_from}
+use Rattle.verilog_forms.specs.Forms.{Form, fixed, followed, next, is_hole_byte}
+use Rattle.verilog_reader.specs.Spots.{found, IsWithin, ahead_of, run_from, hole_from, fixed_from}
 use Rattle.verilog_reader.specs.Holes.{Ranges}
-use Rattle.verilog_reader.specs.RightSides.{unless, same_bytes}
-use Rattle.verilog_reader.specs.WireLines.{range_form}
-use Rattle.verilog_reader.specs.Headers.{is_next, module_name_test, is_named, port_name_test, port_of, described_form, direction_form, port_form, ports_form, header_form}
+use Rattle.verilog_forms.specs.RightSides.{unless, same_bytes}
+use Rattle.verilog_forms.specs.WireLines.{range_form}
+use Rattle.verilog_forms.specs.Headers.{is_next, module_name_test, is_named, port_name_test, port_of, described_form, direction_form, port_form, ports_form, header_form}
 use Rattle.verilog_reader.specs.PortNames.{AreNamed}
 use Rattle.verilog_reader.proofs.Steps.{fixed_found, hole_found, turn_found, followed_found}
 use Rattle.verilog_reader.proofs.DeclaredSteps.{range_found}

@@ -12,16 +12,15 @@ use Rattle.av_base.specs.declared.value.Val.{Val}
 use Rattle.netlist.specs.declared.line.Equation.{Equation}
 use Rattle.netlist.specs.declared.line.Equation.TheVariants.{Constant}
 use Rattle.verilog_writer.specs.Text.{hex_digit, hex_digits}
-use Rattle.verilog_reader.specs.declared.rule.Rule.TheVariants.{Spelling}
-use Rattle.verilog_reader.specs.RightSides.{same_bytes, is_constant, constant_form}
+use Rattle.verilog_forms.specs.declared.rule.Rule.TheVariants.{Spelling}
+use Rattle.verilog_forms.specs.RightSides.{same_bytes, is_constant, constant_form}
 use Rattle.verilog_reader.specs.declared.spot.Spot.{Spot}
-use Rattle.verilog_reader.specs.Forms.{Form, fixed}
-use Rattle.verilog_reader.specs.Walks.{found, fixed_from, Takes}
+use Rattle.verilog_forms.specs.Forms.{Form, fixed}
+use Rattle.verilog_reader.specs.Spots.{found, fixed_from, Takes}
 use Rattle.verilog_reader.specs.Holes.{width_bound, hex_bound, constant_told}
 use Rattle.verilog_reader.proofs.Steps.{fixed_found, hole_found, taken_found}
 use Rattle.verilog_reader.proofs.Numbers.{unless_not, unless_so}
-use Rattle.verilog_reader.proofs.RightReads.{same-refl}
-use Rattle.verilog_reader.proofs.RightSound.{same_equal}
+use Rattle.verilog_forms.specs.Spellings.{same-refl, same_equal}
 
 pub length-hex_digits : (k n : ℕ) → length (hex_digits k n) ≡ k
 length-hex_digits zero n = refl

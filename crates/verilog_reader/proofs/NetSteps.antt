@@ -4,15 +4,15 @@ use Rattle.netlist.specs.declared.line.Equation.{Equation}
 use Rattle.netlist.specs.declared.line.Line.{Line}
 use Rattle.netlist.specs.declared.line.Memory.{Memory}
 use Rattle.netlist.specs.Netlists.{line_of}
-use Rattle.verilog_reader.specs.declared.rule.Rule.TheVariants.{TooManyNets}
+use Rattle.verilog_forms.specs.declared.rule.Rule.TheVariants.{TooManyNets}
 use Rattle.verilog_reader.specs.declared.spot.Spot.{Spot}
-use Rattle.verilog_reader.specs.Forms.{Form, fixed, followed}
-use Rattle.verilog_reader.specs.Walks.{found, IsWithin, ahead_of, fixed_from, refused}
+use Rattle.verilog_forms.specs.Forms.{Form, fixed, followed}
+use Rattle.verilog_reader.specs.Spots.{found, IsWithin, ahead_of, fixed_from, refused}
 use Rattle.verilog_reader.specs.Holes.{Ranges, named_from}
-use Rattle.verilog_reader.specs.RightSides.{right_form}
-use Rattle.verilog_reader.specs.WireLines.{named_form, range_form, ending_form, wire_form}
-use Rattle.verilog_reader.specs.RegisterLines.{register_form}
-use Rattle.verilog_reader.specs.WholeTexts.{is_wire_line, is_reg_line, is_net_line, nets_form}
+use Rattle.verilog_forms.specs.RightSides.{right_form}
+use Rattle.verilog_forms.specs.WireLines.{named_form, range_form, ending_form, wire_form}
+use Rattle.verilog_forms.specs.RegisterLines.{register_form}
+use Rattle.verilog_forms.specs.WholeTexts.{is_wire_line, is_reg_line, is_net_line, nets_form}
 use Rattle.verilog_reader.proofs.Steps.{fixed_found, ahead_found, refuse_found, followed_found}
 use Rattle.verilog_reader.proofs.DeclaredSteps.{range_found, named_found}
 

@@ -10,14 +10,13 @@ use Rattle.std.proofs.lemmas.Str.{digit_value_digit}
 use Rattle.std.proofs.lemmas.Option.{slice_get-get_or}
 use Rattle.netlist.specs.declared.line.Line.{Line}
 use Rattle.netlist.specs.declared.line.Memory.{Memory}
-use Rattle.verilog_reader.specs.declared.rule.Rule.{Rule}
-use Rattle.verilog_reader.specs.declared.rule.Rule.TheVariants.{Width, Spelling, NotThere}
-use Rattle.verilog_reader.specs.RightSides.{unless, same_bytes, value_of, is_number, net_of, is_net, or_zero, width_of, operand_test, words_of, memory_test}
-use Rattle.verilog_reader.specs.WireLines.{number_test}
+use Rattle.verilog_forms.specs.declared.rule.Rule.{Rule}
+use Rattle.verilog_forms.specs.declared.rule.Rule.TheVariants.{Width, Spelling, NotThere}
+use Rattle.verilog_forms.specs.RightSides.{unless, same_bytes, value_of, is_number, net_of, is_net, or_zero, width_of, operand_test, words_of, memory_test}
+use Rattle.verilog_forms.specs.WireLines.{number_test}
 use Rattle.verilog_reader.specs.Holes.{capped}
 use Rattle.verilog_reader.proofs.Steps.{here}
-use Rattle.verilog_reader.proofs.RightReads.{same-refl, number_is, value-decimal}
-use Rattle.verilog_reader.proofs.RightSound.{same_equal, number_spelled}
+use Rattle.verilog_forms.specs.Spellings.{same-refl, number_is, value-decimal, same_equal, number_spelled}
 
 capped_by : (n : ℕ) (t : Bool) → nat_lt n (2 ^ 32) ≡ t → capped n ≡ cond t n (2 ^ 32)
 capped_by n t e = ap (λ (b : Bool). cond b n (2 ^ 32)) e

@@ -2,19 +2,22 @@
 use Rattle.std.proofs.Common.{◌≡◌, ℕ, ◌+◌, ◌==◌, Bool, true, false, List, length, slice_get, Option, Some, refl, sym, ap, ◌∙◌, codes}
 use Rattle.std.specs.Prelude.{if◌then◌else◌}
 use Rattle.std.specs.Char.{is_digit}
-use Rattle.std.proofs.lemmas.Bool.{ne_eqb}
+use Rattle.std.proofs.lemmas.Bool.{ne_eqb, eqb-true}
 use Rattle.netlist.specs.declared.line.Equation.{Equation}
-use Rattle.netlist.specs.declared.line.Equation.TheVariants.{Concat, Not, Any as Any_of, Mux, Slice, Read}
+use Rattle.netlist.specs.declared.line.Equation.TheVariants.{And, Or, Xor, Add, Sub, Concat, Not, Any as Any_of, Mux, Slice, Read}
 use Rattle.netlist.specs.declared.line.Line.{Line}
 use Rattle.netlist.specs.declared.line.Memory.{Memory}
-use Rattle.verilog_reader.specs.declared.rule.Rule.{Rule}
-use Rattle.verilog_reader.specs.declared.rule.Rule.TheVariants.{OtherByte, Width}
+use Rattle.verilog_forms.specs.declared.rule.Rule.{Rule}
+use Rattle.verilog_forms.specs.declared.rule.Rule.TheVariants.{OtherByte, Width}
 use Rattle.verilog_reader.specs.declared.spot.Spot.{Spot}
 use Rattle.verilog_reader.specs.declared.holes.Wanted.{Wanted}
 use Rattle.verilog_reader.specs.declared.holes.Wanted.TheVariants.{Any, Exactly, Behind}
-use Rattle.verilog_reader.specs.Forms.{Form, next, fixed}
-use Rattle.verilog_reader.specs.Walks.{found, ahead_of, fixed_from, refused, Takes}
-use Rattle.verilog_reader.specs.RightSides.{guarded, value_of, net_of, width_of, bits_of, fit_any, constant_form, operand_test, operand, second, choice_form, sign_form, slice_form, behind_form, memory_test, read_form, concat_form, begun_form}
+use Rattle.verilog_forms.specs.Forms.{Form, next, fixed}
+use Rattle.verilog_reader.specs.Spots.{found, ahead_of, fixed_from, refused, Takes}
+use Rattle.verilog_forms.specs.RightSides.{guarded, value_of, net_of, width_of, bits_of, fit_any, constant_form, operand_test, operand, second, choice_form, sign_form, slice_form, behind_form, memory_test, read_form, concat_form, begun_form}
+use Rattle.verilog_reader.specs.declared.operators.Infix.{Infix}
+use Rattle.verilog_reader.specs.declared.operators.Infix.TheVariants as op
+use Rattle.verilog_reader.specs.Operators.{first_byte, operation_form}
 use Rattle.verilog_reader.specs.Holes.{fits, high_bound, low_bound, TakesOperand}
 use Rattle.verilog_reader.proofs.Steps.{fixed_found, taken_found, turn_found, refuse_found}
 
@@ -113,3 +116,21 @@ pub other_begun : (memories : List Memory) (lines : List Line) (n w b : ℕ) →
     → begun_form memories lines n w (Some b) ≡ (if is_digit b 10 then constant_form w else Form.refuse OtherByte)
 other_begun memories lines n w b e f g h i =
     ap (λ (form : Form Equation). if is_digit b 10 then constant_form w else form) (no_other memories lines n w b (ne_eqb b 126 e) (ne_eqb b 124 f) (ne_eqb b 123 g) (ne_eqb b 110 h) (ne_eqb b 109 i))
+
+-- operators between two operands: their second operand is as wide as the first
+
+widths_agree : {A : Type 0} (form : ℕ → Form A) (v w : ℕ) → guarded (v == w) Width (form w) ≡ guarded (v == w) Width (form v)
+widths_agree form v w = by (v == w) refl
+  where
+    by : (t : Bool) → (v == w) ≡ t → guarded t Width (form w) ≡ guarded t Width (form v)
+    by true e = ap (λ (u : ℕ). guarded true Width (form u)) (sym (eqb-true v w e))
+    by false e = refl
+
+pub sign_is : (lines : List Line) (n w a : ℕ) (operator : Infix) → sign_form lines n w a (Some (first_byte operator)) ≡ operation_form lines n w a operator (width_of lines a)
+sign_is lines n w a op.And = widths_agree (λ (v : ℕ). second lines n (codes "& ") (λ u. u == v) (And a)) (width_of lines a) w
+sign_is lines n w a op.Or = widths_agree (λ (v : ℕ). second lines n (codes "| ") (λ u. u == v) (Or a)) (width_of lines a) w
+sign_is lines n w a op.Xor = widths_agree (λ (v : ℕ). second lines n (codes "^ ") (λ u. u == v) (Xor a)) (width_of lines a) w
+sign_is lines n w a op.Add = widths_agree (λ (v : ℕ). second lines n (codes "+ ") (λ u. u == v) (Add a)) (width_of lines a) w
+sign_is lines n w a op.Sub = widths_agree (λ (v : ℕ). second lines n (codes "- ") (λ u. u == v) (Sub a)) (width_of lines a) w
+sign_is lines n w a op.Eq = refl
+sign_is lines n w a op.Less = refl

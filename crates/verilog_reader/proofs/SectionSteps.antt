@@ -1,27 +1,27 @@
 -- What the sections of a text find, line after line.
-use Rattle.std.proofs.Common.{◌≡◌, ℕ, zero, suc, ◌+◌, ◌-◌, ◌<◌, ◌≤◌, ◌^◌, ◌&&◌, Bool, true, false, cond, not, List, [], ◌∷◌, ◌++◌, length, drop, get_or, slice_get, Some, refl, sym, ap, subst, ◌∙◌, arith}
+use Rattle.std.proofs.Common.{◌≡◌, ℕ, zero, suc, ◌+◌, ◌-◌, ◌<◌, ◌≤◌, ◌^◌, ◌&&◌, Bool, true, false, cond, not, List, [], ◌∷◌, ◌++◌, length, drop, get_or, slice_get, Some, refl, sym, ap, subst, ◌∙◌, arith, append_assoc, length-append}
 use Rattle.std.specs.Prelude.{nat_lt, replicate}
 use Rattle.std.proofs.Math.Seq.{drop-cons}
 use Rattle.std.proofs.lemmas.List.{append-nil, length-replicate}
+use Rattle.netlist.specs.declared.line.Equation.TheVariants.{Input}
 use Rattle.netlist.specs.declared.line.Line.{Line}
 use Rattle.netlist.specs.declared.line.Memory.{Memory}
 use Rattle.netlist.specs.declared.line.PortLine.{PortLine}
-use Rattle.verilog_reader.specs.declared.rule.Rule.TheVariants.{TooManyNets}
+use Rattle.netlist.specs.Netlists.{line_of}
+use Rattle.verilog_writer.specs.Text.{wire_line}
+use Rattle.verilog_forms.specs.declared.rule.Rule.TheVariants.{TooManyNets}
 use Rattle.verilog_reader.specs.declared.spot.Spot.{Spot}
 use Rattle.verilog_reader.specs.declared.spot.Spot.TheVariants.{At, Flawed}
-use Rattle.verilog_reader.specs.Forms.{Form, Reads, followed}
-use Rattle.verilog_reader.specs.MemoryLines.{memory_form}
-use Rattle.verilog_reader.specs.InputLines.{input_form}
-use Rattle.verilog_reader.specs.WholeTexts.{is_net_line, is_memory_line, listed, late_memory_form, memories_form, room_form, inputs_form}
-use Rattle.verilog_reader.specs.Walks.{Outcome, pushed, walk, found, IsWithin, ahead_of, refused}
+use Rattle.verilog_forms.specs.Forms.{Form, Reads, followed}
+use Rattle.verilog_forms.specs.MemoryLines.{memory_form}
+use Rattle.verilog_forms.specs.InputLines.{input_form}
+use Rattle.verilog_forms.specs.WholeTexts.{is_net_line, is_memory_line, listed, late_memory_form, memories_form, room_form, inputs_form}
+use Rattle.verilog_forms.specs.Walks.{Outcome, pushed, walk}
+use Rattle.verilog_reader.specs.Spots.{found, IsWithin, ahead_of, refused}
 use Rattle.verilog_reader.specs.Sections.{is_flawed, Leads}
-use Rattle.verilog_reader.proofs.Lines.{true_false}
-use Rattle.verilog_reader.proofs.InputLines.{input_walked}
-use Rattle.verilog_reader.proofs.Nets.{slice_get-middle}
-use Rattle.verilog_reader.proofs.ModuleReads.{length-more}
-use Rattle.verilog_reader.proofs.WholeWalked.{room_walked}
-use Rattle.verilog_reader.proofs.PortLines.{pushed_same}
-use Rattle.verilog_reader.proofs.Walks.{apart, walk_reads}
+use Rattle.verilog_forms.specs.Spellings.{true_false}
+use Rattle.verilog_forms.specs.Walked.{room_walked}
+use Rattle.verilog_forms.specs.WalkLaws.{apart, walk_reads}
 use Rattle.verilog_reader.proofs.Steps.{ahead_found, refuse_found, followed_found}
 
 -- behind a flaw each form finds the flaw
@@ -52,7 +52,7 @@ leads_same all text start done form other spot leads same xs end within e = lead
 pub leads_on : {X : Type 0} (all : Form (List X)) (text : List ℕ) (start : Spot) (done : List X) (one : Form X) (others : Form (List X)) (spot : Spot) (x : X) (behind : Spot) → IsWithin text spot → IsWithin text behind
     → Leads all text start done (listed one others) spot → found one text spot ≡ found (Form.whole x) text behind → Leads all text start (done ++ x ∷ []) others behind
 leads_on all text start done one others spot x behind from_ by leads here xs end to_ e =
-    leads (x ∷ xs) end to_ (listed_whole one others text spot x behind xs end from_ by to_ here e) ∙ ap (λ ys. found (Form.whole ys) text end) (sym (pushed_same done x xs))
+    leads (x ∷ xs) end to_ (listed_whole one others text spot x behind xs end from_ by to_ here e) ∙ ap (λ ys. found (Form.whole ys) text end) (sym (append_assoc done (x ∷ []) xs))
 
 pub leads_to : {X : Type 0} (all : Form (List X)) (text : List ℕ) (start : Spot) (done : List X) (form : Form (List X)) (spot end : Spot) → Leads all text start done form spot → IsWithin text end → found form text spot ≡ found (Form.whole []) text end
     → found all text start ≡ found (Form.whole done) text end
@@ -109,7 +109,7 @@ memories_on most text start old new spot x behind from_ to_ pushed fits line her
     let on = leads_on all text start old (memory_form m) (memories_form left (m + 1)) spot x behind from_ to_ due here in
     let grown = old ++ x ∷ [] in
     subst (λ (ms : List Memory). Leads all text start ms (memories_form (most - length ms) (length ms)) behind) (sym pushed)
-    (leads_same all text start grown (memories_form left (m + 1)) (memories_form (most - length grown) (length grown)) behind on (ap (λ (k : ℕ). found (memories_form (most - k) k) text behind) (sym (length-more old x))))
+    (leads_same all text start grown (memories_form left (m + 1)) (memories_form (most - length grown) (length grown)) behind on (ap (λ (k : ℕ). found (memories_form (most - k) k) text behind) (sym (length-append old (x ∷ [])))))
 
 -- inputs
 
@@ -150,14 +150,22 @@ good_reads form text spot x (Flawed at rule) e good = absurd (true_false good)
 good_reads form text (At at) x (At k) e good = (drop k text, walk_reads form (drop at text) x (drop k text) (good_of at (walk form (drop at text)) x (drop k text) e))
 good_reads form text (Flawed at rule) x (At k) e good = absurd (apart x (drop k text) at rule (sym e))
 
-pub has_room : (n k : ℕ) (port : PortLine) (text : List ℕ) (spot : Spot) (line : Line) (behind : Spot) → found (room_form n (input_form n k port)) text spot ≡ found (Form.whole line) text behind → is_flawed behind ≡ false → n < 2 ^ 20
-has_room n k port text spot line behind e good =
+-- what input lines are
+abbrev pub AreSound : Type 0
+AreSound = (ports : List PortLine) (n k : ℕ) (port : PortLine) (line : Line) (text rest : List ℕ) → slice_get ports k ≡ Some port → Reads (input_form n k port) text line rest → (line ≡ line_of port.width (Input k)) × (text ≡ wire_line ports n port.width (Input k) ++ rest)
+
+slice_get-middle : {X : Type 0} (xs : List X) (y : X) (ys : List X) → slice_get (xs ++ y ∷ ys) (length xs) ≡ Some y
+slice_get-middle [] y ys = refl
+slice_get-middle (x ∷ xs) y ys = slice_get-middle xs y ys
+
+pub has_room : AreSound → (n k : ℕ) (port : PortLine) (text : List ℕ) (spot : Spot) (line : Line) (behind : Spot) → found (room_form n (input_form n k port)) text spot ≡ found (Form.whole line) text behind → is_flawed behind ≡ false → n < 2 ^ 20
+has_room sound n k port text spot line behind e good =
     let r = good_reads (room_form n (input_form n k port)) text spot line behind e good in
     let room = room_walked n (input_form n k port) line r.0 r.1.front r.1.good in
     let others = replicate k port in
     let at : slice_get (others ++ port ∷ []) k ≡ Some port = ap (slice_get (others ++ port ∷ [])) (sym (length-replicate k port)) ∙ slice_get-middle others port [] in
-    let here = input_walked (others ++ port ∷ []) n k port line r.0 r.1.front at room.1 in
-    room.0 (ap (λ (t : List ℕ). is_net_line (t ++ r.0)) here.1)
+    let here = sound (others ++ port ∷ []) n k port line (r.1.front ++ r.0) r.0 at (record { front = r.1.front; parts = refl; good = room.1 }) in
+    room.0 (ap is_net_line here.1)
 
 pub port_skipped : (n k : ℕ) (port : PortLine) (ports : List PortLine) (all : Form (List Line)) (text : List ℕ) (start : Spot) (done : List Line) (spot : Spot) → port.output ≡ true
     → Leads all text start done (inputs_form n k (port ∷ ports)) spot → Leads all text start done (inputs_form n (k + 1) ports) spot
@@ -179,7 +187,7 @@ port_read k port ports all text start old new spot line behind input from_ to_ p
     let on = leads_on all text start old (room_form n one) others spot line behind from_ to_ (leads_same all text start old (inputs_form n k (port ∷ ports)) (listed (room_form n one) others) spot leads due) here in
     let grown = old ++ line ∷ [] in
     subst (λ (ls : List Line). Leads all text start ls (inputs_form (length ls) (k + 1) ports) behind) (sym pushed)
-    (leads_same all text start grown others (inputs_form (length grown) (k + 1) ports) behind on (ap (λ (j : ℕ). found (inputs_form j (k + 1) ports) text behind) (sym (length-more old line))))
+    (leads_same all text start grown others (inputs_form (length grown) (k + 1) ports) behind on (ap (λ (j : ℕ). found (inputs_form j (k + 1) ports) text behind) (sym (length-append old (line ∷ [])))))
 
 -- the port that is due, and those behind it
 pub port_due : (ports : List PortLine) (text : List ℕ) (start : Spot) (lines : List Line) (k i : ℕ) (port : PortLine) (spot : Spot) → k ≡ i → i < length ports → port ≡ get_or ports i port

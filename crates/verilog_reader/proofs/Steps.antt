@@ -6,13 +6,14 @@ use Rattle.std.proofs.lemmas.Bool.{eq-eqb, ne_eqb}
 use Rattle.std.proofs.lemmas.List.{drop-drop, length-drop}
 use Rattle.std.proofs.lemmas.List.Sums.{prefix_len-le-length}
 use Rattle.std.proofs.lemmas.List.Folds.{length-prefix_len}
-use Rattle.verilog_reader.specs.declared.rule.Rule.{Rule}
-use Rattle.verilog_reader.specs.declared.rule.Rule.TheVariants.{OtherByte}
+use Rattle.verilog_forms.specs.declared.rule.Rule.{Rule}
+use Rattle.verilog_forms.specs.declared.rule.Rule.TheVariants.{OtherByte}
 use Rattle.verilog_reader.specs.declared.spot.Spot.{Spot}
 use Rattle.verilog_reader.specs.declared.spot.Spot.TheVariants.{At, Flawed}
-use Rattle.verilog_reader.specs.Forms.{Form, is_hole_byte, next, fixed, followed}
-use Rattle.verilog_reader.specs.Walks.{Outcome, pushed, behind_test, walk, found, IsWithin, IfGood, ahead_of, run_from, moved, refused, fixed_at, fixed_from, past, hole_from, Takes}
-use Rattle.verilog_reader.proofs.Walks.{pushed_zero, pushed_twice, same_good, same_bad, apart, walk_reads}
+use Rattle.verilog_forms.specs.Forms.{Form, is_hole_byte, next, fixed, followed}
+use Rattle.verilog_forms.specs.Walks.{Outcome, pushed, behind_test, walk}
+use Rattle.verilog_reader.specs.Spots.{found, IsWithin, IfGood, ahead_of, run_from, moved, refused, fixed_at, fixed_from, past, hole_from, Takes}
+use Rattle.verilog_forms.specs.WalkLaws.{pushed_zero, pushed_twice, same_good, same_bad, apart, walk_reads}
 
 pub here : (bytes : List ℕ) (at : ℕ) → at < length bytes → drop at bytes ≡ get_or bytes at 0 ∷ drop (at + 1) bytes
 here bytes at inside = let one : suc at ≡ at + 1 = omega arith in drop-cons bytes at 0 inside ∙ ap (λ (k : ℕ). get_or bytes at 0 ∷ drop k bytes) one

@@ -4,19 +4,18 @@ use Rattle.netlist.specs.declared.line.Line.{Line}
 use Rattle.netlist.specs.declared.line.Memory.{Memory}
 use Rattle.netlist.specs.Netlists.{Netlist, IsModule}
 use Rattle.verilog_writer.specs.Text.{text_of}
-use Rattle.verilog_reader.specs.declared.rule.Rule.{Rule}
-use Rattle.verilog_reader.specs.declared.rule.Rule.TheVariants.{OtherByte, Name, Width, Spelling, NotThere, Bounds, Depth, Order, AfterEnd, TooManyNets}
+use Rattle.verilog_forms.specs.declared.rule.Rule.{Rule}
+use Rattle.verilog_forms.specs.declared.rule.Rule.TheVariants.{OtherByte, Name, Width, Spelling, NotThere, Bounds, Depth, Order, AfterEnd, TooManyNets}
 use Rattle.verilog_reader.specs.declared.spot.Spot.{Spot}
 use Rattle.verilog_reader.specs.declared.spot.Spot.TheVariants.{At, Flawed}
-use Rattle.verilog_reader.specs.Forms.{Form, Reads, HasFault, followed}
-use Rattle.verilog_reader.specs.Walks.{found, walk, IsWithin}
-use Rattle.verilog_reader.specs.Headers.{header_form}
-use Rattle.verilog_reader.specs.WholeTexts.{memories_form, inputs_form, nets_form, all_clocked_form, all_written_form, all_driven_form, last_form, has_output, behind_nets_form, module_form}
+use Rattle.verilog_forms.specs.Forms.{Form, Reads, HasFault, followed}
+use Rattle.verilog_forms.specs.Walks.{walk}
+use Rattle.verilog_reader.specs.Spots.{found, IsWithin}
+use Rattle.verilog_forms.specs.Headers.{header_form}
+use Rattle.verilog_forms.specs.WholeTexts.{memories_form, inputs_form, nets_form, all_clocked_form, all_written_form, all_driven_form, last_form, has_output, behind_nets_form, module_form}
 use Rattle.verilog_reader.specs.Faults.{fault_of, IsTextFault, with_parts}
-use Rattle.verilog_reader.proofs.Walks.{pushed_zero, walk_reads, walk_refuses, never_both, one_fault}
+use Rattle.verilog_forms.specs.WalkLaws.{pushed_zero, walk_reads, walk_refuses, never_both, one_fault}
 use Rattle.verilog_reader.proofs.Steps.{followed_found}
-use Rattle.verilog_reader.proofs.WholeReads.{module_read}
-use Rattle.verilog_reader.proofs.WholeSound.{module_sound}
 
 begun : {A : Type 0} (form : Form A) (text : List ℕ) → found form text (At 0) ≡ walk form text
 unfolding found
@@ -47,12 +46,19 @@ pub same_fault : (text : List ℕ) (at place : ℕ) (rule other : Rule) → HasF
 same_fault text at place rule other x y =
     let same = one_fault module_form text at place rule other x y in ap (λ (k : ℕ). fault_of k rule) same.same_place ∙ ap (λ (r : Rule). fault_of place r) same.same_rule
 
--- a module's text has no fault, and a text that is read has none
-pub no_fault : (text : List ℕ) (one : Netlist) (at : ℕ) (rule : Rule) → IsModule one → text ≡ text_of one → HasFault module_form text at rule → ⊥
-no_fault text one at rule is e f = never_both module_form text one [] at rule (subst (λ (t : List ℕ). Reads module_form t one []) (sym e) (module_read one is)) f
+-- the text of each module is read, and what is read is the text of a module
+abbrev pub AllRead : Type 0
+AllRead = (one : Netlist) → IsModule one → Reads module_form (text_of one) one []
 
-pub good_whole : (text : List ℕ) (one : Netlist) (k : ℕ) → found module_form text (At 0) ≡ found (Form.whole one) text (At k) → IsModule one × (text ≡ text_of one)
-good_whole text one k e = let sound = module_sound one text (drop k text) (reads_whole text one k e) in (sound.0, sound.1)
+abbrev pub AllSound : Type 0
+AllSound = (one : Netlist) (text rest : List ℕ) → Reads module_form text one rest → IsModule one × (text ≡ text_of one) × (rest ≡ [])
+
+-- a module's text has no fault, and a text that is read has none
+pub no_fault : AllRead → (text : List ℕ) (one : Netlist) (at : ℕ) (rule : Rule) → IsModule one → text ≡ text_of one → HasFault module_form text at rule → ⊥
+no_fault module_read text one at rule is e f = never_both module_form text one [] at rule (subst (λ (t : List ℕ). Reads module_form t one []) (sym e) (module_read one is)) f
+
+pub good_whole : AllSound → (text : List ℕ) (one : Netlist) (k : ℕ) → found module_form text (At 0) ≡ found (Form.whole one) text (At k) → IsModule one × (text ≡ text_of one)
+good_whole module_sound text one k e = let sound = module_sound one text (drop k text) (reads_whole text one k e) in (sound.0, sound.1)
 
 -- the sections behind the nets
 

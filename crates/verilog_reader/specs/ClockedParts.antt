@@ -4,12 +4,12 @@ use Rattle.netlist.specs.declared.line.Line.{Line}
 use Rattle.netlist.specs.declared.line.Memory.{Memory}
 use Rattle.netlist.specs.declared.line.MemWrite.{MemWrite}
 use Rattle.netlist.specs.Netlists.{width_at, write_of}
-use Rattle.verilog_reader.specs.declared.rule.Rule.{Rule}
-use Rattle.verilog_reader.specs.declared.rule.Rule.TheVariants.{Name, Spelling, NotThere, Order}
-use Rattle.verilog_reader.specs.Forms.{Form, fixed}
-use Rattle.verilog_reader.specs.RightSides.{unless}
+use Rattle.verilog_forms.specs.declared.rule.Rule.{Rule}
+use Rattle.verilog_forms.specs.declared.rule.Rule.TheVariants.{Name, Spelling, NotThere, Order}
+use Rattle.verilog_forms.specs.Forms.{Form, fixed}
+use Rattle.verilog_forms.specs.RightSides.{unless}
 use Rattle.verilog_reader.specs.Holes.{capped}
-use Rattle.verilog_reader.specs.ClockedLines.{none_due, net_form, clocked_net_form, clocked_memory_form, always_form, other_net_form, other_memory_form, next_form, none_clocked_form}
+use Rattle.verilog_forms.specs.ClockedLines.{none_due, net_form, clocked_net_form, clocked_memory_form, always_form, other_net_form, other_memory_form, next_form, none_clocked_form}
 
 -- the same nets but for what their clocked lines tell
 pub record SameWidths (one other : List Line) : Type 0 where

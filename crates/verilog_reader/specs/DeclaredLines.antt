@@ -1,7 +1,7 @@
 -- What holes of lines tell.
 use Rattle.std.specs.Prelude.{ℕ, List}
-use Rattle.verilog_reader.specs.RightSides.{value_of}
-use Rattle.verilog_reader.specs.MemoryLines.{address_bits_of}
+use Rattle.verilog_forms.specs.RightSides.{value_of}
+use Rattle.verilog_forms.specs.MemoryLines.{address_bits_of}
 
 -- the address bits of a memory, by its last address
 abbrev pub last_told : List ℕ → ℕ

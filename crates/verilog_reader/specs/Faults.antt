@@ -3,14 +3,14 @@ use Rattle.std.specs.Prelude.{◌≡◌, ℕ, List, Option, Some, None}
 use Rattle.netlist.specs.declared.line.Line.{Line}
 use Rattle.netlist.specs.declared.line.Memory.{Memory}
 use Rattle.netlist.specs.Netlists.{Netlist}
-use Rattle.verilog_reader.specs.declared.rule.Rule.{Rule}
-use Rattle.verilog_reader.specs.declared.rule.Rule.TheVariants.{TooManyNets}
+use Rattle.verilog_forms.specs.declared.rule.Rule.{Rule}
+use Rattle.verilog_forms.specs.declared.rule.Rule.TheVariants.{TooManyNets}
 use Rattle.verilog_reader.specs.declared.reading.TextFault.{TextFault}
 use Rattle.verilog_reader.specs.declared.reading.TextFault.TheVariants.{Refused, TooManyNets as NoRoom, NoMemory}
 use Rattle.verilog_reader.specs.declared.parts.Parts.{Parts}
-use Rattle.verilog_reader.specs.Rules.{number_of}
-use Rattle.verilog_reader.specs.Forms.{HasFault}
-use Rattle.verilog_reader.specs.WholeTexts.{module_form}
+use Rattle.verilog_forms.specs.Rules.{number_of}
+use Rattle.verilog_forms.specs.Forms.{HasFault}
+use Rattle.verilog_forms.specs.WholeTexts.{module_form}
 
 abbrev pub fault_by : ℕ → Option ℕ → TextFault
 fault_by at (Some number) = Refused at number

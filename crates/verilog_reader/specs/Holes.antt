@@ -6,14 +6,14 @@ use Rattle.std.specs.Str.Parse.{digits_value}
 use Rattle.av_base.specs.declared.value.Val.{Val}
 use Rattle.netlist.specs.declared.line.Line.{Line}
 use Rattle.verilog_writer.specs.Text.{hex_digit, hex_digits}
-use Rattle.verilog_reader.specs.declared.rule.Rule.{Rule}
-use Rattle.verilog_reader.specs.declared.rule.Rule.TheVariants.{Width, Spelling, Bounds}
+use Rattle.verilog_forms.specs.declared.rule.Rule.{Rule}
+use Rattle.verilog_forms.specs.declared.rule.Rule.TheVariants.{Width, Spelling, Bounds}
 use Rattle.verilog_reader.specs.declared.spot.Spot.{Spot}
 use Rattle.verilog_reader.specs.declared.holes.Wanted.{Wanted}
 use Rattle.verilog_reader.specs.declared.holes.Wanted.TheVariants.{Any, Exactly, Behind}
-use Rattle.verilog_reader.specs.RightSides.{unless, value_of, is_number, net_of, is_net, fit_any, operand_test, is_constant}
-use Rattle.verilog_reader.specs.WireLines.{high_test, number_test}
-use Rattle.verilog_reader.specs.Walks.{fixed_from, hole_from, Takes}
+use Rattle.verilog_forms.specs.RightSides.{unless, value_of, is_number, net_of, is_net, fit_any, operand_test, is_constant}
+use Rattle.verilog_forms.specs.WireLines.{high_test, number_test}
+use Rattle.verilog_reader.specs.Spots.{fixed_from, hole_from, Takes}
 
 -- a number, or 2^32 where it is larger: more than any count that it is compared with
 abbrev pub capped : ℕ → ℕ

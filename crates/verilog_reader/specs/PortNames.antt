@@ -5,7 +5,7 @@ use Rattle.std.specs.declared.alloc.Global.{Global}
 use Rattle.std.specs.declared.hash.FoldHasher.{FoldHasher}
 use Rattle.std.specs.declared.hash.BuildHasherDefault.{BuildHasherDefault}
 use Rattle.netlist.specs.declared.line.PortLine.{PortLine}
-use Rattle.verilog_reader.specs.Headers.{is_named}
+use Rattle.verilog_forms.specs.Headers.{is_named}
 
 -- a port of 1 to 128 bits
 pub record HasWires (port : PortLine) : Type 0 where

@@ -5,10 +5,10 @@ use Rattle.netlist.specs.declared.line.Memory.{Memory}
 use Rattle.netlist.specs.declared.line.PortLine.{PortLine}
 use Rattle.verilog_reader.specs.declared.spot.Spot.{Spot}
 use Rattle.verilog_reader.specs.declared.spot.Spot.TheVariants.{At, Flawed}
-use Rattle.verilog_reader.specs.Forms.{Form}
-use Rattle.verilog_reader.specs.ClockedLines.{assign_form}
-use Rattle.verilog_reader.specs.WholeTexts.{told, driven}
-use Rattle.verilog_reader.specs.Walks.{found, IsWithin}
+use Rattle.verilog_forms.specs.Forms.{Form}
+use Rattle.verilog_forms.specs.ClockedLines.{assign_form}
+use Rattle.verilog_forms.specs.WholeTexts.{told, driven}
+use Rattle.verilog_reader.specs.Spots.{found, IsWithin}
 
 abbrev pub is_flawed : Spot → Bool
 is_flawed (At at) = false

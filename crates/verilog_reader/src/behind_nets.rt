@@ -4,9 +4,9 @@ ghost use Rattle.std.specs.Prelude.{◌≡◌, ◌≤◌, ◌^◌, ◌||◌, ℕ
 ghost use Rattle.netlist.specs.declared.line.Line.{Line};
 ghost use Rattle.netlist.specs.declared.line.Memory.{Memory};
 ghost use Rattle.netlist.specs.Netlists.{is_register};
-ghost use Rattle.verilog_reader.specs.Forms.{Form};
-ghost use Rattle.verilog_reader.specs.Walks.{found, IsWithin};
-ghost use Rattle.verilog_reader.specs.WholeTexts.{clocked_form, all_clocked_form, all_written_form, all_driven_form};
+ghost use Rattle.verilog_forms.specs.Forms.{Form};
+ghost use Rattle.verilog_reader.specs.Spots.{found, IsWithin};
+ghost use Rattle.verilog_forms.specs.WholeTexts.{clocked_form, all_clocked_form, all_written_form, all_driven_form};
 ghost use Rattle.verilog_reader.specs.ClockedParts.{SameWidths};
 ghost use Rattle.verilog_reader.specs.Sections.{HasBits, driven_form};
 

@@ -4,20 +4,20 @@ ghost use Rattle.std.specs.Prelude.{◌≡◌, ◌≤◌, ◌<◌, ◌^◌, ◌&
 ghost use Rattle.netlist.specs.declared.line.Line.{Line};
 ghost use Rattle.netlist.specs.declared.line.Memory.{Memory};
 ghost use Rattle.netlist.specs.Netlists.{Netlist};
-ghost use Rattle.verilog_reader.specs.Forms.{Form, next};
-ghost use Rattle.verilog_reader.specs.Headers.{is_next};
-ghost use Rattle.verilog_reader.specs.ClockedLines.{clocked_net_test, clocked_memory_test, clocked_memory_form, other_net_form, other_memory_form, next_form, clock_form, write_form, output_test, driver_form, assign_form};
-ghost use Rattle.verilog_reader.specs.WholeTexts.{nothing_form, last_form};
-ghost use Rattle.verilog_reader.specs.Walks.{found, IsWithin, ahead_of, hole_from, Judges};
+ghost use Rattle.verilog_forms.specs.Forms.{Form, next};
+ghost use Rattle.verilog_forms.specs.Headers.{is_next};
+ghost use Rattle.verilog_forms.specs.ClockedLines.{clocked_net_test, clocked_memory_test, clocked_memory_form, other_net_form, other_memory_form, next_form, clock_form, write_form, output_test, driver_form, assign_form};
+ghost use Rattle.verilog_forms.specs.WholeTexts.{nothing_form, last_form};
+ghost use Rattle.verilog_reader.specs.Spots.{found, IsWithin, ahead_of, hole_from, Judges};
 ghost use Rattle.verilog_reader.specs.DeclaredLines.{nothing_told};
 ghost use Rattle.verilog_reader.specs.ClockedParts.{SameWidths, Tells, due_test, Passes, is_due, clocked_register_form, written_memory_form, other_clocked_form, late_form};
 
 use crate::constants::constant;
 use crate::declared_lines::{next_is, same_bytes};
 use crate::holes::{Wanted, net_number, number, operand};
-use crate::rule::Rule;
 use crate::spot::{Spot, fixed, next_byte, refuse, run_at, take};
 use netlist::{Equation, Line, MemWrite, Memory, PortLine};
+use verilog_forms::Rule;
 
 /// Whether a number is that of the net or memory that is due, among so many.
 fn due_in(number: Option<u64>, count: usize, due: Option<usize>) -> Result<(), Rule>

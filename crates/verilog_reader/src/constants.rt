@@ -3,15 +3,15 @@
 ghost use Rattle.std.specs.Prelude.{◌≡◌, ℕ, ◌+◌, ◌/◌, ◌≤◌, ◌<◌, ◌^◌, length};
 ghost use Rattle.av_base.specs.Word.{word};
 ghost use Rattle.netlist.specs.declared.line.Equation.{Equation};
-ghost use Rattle.verilog_reader.specs.Forms.{Form};
-ghost use Rattle.verilog_reader.specs.Walks.{found, IsWithin, Judges};
-ghost use Rattle.verilog_reader.specs.RightSides.{constant_form};
+ghost use Rattle.verilog_forms.specs.Forms.{Form};
+ghost use Rattle.verilog_reader.specs.Spots.{found, IsWithin, Judges};
+ghost use Rattle.verilog_forms.specs.RightSides.{constant_form};
 ghost use Rattle.verilog_reader.specs.Holes.{width_bound, hex_bound, constant_told, TellsHexDigit, TellsHex};
 
 use crate::holes::number;
-use crate::rule::Rule;
 use crate::spot::{Spot, fixed, run_at, take};
 use av_base::Val;
+use verilog_forms::Rule;
 
 /// The number of a hexadecimal digit in lower case.
 fn hex_digit(byte: u8) -> Option<u8>

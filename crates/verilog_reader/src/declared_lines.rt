@@ -5,22 +5,22 @@ ghost use Rattle.netlist.specs.declared.line.Line.{Line};
 ghost use Rattle.netlist.specs.declared.line.Memory.{Memory};
 ghost use Rattle.netlist.specs.declared.line.Equation.TheVariants.{Input};
 ghost use Rattle.netlist.specs.Netlists.{line_of};
-ghost use Rattle.verilog_reader.specs.Forms.{Form, next};
-ghost use Rattle.verilog_reader.specs.Headers.{is_next};
-ghost use Rattle.verilog_reader.specs.WireLines.{number_test};
-ghost use Rattle.verilog_reader.specs.MemoryLines.{address_bits_of, last_test, memory_form};
-ghost use Rattle.verilog_reader.specs.RegisterLines.{register_form};
-ghost use Rattle.verilog_reader.specs.InputLines.{port_test, input_wire_form, no_input_form, input_form};
-ghost use Rattle.verilog_reader.specs.RightSides.{same_bytes};
-ghost use Rattle.verilog_reader.specs.WholeTexts.{late_memory_form};
-ghost use Rattle.verilog_reader.specs.Walks.{found, IsWithin, ahead_of, hole_from, Judges};
+ghost use Rattle.verilog_forms.specs.Forms.{Form, next};
+ghost use Rattle.verilog_forms.specs.Headers.{is_next};
+ghost use Rattle.verilog_forms.specs.WireLines.{number_test};
+ghost use Rattle.verilog_forms.specs.MemoryLines.{address_bits_of, last_test, memory_form};
+ghost use Rattle.verilog_forms.specs.RegisterLines.{register_form};
+ghost use Rattle.verilog_forms.specs.InputLines.{port_test, input_wire_form, no_input_form, input_form};
+ghost use Rattle.verilog_forms.specs.RightSides.{same_bytes};
+ghost use Rattle.verilog_forms.specs.WholeTexts.{late_memory_form};
+ghost use Rattle.verilog_reader.specs.Spots.{found, IsWithin, ahead_of, hole_from, Judges};
 ghost use Rattle.verilog_reader.specs.DeclaredLines.{last_told, nothing_told};
 
 use crate::holes::{exactly, named, number, range};
-use crate::rule::Rule;
 use crate::spot::{Spot, fixed, next_byte, refuse, run_at, take};
 use av_base::Val;
 use netlist::{Equation, Line, Memory, PortLine};
+use verilog_forms::Rule;
 
 pub(crate) fn same_bytes(one: &[u8], other: &[u8]) -> bool
     ensures { result ≡ same_bytes one.now other.now }

@@ -5,20 +5,20 @@ ghost use Rattle.std.specs.List.{list_all};
 ghost use Rattle.netlist.specs.declared.line.PortLine.{PortLine};
 ghost use Rattle.netlist.specs.Names.{begins_with_letter, is_name_byte};
 ghost use Rattle.netlist.specs.Netlists.{started};
-ghost use Rattle.verilog_reader.specs.Forms.{Form, is_hole_byte, next};
-ghost use Rattle.verilog_reader.specs.Headers.{is_next, module_name_test, port_name_test, described_form, port_form, ports_form, header_form};
-ghost use Rattle.verilog_reader.specs.Walks.{found, IsWithin, ahead_of, Judges};
+ghost use Rattle.verilog_forms.specs.Forms.{Form, is_hole_byte, next};
+ghost use Rattle.verilog_forms.specs.Headers.{is_next, module_name_test, port_name_test, described_form, port_form, ports_form, header_form};
+ghost use Rattle.verilog_reader.specs.Spots.{found, IsWithin, ahead_of, Judges};
 ghost use Rattle.verilog_reader.specs.DeclaredLines.{nothing_told};
 ghost use Rattle.verilog_reader.specs.PortNames.{AreNamed, HasWires};
 
 use crate::declared_lines::next_is;
 use crate::holes::range;
-use crate::rule::Rule;
 use crate::spot::{Spot, fixed, run_at, take};
 use av_base::{List, NoMemory, Text};
 use netlist::PortLine;
 use std::alloc::Global;
 use std::collections::HashSet;
+use verilog_forms::Rule;
 
 /// The most ports that a module may have.
 const PORT_LIMIT: usize = u32::MAX as usize;

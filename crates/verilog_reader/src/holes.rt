@@ -2,14 +2,14 @@
 
 ghost use Rattle.std.specs.Prelude.{◌≡◌, ℕ, ◌+◌, ◌≤◌, ◌<◌, ◌^◌, List, length, codes, IsSome, IfOk};
 ghost use Rattle.std.specs.Char.{is_digit};
-ghost use Rattle.verilog_reader.specs.Walks.{IsWithin, Judges};
-ghost use Rattle.verilog_reader.specs.RightSides.{well_led, net_of, operand_test};
-ghost use Rattle.verilog_reader.specs.WireLines.{high_test, number_test};
+ghost use Rattle.verilog_reader.specs.Spots.{IsWithin, Judges};
+ghost use Rattle.verilog_forms.specs.RightSides.{well_led, net_of, operand_test};
+ghost use Rattle.verilog_forms.specs.WireLines.{high_test, number_test};
 ghost use Rattle.verilog_reader.specs.Holes.{capped, TellsDigits, TellsNumber, TellsNet, width_told, Ranges, named_from, fits, TakesOperand};
 
-use crate::rule::Rule;
 use crate::spot::{Spot, fixed, refuse, run_at, take};
 use netlist::Line;
+use verilog_forms::Rule;
 
 /// More than any count that a number is compared with.
 const LIMIT: u64 = 1 << 32;

@@ -1,8 +1,8 @@
 //! The kind of the line that stands ahead.
 
 ghost use Rattle.std.specs.Prelude.{◌≡◌, ◌∷◌, [], drop};
-ghost use Rattle.verilog_reader.specs.WholeTexts.{begins, is_net_line, named_letter, is_memory_line};
-ghost use Rattle.verilog_reader.specs.Walks.{IsWithin, ahead_of};
+ghost use Rattle.verilog_forms.specs.WholeTexts.{begins, is_net_line, named_letter, is_memory_line};
+ghost use Rattle.verilog_reader.specs.Spots.{IsWithin, ahead_of};
 
 use crate::spot::{Spot, ahead, first, hole_len};
 

@@ -1,21 +1,21 @@
 //! The lines of the nets behind those of the inputs.
 
 ghost use Rattle.std.specs.Prelude.{◌≡◌, ℕ, ◌-◌, ◌≤◌, ◌^◌, length, All, IfOk, OnOk, if◌then◌else◌};
-ghost use Rattle.verilog_reader.specs.Forms.{Form};
-ghost use Rattle.verilog_reader.specs.Walks.{found, IsWithin};
-ghost use Rattle.verilog_reader.specs.WireLines.{wire_form};
-ghost use Rattle.verilog_reader.specs.RegisterLines.{register_form};
-ghost use Rattle.verilog_reader.specs.WholeTexts.{nets_form};
+ghost use Rattle.verilog_forms.specs.Forms.{Form};
+ghost use Rattle.verilog_reader.specs.Spots.{found, IsWithin};
+ghost use Rattle.verilog_forms.specs.WireLines.{wire_form};
+ghost use Rattle.verilog_forms.specs.RegisterLines.{register_form};
+ghost use Rattle.verilog_forms.specs.WholeTexts.{nets_form};
 ghost use Rattle.verilog_reader.specs.Sections.{HasBits};
 
 use crate::declared_lines::register_line;
 use crate::holes::{named, range};
 use crate::line_kinds::begins_line;
 use crate::right::right_side;
-use crate::rule::Rule;
 use crate::spot::{Spot, fixed, refuse};
 use av_base::NoMemory;
 use netlist::{Line, Memory};
+use verilog_forms::Rule;
 
 /// How many nets a module may have.
 pub(crate) const MOST_NETS: usize = 1 << 20;

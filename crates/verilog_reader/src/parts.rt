@@ -3,9 +3,9 @@
 ghost use Rattle.std.specs.Prelude.{◌≡◌, ◌≤◌, ◌^◌, ℕ, List as Sequence, length, All, IfOk};
 ghost use Rattle.netlist.specs.Netlists.{Netlist};
 ghost use Rattle.verilog_reader.specs.declared.spot.Spot.TheVariants.{At};
-ghost use Rattle.verilog_reader.specs.Forms.{Form};
-ghost use Rattle.verilog_reader.specs.WholeTexts.{has_output, behind_nets_form, module_form};
-ghost use Rattle.verilog_reader.specs.Walks.{found, IsWithin};
+ghost use Rattle.verilog_forms.specs.Forms.{Form};
+ghost use Rattle.verilog_forms.specs.WholeTexts.{has_output, behind_nets_form, module_form};
+ghost use Rattle.verilog_reader.specs.Spots.{found, IsWithin};
 ghost use Rattle.verilog_reader.specs.Sections.{HasBits};
 ghost use Rattle.verilog_reader.specs.Faults.{netlist_of, with_parts};
 

@@ -3,19 +3,19 @@
 ghost use Rattle.std.specs.Prelude.{◌≡◌, ◌⊎◌, ◌<◌, ◌^◌, ℕ, length, IfOk, IfErr, MatchResult};
 ghost use Rattle.netlist.specs.Netlists.{Netlist, IsModule};
 ghost use Rattle.verilog_writer.specs.Text.{text_of};
-ghost use Rattle.verilog_reader.specs.declared.rule.Rule.{Rule};
-ghost use Rattle.verilog_reader.specs.Forms.{Form, HasFault};
-ghost use Rattle.verilog_reader.specs.WholeTexts.{module_form};
-ghost use Rattle.verilog_reader.specs.Walks.{found};
+ghost use Rattle.verilog_forms.specs.declared.rule.Rule.{Rule};
+ghost use Rattle.verilog_forms.specs.Forms.{Form, HasFault};
+ghost use Rattle.verilog_forms.specs.WholeTexts.{module_form};
+ghost use Rattle.verilog_reader.specs.Spots.{found};
 ghost use Rattle.verilog_reader.specs.Faults.{fault_of, IsTextFault, netlist_of};
 
 use crate::parts::{Parts, read_parts};
-use crate::rule::Rule;
 use crate::spot::Spot;
 use av_base::NoMemory;
 use netlist::Module;
 use std::alloc::Global;
 use thiserror::Error;
+use verilog_forms::{Rule, no_two_modules, reads_whole_texts};
 
 /// Why a text was not read.
 #[derive(Clone, Copy, Debug, PartialEq, Eq, Error)]
@@ -32,9 +32,9 @@ pub enum TextFault {
 
 impl From<NoMemory> for TextFault {
     ghost use Rattle.std.specs.Prelude.{◌≡◌};
-    ghost use Rattle.verilog_reader.specs.declared.reading.TextFault.TheVariants.{NoMemory as NoRoom};
+    ghost use Rattle.verilog_reader.specs.declared.reading.TextFault.TheVariants.{NoMemory as OutOfMemory};
 
-    ghost from_gives = { λ _ e. e ≡ NoRoom };
+    ghost from_gives = { λ e fault. fault ≡ OutOfMemory };
 
     fn from(_e: NoMemory) -> TextFault {
         TextFault::NoMemory
@@ -67,6 +67,8 @@ pub fn read_module(alloc: Global, bytes: &[u8]) -> Result<Module, TextFault>
     ensures refused { (at : ℕ) (rule : Rule) → HasFault module_form bytes.now at rule
         → MatchResult result (λ one. ⊥) (λ fault. (fault ≡ fault_of at rule) ⊎ (fault ≡ TextFault.NoMemory)) }
 {
+    no_two_modules();
+    reads_whole_texts();
     let (read, end) = read_parts(alloc, bytes)?;
     match end {
         Spot::At(_) => {

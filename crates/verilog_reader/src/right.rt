@@ -3,17 +3,19 @@
 ghost use Rattle.std.specs.Prelude.{◌≡◌, ◌==◌, ℕ, ◌≤◌, ◌^◌, length, slice_get, if◌then◌else◌};
 ghost use Rattle.std.specs.Char.{is_digit};
 ghost use Rattle.netlist.specs.declared.line.Equation.{Equation};
-ghost use Rattle.verilog_reader.specs.declared.rule.Rule.TheVariants.{OtherByte, Width};
-ghost use Rattle.verilog_reader.specs.Forms.{Form};
-ghost use Rattle.verilog_reader.specs.Walks.{found, IsWithin, Judges};
-ghost use Rattle.verilog_reader.specs.RightSides.{guarded, value_of, width_of, words_of, bits_of, fit_any, operand, second, choice_form, sign_form, slice_form, behind_form, memory_test, read_form, concat_form, constant_form, right_form};
+ghost use Rattle.verilog_forms.specs.declared.rule.Rule.TheVariants.{OtherByte, Width};
+ghost use Rattle.verilog_forms.specs.Forms.{Form};
+ghost use Rattle.verilog_reader.specs.Spots.{found, IsWithin, Judges};
+ghost use Rattle.verilog_forms.specs.RightSides.{guarded, value_of, width_of, words_of, bits_of, fit_any, operand, second, choice_form, sign_form, slice_form, behind_form, memory_test, read_form, concat_form, constant_form, right_form};
 ghost use Rattle.verilog_reader.specs.Holes.{fits, high_bound, low_bound};
+ghost use Rattle.verilog_reader.specs.Operators.{operation_form};
 
 use crate::constants::constant;
 use crate::holes::{Wanted, is_digit, number, operand};
-use crate::rule::Rule;
+use crate::operators::Infix;
 use crate::spot::{Spot, fixed, next_byte, refuse, run_at, take};
 use netlist::{Equation, Line, Memory};
+use verilog_forms::Rule;
 
 /// The width of a net, or 0 where it isn't there.
 fn width_of(lines: &[Line], net: u32) -> u8
@@ -80,6 +82,28 @@ fn choice(bytes: &[u8], spot: Spot, lines: &[Line], width: u8, s: u32) -> (Equat
     (Equation::Mux { s, a, b }, end)
 }
 
+/// An operator and its second operand.
+fn operation(
+    bytes: &[u8],
+    spot: Spot,
+    lines: &[Line],
+    width: u8,
+    a: u32,
+    operator: Infix,
+) -> (Equation, Spot)
+    requires within { IsWithin bytes.now spot }
+    requires few { length lines.now ≤ 2 ^ 32 }
+    ensures read { found (operation_form lines.now (length lines.now) width a operator (width_of lines.now a)) bytes.now spot
+        ≡ found (Form.whole result.0) bytes.now result.1 }
+    ensures within { IsWithin bytes.now result.1 }
+{
+    let wide = width_of(lines, a);
+    let good = operator.gives(wide, width);
+    let wanted = Wanted::Exactly(wide);
+    let (b, end) = guarded_second(bytes, spot, lines, good, operator.sign(), wanted);
+    (operator.equation(a, b), end)
+}
+
 /// What stands from the operator sign on, behind a first operand and a blank.
 fn signed(bytes: &[u8], spot: Spot, lines: &[Line], width: u8, a: u32) -> (Equation, Spot)
     requires within { IsWithin bytes.now spot }
@@ -88,54 +112,12 @@ fn signed(bytes: &[u8], spot: Spot, lines: &[Line], width: u8, a: u32) -> (Equat
         ≡ found (Form.whole result.0) bytes.now result.1 }
     ensures within { IsWithin bytes.now result.1 }
 {
-    let wide = width_of(lines, a);
-    let same = wide == width;
-    let one_bit = width == 1;
-    match next_byte(bytes, spot) {
-        Some(b'&') => {
-            let (b, end) = guarded_second(bytes, spot, lines, same, b"& ", Wanted::Exactly(width));
-            (Equation::And { a, b }, end)
-        }
-        Some(b'|') => {
-            let (b, end) = guarded_second(bytes, spot, lines, same, b"| ", Wanted::Exactly(width));
-            (Equation::Or { a, b }, end)
-        }
-        Some(b'^') => {
-            let (b, end) = guarded_second(bytes, spot, lines, same, b"^ ", Wanted::Exactly(width));
-            (Equation::Xor { a, b }, end)
-        }
-        Some(b'+') => {
-            let (b, end) = guarded_second(bytes, spot, lines, same, b"+ ", Wanted::Exactly(width));
-            (Equation::Add { a, b }, end)
-        }
-        Some(b'-') => {
-            let (b, end) = guarded_second(bytes, spot, lines, same, b"- ", Wanted::Exactly(width));
-            (Equation::Sub { a, b }, end)
-        }
-        Some(b'=') => {
-            let (b, end) = guarded_second(
-                bytes,
-                spot,
-                lines,
-                one_bit,
-                b"== ",
-                Wanted::Exactly(wide),
-            );
-            (Equation::Eq { a, b }, end)
-        }
-        Some(b'<') => {
-            let (b, end) = guarded_second(
-                bytes,
-                spot,
-                lines,
-                one_bit,
-                b"< ",
-                Wanted::Exactly(wide),
-            );
-            (Equation::Less { a, b }, end)
-        }
-        Some(b'?') => choice(bytes, spot, lines, width, a),
-        Some(_) => (Equation::Input { port: 0 }, refuse(spot, Rule::OtherByte)),
+    let Some(sign) = next_byte(bytes, spot) else {
+        return (Equation::Input { port: 0 }, refuse(spot, Rule::OtherByte));
+    };
+    match Infix::of(sign) {
+        Some(operator) => operation(bytes, spot, lines, width, a, operator),
+        None if sign == b'?' => choice(bytes, spot, lines, width, a),
         None => (Equation::Input { port: 0 }, refuse(spot, Rule::OtherByte)),
     }
 }

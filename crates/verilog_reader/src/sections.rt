@@ -5,21 +5,21 @@ ghost use Rattle.netlist.specs.declared.line.Line.{Line};
 ghost use Rattle.netlist.specs.declared.line.Memory.{Memory};
 ghost use Rattle.netlist.specs.declared.line.PortLine.{PortLine};
 ghost use Rattle.verilog_reader.specs.declared.spot.Spot.{Spot};
-ghost use Rattle.verilog_reader.specs.Forms.{Form};
-ghost use Rattle.verilog_reader.specs.InputLines.{input_form};
-ghost use Rattle.verilog_reader.specs.WholeTexts.{is_net_line, memories_form, room_form, inputs_form};
-ghost use Rattle.verilog_reader.specs.Walks.{found, IsWithin, ahead_of};
+ghost use Rattle.verilog_forms.specs.Forms.{Form};
+ghost use Rattle.verilog_forms.specs.InputLines.{input_form};
+ghost use Rattle.verilog_forms.specs.WholeTexts.{is_net_line, memories_form, room_form, inputs_form};
+ghost use Rattle.verilog_reader.specs.Spots.{found, IsWithin, ahead_of};
 ghost use Rattle.verilog_reader.specs.Sections.{is_flawed, HasBits, Leads};
 ghost use Rattle.verilog_reader.specs.PortNames.{HasWires};
 
 use crate::declared_lines::{input_line, late_memory, memory_line};
 use crate::line_kinds::{is_memory_line, is_net_line};
 use crate::net_lines::MOST_NETS;
-use crate::rule::Rule;
 use crate::spot::{Spot, refuse};
 use av_base::NoMemory;
 use netlist::{Equation, Line, Memory, PortLine};
 use std::alloc::Global;
+use verilog_forms::{Rule, input_lines};
 
 /// The most memories that a module has.
 const MOST_MEMORIES: usize = 1 << 16;
@@ -109,6 +109,7 @@ fn add_input(
         → length lines.new.items ≤ 2 ^ 20) }
     ensures widths { OnOk result (All HasBits lines.new.items) }
 {
+    input_lines();
     let (line, behind) = input(bytes, spot, lines.as_slice(), number, port);
     lines.push(line)?;
     Ok(behind)

@@ -2,10 +2,10 @@
 
 ghost use Rattle.std.specs.Prelude.{◌≡◌, ℕ, ◌+◌, ◌≤◌, ◌⊎◌, List, length, drop, Option, Ok};
 ghost use Rattle.std.specs.List.{prefix_len};
-ghost use Rattle.verilog_reader.specs.Forms.{is_hole_byte, next};
-ghost use Rattle.verilog_reader.specs.Walks.{IsWithin, ahead_of, run_from, moved, refused, fixed_at, fixed_from, Judges, Takes};
+ghost use Rattle.verilog_forms.specs.Forms.{is_hole_byte, next};
+ghost use Rattle.verilog_reader.specs.Spots.{IsWithin, ahead_of, run_from, moved, refused, fixed_at, fixed_from, Judges, Takes};
 
-use crate::rule::Rule;
+use verilog_forms::Rule;
 
 /// Where a reader is. A flaw stays: no step leads on from it.
 #[derive(Clone, Copy)]
@@ -31,6 +31,7 @@ fn fixed_at(bytes: &[u8], start: usize, part: &[u8]) -> Spot
     ensures within { IsWithin bytes.now result }
 {
     let mut at = start;
+    use verilog_forms::Rule;
     'part: for byte in part {
         if at == bytes.len() {
             return other_byte(at);

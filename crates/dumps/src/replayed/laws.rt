@@ -5,7 +5,7 @@ ghost use Rattle.replays.specs.Texts.{CanReplayText};
 ghost use Rattle.dumps.specs.Dumps.{IsDumpOfText};
 
 use crate::runs_have_one_dump;
-use verilog_reader::no_two_modules;
+use verilog_forms::no_two_modules;
 use waves::no_two_readings;
 
 /// What is dumped can be replayed, so that both are refused alike; and a dump has one text at most.

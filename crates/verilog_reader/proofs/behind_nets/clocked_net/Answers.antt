@@ -1,7 +1,7 @@
 use Rattle.std.proofs.Common.{Bool, cond, sym, ap, ◌∙◌}
-use Rattle.verilog_reader.specs.Forms.{Form}
-use Rattle.verilog_reader.specs.Walks.{found}
-use Rattle.verilog_reader.specs.ClockedLines.{clock_form}
+use Rattle.verilog_forms.specs.Forms.{Form}
+use Rattle.verilog_reader.specs.Spots.{found}
+use Rattle.verilog_forms.specs.ClockedLines.{clock_form}
 use Rattle.verilog_reader.proofs.behind_nets.clocked_net.Goals as goal
 
 pub returns-then-is_register-clause-read : goal.returns-then-is_register-clause-read

@@ -1,8 +1,8 @@
 use Rattle.std.proofs.Common.{ℕ, Bool, cond, Option, None, ap, ◌∙◌}
-use Rattle.verilog_reader.specs.Forms.{Form}
-use Rattle.verilog_reader.specs.ClockedLines.{assign_form}
-use Rattle.verilog_reader.specs.WholeTexts.{told, driven}
-use Rattle.verilog_reader.specs.Walks.{found}
+use Rattle.verilog_forms.specs.Forms.{Form}
+use Rattle.verilog_forms.specs.ClockedLines.{assign_form}
+use Rattle.verilog_forms.specs.WholeTexts.{told, driven}
+use Rattle.verilog_reader.specs.Spots.{found}
 use Rattle.verilog_reader.proofs.BehindSteps.{told_found}
 use Rattle.verilog_reader.proofs.behind_nets.driven.Goals as goal
 

@@ -1,9 +1,9 @@
 use Rattle.std.proofs.Common.{◌≡◌, ◌<◌, ◌≤◌, List, [], length, take, drop, sym, ap, subst, ◌∙◌, arith}
 use Rattle.std.proofs.lemmas.List.{drop_all, take_all}
 use Rattle.netlist.specs.declared.line.Line.{Line}
-use Rattle.verilog_reader.specs.Forms.{Form}
-use Rattle.verilog_reader.specs.Walks.{found}
-use Rattle.verilog_reader.specs.WholeTexts.{all_clocked_form}
+use Rattle.verilog_forms.specs.Forms.{Form}
+use Rattle.verilog_reader.specs.Spots.{found}
+use Rattle.verilog_forms.specs.WholeTexts.{all_clocked_form}
 use Rattle.verilog_reader.specs.ClockedParts.{SameWidths}
 use Rattle.verilog_reader.proofs.SectionSteps.{leads_to}
 use Rattle.verilog_reader.proofs.BehindSteps.{widths_on, todo_on, here_item, clocked_on}

@@ -1,9 +1,9 @@
 use Rattle.std.proofs.Common.{◌≡◌, ℕ, ◌+◌, ◌<◌, ◌≤◌, ◌||◌, Bool, false, List, [], length, drop, Option, refl, sym, ap, subst, arith}
 use Rattle.std.proofs.lemmas.List.{drop_all}
 use Rattle.netlist.specs.declared.line.PortLine.{PortLine}
-use Rattle.verilog_reader.specs.Forms.{Form}
-use Rattle.verilog_reader.specs.Walks.{found}
-use Rattle.verilog_reader.specs.WholeTexts.{all_driven_form}
+use Rattle.verilog_forms.specs.Forms.{Form}
+use Rattle.verilog_reader.specs.Spots.{found}
+use Rattle.verilog_forms.specs.WholeTexts.{all_driven_form}
 use Rattle.verilog_reader.specs.Sections.{Leads}
 use Rattle.verilog_reader.proofs.SectionSteps.{leads_to}
 use Rattle.verilog_reader.proofs.BehindSteps.{here_item, driven_on}

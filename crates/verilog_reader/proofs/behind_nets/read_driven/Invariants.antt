@@ -1,8 +1,8 @@
 use Rattle.std.proofs.Common.{◌≡◌, false, List, length, drop}
 use Rattle.netlist.specs.declared.line.Line.{Line}
 use Rattle.netlist.specs.declared.line.Memory.{Memory}
-use Rattle.verilog_reader.specs.Walks.{IsWithin}
-use Rattle.verilog_reader.specs.WholeTexts.{all_driven_form}
+use Rattle.verilog_reader.specs.Spots.{IsWithin}
+use Rattle.verilog_forms.specs.WholeTexts.{all_driven_form}
 use Rattle.verilog_reader.specs.ClockedParts.{SameWidths}
 use Rattle.verilog_reader.specs.Sections.{Leads}
 use Rattle.verilog_reader.proofs.behind_nets.read_driven.Given as goal

@@ -2,9 +2,9 @@ use Rattle.std.proofs.Common.{◌≡◌, ◌<◌, ◌≤◌, List, [], length, t
 use Rattle.std.proofs.Math.ListN.{length-set}
 use Rattle.std.proofs.lemmas.List.{drop_all, take_all}
 use Rattle.netlist.specs.declared.line.Memory.{Memory}
-use Rattle.verilog_reader.specs.Forms.{Form}
-use Rattle.verilog_reader.specs.Walks.{found}
-use Rattle.verilog_reader.specs.WholeTexts.{written, all_written_form}
+use Rattle.verilog_forms.specs.Forms.{Form}
+use Rattle.verilog_reader.specs.Spots.{found}
+use Rattle.verilog_forms.specs.WholeTexts.{written, all_written_form}
 use Rattle.verilog_reader.proofs.SectionSteps.{leads_to}
 use Rattle.verilog_reader.proofs.BehindSteps.{todo_on, here_item, written_on}
 use Rattle.verilog_reader.proofs.behind_nets.read_written.Goals as goal

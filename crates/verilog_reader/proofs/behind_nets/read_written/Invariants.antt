@@ -1,7 +1,7 @@
 use Rattle.std.proofs.Common.{◌≡◌, List, length, take, drop}
 use Rattle.netlist.specs.declared.line.Line.{Line}
-use Rattle.verilog_reader.specs.Walks.{IsWithin}
-use Rattle.verilog_reader.specs.WholeTexts.{all_written_form}
+use Rattle.verilog_reader.specs.Spots.{IsWithin}
+use Rattle.verilog_forms.specs.WholeTexts.{all_written_form}
 use Rattle.verilog_reader.specs.ClockedParts.{SameWidths}
 use Rattle.verilog_reader.specs.Sections.{Leads}
 use Rattle.verilog_reader.proofs.behind_nets.read_written.Given as goal

@@ -1,5 +1,5 @@
 use Rattle.std.proofs.Common.{true, false, sym, ◌∙◌}
-use Rattle.verilog_reader.specs.ClockedLines.{driver_form}
+use Rattle.verilog_forms.specs.ClockedLines.{driver_form}
 use Rattle.verilog_reader.proofs.ClockedSteps.{none_clocked_found}
 use Rattle.verilog_reader.proofs.clocked.assign_line.Goals as goal
 

@@ -1,5 +1,5 @@
 use Rattle.std.proofs.Common.{true, false, sym, ◌∙◌, codes}
-use Rattle.verilog_reader.specs.ClockedLines.{other_memory_form}
+use Rattle.verilog_forms.specs.ClockedLines.{other_memory_form}
 use Rattle.verilog_reader.specs.ClockedParts.{clocked_register_form}
 use Rattle.verilog_reader.proofs.ClockedSteps.{always_found, other_memory_as}
 use Rattle.verilog_reader.proofs.clocked.clock_line.Goals as goal

@@ -1,4 +1,4 @@
-use Rattle.verilog_reader.specs.ClockedLines.{clocked_net_test}
+use Rattle.verilog_forms.specs.ClockedLines.{clocked_net_test}
 use Rattle.verilog_reader.specs.ClockedParts.{is_due}
 use Rattle.verilog_reader.specs.DeclaredLines.{nothing_told}
 use Rattle.verilog_reader.proofs.clocked.clocked_net.Goals as goal

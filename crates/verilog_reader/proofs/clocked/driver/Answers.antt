@@ -1,7 +1,7 @@
 use Rattle.std.proofs.Common.{List, ℕ, subst}
-use Rattle.verilog_reader.specs.ClockedLines.{output_test}
+use Rattle.verilog_forms.specs.ClockedLines.{output_test}
 use Rattle.verilog_reader.specs.DeclaredLines.{nothing_told}
-use Rattle.verilog_reader.specs.Walks.{Judges}
+use Rattle.verilog_reader.specs.Spots.{Judges}
 use Rattle.verilog_reader.proofs.ClockedSteps.{driver_found}
 use Rattle.verilog_reader.proofs.clocked.driver.Goals as goal
 

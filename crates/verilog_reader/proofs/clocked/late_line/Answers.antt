@@ -1,6 +1,6 @@
 use Rattle.std.proofs.Common.{true, false, sym, ◌∙◌, codes}
-use Rattle.verilog_reader.specs.declared.rule.Rule.TheVariants.{Name}
-use Rattle.verilog_reader.specs.Forms.{Form, fixed}
+use Rattle.verilog_forms.specs.declared.rule.Rule.TheVariants.{Name}
+use Rattle.verilog_forms.specs.Forms.{Form, fixed}
 use Rattle.verilog_reader.proofs.ClockedSteps.{none_clocked_found, late_name_found}
 use Rattle.verilog_reader.proofs.clocked.late_line.Goals as goal
 

@@ -1,4 +1,4 @@
-use Rattle.verilog_reader.specs.RightSides.{is_number, value_of}
+use Rattle.verilog_forms.specs.RightSides.{is_number, value_of}
 use Rattle.verilog_reader.proofs.ClockedSteps.{number_tells, memory_judges}
 use Rattle.verilog_reader.proofs.clocked.memory_in.Goals as goal
 

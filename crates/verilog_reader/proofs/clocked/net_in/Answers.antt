@@ -1,4 +1,4 @@
-use Rattle.verilog_reader.specs.RightSides.{is_net, net_of}
+use Rattle.verilog_forms.specs.RightSides.{is_net, net_of}
 use Rattle.verilog_reader.proofs.ClockedSteps.{net_tells, net_judges}
 use Rattle.verilog_reader.proofs.clocked.net_in.Goals as goal
 

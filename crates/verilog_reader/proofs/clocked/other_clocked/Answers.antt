@@ -1,5 +1,5 @@
 use Rattle.std.proofs.Common.{true, false, sym, ◌∙◌, codes}
-use Rattle.verilog_reader.specs.ClockedLines.{other_net_form, other_memory_form}
+use Rattle.verilog_forms.specs.ClockedLines.{other_net_form, other_memory_form}
 use Rattle.verilog_reader.proofs.ClockedSteps.{always_found, other_net_as, other_memory_as}
 use Rattle.verilog_reader.proofs.clocked.other_clocked.Goals as goal
 

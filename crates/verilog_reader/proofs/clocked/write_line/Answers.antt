@@ -1,6 +1,6 @@
 use Rattle.std.proofs.Common.{true, false, sym, ◌∙◌, codes}
 use Rattle.netlist.specs.Netlists.{write_of}
-use Rattle.verilog_reader.specs.ClockedLines.{other_net_form}
+use Rattle.verilog_forms.specs.ClockedLines.{other_net_form}
 use Rattle.verilog_reader.specs.ClockedParts.{written_memory_form}
 use Rattle.verilog_reader.proofs.ClockedSteps.{always_found, other_net_as}
 use Rattle.verilog_reader.proofs.clocked.write_line.Goals as goal

@@ -1,4 +1,4 @@
-use Rattle.verilog_reader.specs.InputLines.{port_test}
+use Rattle.verilog_forms.specs.InputLines.{port_test}
 use Rattle.verilog_reader.specs.DeclaredLines.{nothing_told}
 use Rattle.verilog_reader.proofs.DeclaredSteps.{input_wire_found}
 use Rattle.verilog_reader.proofs.declared_lines.input_wire.Goals as goal

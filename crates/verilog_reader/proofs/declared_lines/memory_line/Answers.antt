@@ -1,4 +1,4 @@
-use Rattle.verilog_reader.specs.MemoryLines.{last_test}
+use Rattle.verilog_forms.specs.MemoryLines.{last_test}
 use Rattle.verilog_reader.specs.DeclaredLines.{last_told}
 use Rattle.verilog_reader.proofs.DeclaredSteps.{memory_found}
 use Rattle.verilog_reader.proofs.declared_lines.memory_line.Goals as goal

@@ -1,4 +1,4 @@
-use Rattle.verilog_reader.specs.WireLines.{number_test}
+use Rattle.verilog_forms.specs.WireLines.{number_test}
 use Rattle.verilog_reader.proofs.declared_lines.numbered.Goals as goal
 
 pub returns-clause-read : goal.returns-clause-read

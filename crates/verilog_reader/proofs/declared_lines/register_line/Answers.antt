@@ -3,8 +3,8 @@ use Rattle.std.specs.Prelude.{IfSome}
 use Rattle.av_base.specs.Word.{Word, word}
 use Rattle.netlist.specs.declared.line.Equation.TheVariants.{Reg}
 use Rattle.netlist.specs.Netlists.{line_with}
-use Rattle.verilog_reader.specs.Forms.{Form}
-use Rattle.verilog_reader.specs.Walks.{found}
+use Rattle.verilog_forms.specs.Forms.{Form}
+use Rattle.verilog_reader.specs.Spots.{found}
 use Rattle.verilog_reader.proofs.DeclaredSteps.{register_found}
 use Rattle.verilog_reader.proofs.declared_lines.register_line.Goals as goal
 

@@ -1,6 +1,6 @@
 use Rattle.std.proofs.Common.{◌∙◌}
 use Rattle.verilog_reader.specs.DeclaredLines.{nothing_told}
-use Rattle.verilog_reader.specs.Headers.{port_name_test}
+use Rattle.verilog_forms.specs.Headers.{port_name_test}
 use Rattle.verilog_reader.proofs.HeaderSteps.{run_bytes, described_found}
 use Rattle.verilog_reader.proofs.header_lines.described.Goals as goal
 

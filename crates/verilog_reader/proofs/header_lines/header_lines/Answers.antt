@@ -1,6 +1,6 @@
 use Rattle.std.proofs.Common.{◌∙◌}
 use Rattle.verilog_reader.specs.DeclaredLines.{nothing_told}
-use Rattle.verilog_reader.specs.Headers.{module_name_test}
+use Rattle.verilog_forms.specs.Headers.{module_name_test}
 use Rattle.verilog_reader.proofs.HeaderSteps.{run_bytes, header_found}
 use Rattle.verilog_reader.proofs.header_lines.header_lines.Goals as goal
 

@@ -2,9 +2,9 @@ use Rattle.std.proofs.Common.{◌≡◌, ◌-◌, ◌^◌, ◌&&◌, ◌∷◌, 
 use Rattle.std.specs.Prelude.{All, nat_lt}
 use Rattle.std.proofs.lemmas.List.Elements.{All-push}
 use Rattle.netlist.specs.declared.line.PortLine.{PortLine}
-use Rattle.verilog_reader.specs.Forms.{next}
-use Rattle.verilog_reader.specs.Headers.{is_next}
-use Rattle.verilog_reader.specs.Walks.{ahead_of}
+use Rattle.verilog_forms.specs.Forms.{next}
+use Rattle.verilog_forms.specs.Headers.{is_next}
+use Rattle.verilog_reader.specs.Spots.{ahead_of}
 use Rattle.verilog_reader.specs.PortNames.{AreNamed, HasWires}
 use Rattle.verilog_reader.proofs.HeaderSteps.{Listed, one_listed, all_listed}
 use Rattle.verilog_reader.proofs.header_lines.port_lines.Goals as goal

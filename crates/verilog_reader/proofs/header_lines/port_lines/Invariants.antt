@@ -1,6 +1,6 @@
 use Rattle.std.proofs.Common.{◌-◌, ◌^◌, length}
 use Rattle.std.specs.Prelude.{All}
-use Rattle.verilog_reader.specs.Walks.{IsWithin}
+use Rattle.verilog_reader.specs.Spots.{IsWithin}
 use Rattle.verilog_reader.specs.PortNames.{AreNamed, HasWires}
 use Rattle.verilog_reader.proofs.HeaderSteps.{Listed}
 use Rattle.verilog_reader.proofs.header_lines.port_lines.Given as goal

@@ -1,7 +1,7 @@
 use Rattle.std.proofs.Common.{◌≡◌, take, drop}
 use Rattle.std.specs.List.{list_all}
 use Rattle.std.specs.Char.{is_digit}
-use Rattle.verilog_reader.specs.RightSides.{value_of}
+use Rattle.verilog_forms.specs.RightSides.{value_of}
 use Rattle.verilog_reader.specs.Holes.{capped}
 use Rattle.verilog_reader.proofs.holes.digits.Given as goal
 

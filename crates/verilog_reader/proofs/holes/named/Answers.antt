@@ -1,6 +1,6 @@
 use Rattle.std.proofs.Common.{ap, ◌∙◌}
-use Rattle.verilog_reader.specs.WireLines.{number_test}
-use Rattle.verilog_reader.specs.Walks.{hole_from}
+use Rattle.verilog_forms.specs.WireLines.{number_test}
+use Rattle.verilog_reader.specs.Spots.{hole_from}
 use Rattle.verilog_reader.proofs.holes.named.Goals as goal
 
 pub returns-clause-read : goal.returns-clause-read

@@ -1,5 +1,5 @@
 use Rattle.std.proofs.Common.{length}
-use Rattle.verilog_reader.specs.RightSides.{net_of, operand_test}
+use Rattle.verilog_forms.specs.RightSides.{net_of, operand_test}
 use Rattle.verilog_reader.specs.Holes.{fits}
 use Rattle.verilog_reader.proofs.holes.operand.Goals as goal
 

@@ -1,7 +1,7 @@
 use Rattle.std.proofs.Common.{subst}
 use Rattle.verilog_reader.specs.declared.spot.Spot.{Spot}
-use Rattle.verilog_reader.specs.WireLines.{high_test}
-use Rattle.verilog_reader.specs.Walks.{Takes}
+use Rattle.verilog_forms.specs.WireLines.{high_test}
+use Rattle.verilog_reader.specs.Spots.{Takes}
 use Rattle.verilog_reader.specs.Holes.{width_told}
 use Rattle.verilog_reader.proofs.holes.range.Goals as goal
 

@@ -2,11 +2,11 @@ use Rattle.std.proofs.Common.{◌≡◌, ◌-◌, ◌<◌, ◌^◌, ◌||◌, Bo
 use Rattle.std.specs.Prelude.{All}
 use Rattle.std.proofs.lemmas.List.Elements.{All-push}
 use Rattle.netlist.specs.declared.line.Line.{Line}
-use Rattle.verilog_reader.specs.Forms.{Form}
-use Rattle.verilog_reader.specs.Walks.{found, ahead_of}
-use Rattle.verilog_reader.specs.WireLines.{wire_form}
-use Rattle.verilog_reader.specs.RegisterLines.{register_form}
-use Rattle.verilog_reader.specs.WholeTexts.{is_wire_line, is_reg_line, is_net_line, nets_form}
+use Rattle.verilog_forms.specs.Forms.{Form}
+use Rattle.verilog_reader.specs.Spots.{found, ahead_of}
+use Rattle.verilog_forms.specs.WireLines.{wire_form}
+use Rattle.verilog_forms.specs.RegisterLines.{register_form}
+use Rattle.verilog_forms.specs.WholeTexts.{is_wire_line, is_reg_line, is_net_line, nets_form}
 use Rattle.verilog_reader.specs.Sections.{HasBits}
 use Rattle.verilog_reader.proofs.NetSteps.{nets_end, nets_full, nets_on, one_less, either_last}
 use Rattle.verilog_reader.proofs.net_lines.read_nets.Goals as goal

@@ -1,7 +1,7 @@
 use Rattle.std.proofs.Common.{◌≡◌, ◌-◌, ◌≤◌, ◌^◌, length}
 use Rattle.std.specs.Prelude.{All}
-use Rattle.verilog_reader.specs.Walks.{found, IsWithin}
-use Rattle.verilog_reader.specs.WholeTexts.{nets_form}
+use Rattle.verilog_reader.specs.Spots.{found, IsWithin}
+use Rattle.verilog_forms.specs.WholeTexts.{nets_form}
 use Rattle.verilog_reader.specs.Sections.{HasBits}
 use Rattle.verilog_reader.proofs.net_lines.read_nets.Given as goal
 

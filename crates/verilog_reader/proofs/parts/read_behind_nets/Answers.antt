@@ -1,7 +1,7 @@
 use Rattle.std.proofs.Common.{◌≡◌, Bool, false, List, length, sym, ap, subst, ◌∙◌, arith}
 use Rattle.netlist.specs.declared.line.PortLine.{PortLine}
-use Rattle.verilog_reader.specs.Walks.{found}
-use Rattle.verilog_reader.specs.WholeTexts.{all_driven_form, has_output, last_form}
+use Rattle.verilog_reader.specs.Spots.{found}
+use Rattle.verilog_forms.specs.WholeTexts.{all_driven_form, has_output, last_form}
 use Rattle.verilog_reader.specs.ClockedParts.{SameWidths}
 use Rattle.verilog_reader.specs.Faults.{with_parts}
 use Rattle.verilog_reader.proofs.Whole.{behind_found}

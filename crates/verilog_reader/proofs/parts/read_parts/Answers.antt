@@ -3,8 +3,8 @@ use Rattle.netlist.specs.declared.line.Memory.{Memory}
 use Rattle.netlist.specs.declared.line.PortLine.{PortLine}
 use Rattle.netlist.specs.Netlists.{started}
 use Rattle.verilog_reader.specs.declared.spot.Spot.TheVariants.{At}
-use Rattle.verilog_reader.specs.WholeTexts.{inputs_form, nets_form}
-use Rattle.verilog_reader.specs.Walks.{found}
+use Rattle.verilog_forms.specs.WholeTexts.{inputs_form, nets_form}
+use Rattle.verilog_reader.specs.Spots.{found}
 use Rattle.verilog_reader.specs.Faults.{with_parts}
 use Rattle.verilog_reader.proofs.Whole.{module_found}
 use Rattle.verilog_reader.proofs.parts.read_parts.Goals as goal

@@ -1,10 +1,10 @@
 use Rattle.std.proofs.Common.{length, codes, Some, None, sym, ap, ◌∙◌, arith}
 use Rattle.netlist.specs.declared.line.Equation.{Equation}
 use Rattle.netlist.specs.declared.line.Equation.TheVariants.{Input}
-use Rattle.verilog_reader.specs.declared.rule.Rule.TheVariants.{OtherByte}
-use Rattle.verilog_reader.specs.Forms.{Form}
-use Rattle.verilog_reader.specs.Walks.{found}
-use Rattle.verilog_reader.specs.RightSides.{sign_form, behind_form}
+use Rattle.verilog_forms.specs.declared.rule.Rule.TheVariants.{OtherByte}
+use Rattle.verilog_forms.specs.Forms.{Form}
+use Rattle.verilog_reader.specs.Spots.{found}
+use Rattle.verilog_forms.specs.RightSides.{sign_form, behind_form}
 use Rattle.verilog_reader.proofs.Steps.{turn_found, refuse_found, fixed_found}
 use Rattle.verilog_reader.proofs.RightSteps.{turn_at, other_behind}
 use Rattle.verilog_reader.proofs.right.behind_net.Goals as goal

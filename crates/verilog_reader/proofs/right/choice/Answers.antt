@@ -1,9 +1,9 @@
 use Rattle.std.proofs.Common.{◌≡◌, ℕ, ◌==◌, true, false, length, sym, ap, ◌∙◌}
 use Rattle.std.proofs.lemmas.Bool.{eq-eqb, ne_eqb}
 use Rattle.netlist.specs.declared.line.Equation.TheVariants.{Input}
-use Rattle.verilog_reader.specs.declared.rule.Rule.TheVariants.{Width}
-use Rattle.verilog_reader.specs.Forms.{Form}
-use Rattle.verilog_reader.specs.RightSides.{width_of, choice_form}
+use Rattle.verilog_forms.specs.declared.rule.Rule.TheVariants.{Width}
+use Rattle.verilog_forms.specs.Forms.{Form}
+use Rattle.verilog_forms.specs.RightSides.{width_of, choice_form}
 use Rattle.verilog_reader.proofs.RightSteps.{guarded_refused, choice_found}
 use Rattle.verilog_reader.proofs.right.choice.Goals as goal
 

@@ -2,10 +2,10 @@ use Rattle.std.proofs.Common.{Bool, sym, ap, ◌∙◌}
 use Rattle.std.specs.Prelude.{if◌then◌else◌}
 use Rattle.netlist.specs.declared.line.Equation.{Equation}
 use Rattle.netlist.specs.declared.line.Equation.TheVariants.{Input}
-use Rattle.verilog_reader.specs.declared.rule.Rule.TheVariants.{OtherByte}
-use Rattle.verilog_reader.specs.Forms.{Form}
-use Rattle.verilog_reader.specs.Walks.{found}
-use Rattle.verilog_reader.specs.RightSides.{constant_form}
+use Rattle.verilog_forms.specs.declared.rule.Rule.TheVariants.{OtherByte}
+use Rattle.verilog_forms.specs.Forms.{Form}
+use Rattle.verilog_reader.specs.Spots.{found}
+use Rattle.verilog_forms.specs.RightSides.{constant_form}
 use Rattle.verilog_reader.proofs.Steps.{refuse_found}
 use Rattle.verilog_reader.proofs.right.constant_side.Goals as goal
 

@@ -1,7 +1,7 @@
 use Rattle.std.proofs.Common.{length, ◌∙◌}
-use Rattle.verilog_reader.specs.declared.rule.Rule.TheVariants.{Width}
-use Rattle.verilog_reader.specs.Forms.{Form}
-use Rattle.verilog_reader.specs.RightSides.{second}
+use Rattle.verilog_forms.specs.declared.rule.Rule.TheVariants.{Width}
+use Rattle.verilog_forms.specs.Forms.{Form}
+use Rattle.verilog_forms.specs.RightSides.{second}
 use Rattle.verilog_reader.specs.Holes.{fits}
 use Rattle.verilog_reader.proofs.RightSteps.{guarded_found, guarded_refused}
 use Rattle.verilog_reader.proofs.right.guarded_second.Goals as goal

@@ -1,7 +1,7 @@
 use Rattle.std.proofs.Common.{ℕ, length, ◌∙◌}
 use Rattle.verilog_reader.specs.declared.holes.Wanted.TheVariants.{Any}
-use Rattle.verilog_reader.specs.Forms.{Form}
-use Rattle.verilog_reader.specs.RightSides.{behind_form}
+use Rattle.verilog_forms.specs.Forms.{Form}
+use Rattle.verilog_forms.specs.RightSides.{behind_form}
 use Rattle.verilog_reader.proofs.RightSteps.{operand_found}
 use Rattle.verilog_reader.proofs.right.net_first.Goals as goal
 

@@ -1,5 +1,5 @@
 use Rattle.verilog_reader.proofs.RightSteps.{slice_found}
-use Rattle.verilog_reader.specs.RightSides.{value_of}
+use Rattle.verilog_forms.specs.RightSides.{value_of}
 use Rattle.verilog_reader.specs.Holes.{high_bound, low_bound}
 use Rattle.verilog_reader.proofs.right.slice.Goals as goal
 

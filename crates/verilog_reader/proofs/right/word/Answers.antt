@@ -1,4 +1,4 @@
-use Rattle.verilog_reader.specs.RightSides.{value_of, memory_test}
+use Rattle.verilog_forms.specs.RightSides.{value_of, memory_test}
 use Rattle.verilog_reader.proofs.RightSteps.{word_found}
 use Rattle.verilog_reader.proofs.right.word.Goals as goal
 

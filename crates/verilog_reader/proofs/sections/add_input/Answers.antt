@@ -1,15 +1,14 @@
-use Rattle.std.proofs.Common.{◌≡◌, ℕ, List, length, sym, ap, subst, arith}
+use Rattle.std.proofs.Common.{◌≡◌, ℕ, List, length, sym, ap, subst, arith, length-append, [], ◌∷◌}
 use Rattle.std.specs.Prelude.{All}
 use Rattle.std.proofs.lemmas.List.Elements.{All-push}
 use Rattle.netlist.specs.declared.line.Line.{Line}
 use Rattle.netlist.specs.declared.line.PortLine.{PortLine}
 use Rattle.verilog_reader.specs.declared.spot.Spot.{Spot}
-use Rattle.verilog_reader.specs.Forms.{Form}
-use Rattle.verilog_reader.specs.InputLines.{input_form}
-use Rattle.verilog_reader.specs.WholeTexts.{room_form}
-use Rattle.verilog_reader.specs.Walks.{found}
+use Rattle.verilog_forms.specs.Forms.{Form}
+use Rattle.verilog_forms.specs.InputLines.{input_form}
+use Rattle.verilog_forms.specs.WholeTexts.{room_form}
+use Rattle.verilog_reader.specs.Spots.{found}
 use Rattle.verilog_reader.specs.Sections.{HasBits}
-use Rattle.verilog_reader.proofs.ModuleReads.{length-more}
 use Rattle.verilog_reader.proofs.SectionSteps.{has_room, port_read}
 use Rattle.verilog_reader.proofs.sections.add_input.Goals as goal
 
@@ -38,8 +37,8 @@ returns-clause-room c = λ good few.
     let line = c.input-line.result.0 in
     let behind = c.input-line.result.1 in
     let here = read_of k port text c.args.spot lines c.as_slice.result.now line behind c.as_slice.ensures.value c.input-line.ensures.read in
-    let room = has_room (length lines) k port text c.args.spot line behind here good in
-    omega (arith, room, ap (λ (ls : List Line). length ls) c.in_ok-push.ensures.items, length-more lines line)
+    let room = has_room c.input_lines.ensures.sound (length lines) k port text c.args.spot line behind here good in
+    omega (arith, room, ap (λ (ls : List Line). length ls) c.in_ok-push.ensures.items, length-append lines (line ∷ []))
 
 pub returns-clause-widths : goal.returns-clause-widths
 returns-clause-widths c =

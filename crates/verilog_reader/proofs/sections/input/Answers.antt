@@ -1,5 +1,5 @@
 use Rattle.std.proofs.Common.{length, sym, ◌∙◌}
-use Rattle.verilog_reader.specs.InputLines.{input_form}
+use Rattle.verilog_forms.specs.InputLines.{input_form}
 use Rattle.verilog_reader.proofs.SectionSteps.{no_room_found, room_found}
 use Rattle.verilog_reader.proofs.sections.input.Goals as goal
 

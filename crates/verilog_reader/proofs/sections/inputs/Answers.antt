@@ -1,9 +1,9 @@
 use Rattle.std.proofs.Common.{ℕ, ◌+◌, [], List, length, drop, sym, ap, subst, ◌∙◌}
 use Rattle.std.proofs.lemmas.List.{drop_all}
 use Rattle.netlist.specs.declared.line.PortLine.{PortLine}
-use Rattle.verilog_reader.specs.Forms.{Form}
-use Rattle.verilog_reader.specs.WholeTexts.{inputs_form}
-use Rattle.verilog_reader.specs.Walks.{found}
+use Rattle.verilog_forms.specs.Forms.{Form}
+use Rattle.verilog_forms.specs.WholeTexts.{inputs_form}
+use Rattle.verilog_reader.specs.Spots.{found}
 use Rattle.verilog_reader.specs.Sections.{Leads}
 use Rattle.verilog_reader.proofs.SectionSteps.{flawed_same, leads_to, port_due}
 use Rattle.verilog_reader.proofs.sections.inputs.Goals as goal

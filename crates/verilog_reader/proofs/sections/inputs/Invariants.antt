@@ -1,7 +1,7 @@
 use Rattle.std.proofs.Common.{◌≡◌, ◌≤◌, ◌^◌, length, drop}
 use Rattle.std.specs.Prelude.{All}
-use Rattle.verilog_reader.specs.Walks.{IsWithin}
-use Rattle.verilog_reader.specs.WholeTexts.{inputs_form}
+use Rattle.verilog_reader.specs.Spots.{IsWithin}
+use Rattle.verilog_forms.specs.WholeTexts.{inputs_form}
 use Rattle.verilog_reader.specs.Sections.{Leads, HasBits}
 use Rattle.verilog_reader.proofs.sections.inputs.Given as goal
 

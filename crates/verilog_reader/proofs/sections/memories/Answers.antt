@@ -1,9 +1,8 @@
-use Rattle.std.proofs.Common.{◌≡◌, ℕ, ◌-◌, ◌<◌, ◌^◌, List, [], length, sym, ap, ◌∙◌, arith}
+use Rattle.std.proofs.Common.{◌≡◌, ℕ, ◌-◌, ◌<◌, ◌^◌, List, [], length, sym, ap, ◌∙◌, arith, length-append, ◌∷◌}
 use Rattle.netlist.specs.declared.line.Memory.{Memory}
-use Rattle.verilog_reader.specs.MemoryLines.{memory_form}
-use Rattle.verilog_reader.specs.Walks.{found}
-use Rattle.verilog_reader.specs.WholeTexts.{memories_form}
-use Rattle.verilog_reader.proofs.ModuleReads.{length-more}
+use Rattle.verilog_forms.specs.MemoryLines.{memory_form}
+use Rattle.verilog_reader.specs.Spots.{found}
+use Rattle.verilog_forms.specs.WholeTexts.{memories_form}
 use Rattle.verilog_reader.proofs.SectionSteps.{leads_to, none_long, memories_begin, memories_on, no_memory_stands, late_memory_stands}
 use Rattle.verilog_reader.proofs.sections.memories.Goals as goal
 
@@ -39,7 +38,7 @@ memory-preserved c =
     let here = ap (λ (k : ℕ). found (memory_form k) text c.memory.spot) same ∙ c.memory_line-behind.ensures.read in
     record {
       within = c.memory_line-behind.ensures.within;
-      few = omega (arith, fits, ap (λ (ms : List Memory). length ms) pushed, length-more memories x);
+      few = omega (arith, fits, ap (λ (ms : List Memory). length ms) pushed, length-append memories (x ∷ []));
       reads = λ most is. (
           let room : length memories < most = omega (arith, fits, is) in
           memories_on most text c.args.start memories c.push.new.self.items c.memory.spot x c.memory_line-behind.result.1 c.memory.invariant.within c.memory_line-behind.ensures.within pushed room line here (c.memory.invariant.reads most is)

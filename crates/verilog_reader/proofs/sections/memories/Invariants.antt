@@ -1,6 +1,6 @@
 use Rattle.std.proofs.Common.{◌≡◌, ℕ, ◌-◌, ◌≤◌, ◌^◌, length}
-use Rattle.verilog_reader.specs.Walks.{IsWithin}
-use Rattle.verilog_reader.specs.WholeTexts.{memories_form}
+use Rattle.verilog_reader.specs.Spots.{IsWithin}
+use Rattle.verilog_forms.specs.WholeTexts.{memories_form}
 use Rattle.verilog_reader.specs.Sections.{Leads}
 use Rattle.verilog_reader.proofs.sections.memories.Given as goal
 

@@ -1,8 +1,8 @@
 use Rattle.std.proofs.Common.{◌≡◌, ℕ, ◌+◌, ◌<◌, List, ◌∷◌, length, drop, get_or, sym, ap, ◌∙◌, arith}
 use Rattle.std.proofs.lemmas.List.{drop_all}
-use Rattle.verilog_reader.specs.declared.rule.Rule.TheVariants.{OtherByte}
+use Rattle.verilog_forms.specs.declared.rule.Rule.TheVariants.{OtherByte}
 use Rattle.verilog_reader.specs.declared.spot.Spot.TheVariants.{Flawed}
-use Rattle.verilog_reader.specs.Walks.{fixed_at}
+use Rattle.verilog_reader.specs.Spots.{fixed_at}
 use Rattle.verilog_reader.proofs.Steps.{here}
 use Rattle.verilog_reader.proofs.spot.fixed_at.Goals as goal
 

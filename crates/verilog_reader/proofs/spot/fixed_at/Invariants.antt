@@ -1,5 +1,5 @@
 use Rattle.std.proofs.Common.{◌≡◌, ◌≤◌, length, drop}
-use Rattle.verilog_reader.specs.Walks.{fixed_at}
+use Rattle.verilog_reader.specs.Spots.{fixed_at}
 use Rattle.verilog_reader.proofs.spot.fixed_at.Given as goal
 
 abbrev pub invariant-part : goal.invariant-part

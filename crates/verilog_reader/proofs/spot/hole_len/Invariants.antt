@@ -1,6 +1,6 @@
 use Rattle.std.proofs.Common.{◌≡◌, ◌+◌, drop}
 use Rattle.std.specs.List.{prefix_len}
-use Rattle.verilog_reader.specs.Forms.{is_hole_byte}
+use Rattle.verilog_forms.specs.Forms.{is_hole_byte}
 use Rattle.verilog_reader.proofs.spot.hole_len.Given as goal
 
 abbrev pub invariant-hole : goal.invariant-hole

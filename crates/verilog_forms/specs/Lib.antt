@@ -1,0 +1,15 @@
+pub mod Rules
+pub mod Forms
+pub mod Walks
+pub mod WalkLaws
+pub mod RightSides
+pub mod WireLines
+pub mod RegisterLines
+pub mod MemoryLines
+pub mod Headers
+pub mod InputLines
+pub mod ClockedLines
+pub mod WholeTexts
+pub mod Spellings
+pub mod Walked
+pub mod Worked

@@ -1,8 +1,0 @@
-use Rattle.verilog_reader.proofs.ClockedLines.{assign_read, assign_sound}
-use Rattle.verilog_reader.proofs.laws.assign_lines.Goals as goal
-
-pub returns-clause-read : goal.returns-clause-read
-returns-clause-read c = assign_read
-
-pub returns-clause-sound : goal.returns-clause-sound
-returns-clause-sound c = assign_sound
