@@ -84,8 +84,7 @@ fn filtered(alloc: Global, sink: &StreamPort) -> Result<Made, NetFault>
 }
 
 /// No stage and a tied error of two bits, behind a beat of net 0 and before a ready that is net 0; and the numbers of the
-/// `valid`,
-/// the channel, the error and the ready that they make.
+/// `valid`, the channel, the error and the ready that they make.
 #[tactic(auto, using(net_parts::specs::Laws::growing))]
 fn emit_tie(builder: &mut Builder) -> Result<[u32; 4], NetFault>
     ensures { OnOk result (StaysWhole builder.old builder.new) }

@@ -1,4 +1,4 @@
-//! Values, places, byte lists, and the fault of memory that was wanted and not had.
+//! Values, places, byte lists, lines of bytes, and the fault of memory that was wanted and not had.
 #![tactic(auto)]
 
 mod faults;

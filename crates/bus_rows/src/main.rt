@@ -1,6 +1,5 @@
 //! Builds the module of each row of the standard input, hosts and agents with what they declare, steps it with hosts and agents
-//! that keep
-//! to that, and prints what the agents accept and what the hosts are given.
+//! that keep to that, and prints what the agents accept and what the hosts are given.
 #![tactic(auto)]
 
 mod bench;

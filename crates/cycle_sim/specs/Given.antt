@@ -8,8 +8,7 @@ use Rattle.cycle_sim.specs.Sims.{cycle_with}
 use Rattle.cycle_sim.specs.Settled.{is_state}
 
 -- The value of net n, whose line is this: an input's and a register's is the one that it has, and any other's the one that its
--- equation gives among
--- these values of nets and words.
+-- equation gives among these values of nets and words.
 pub record IsGiven (netlist : Netlist) (words nets : List Word) (n : ℕ) (line : Line) (value : Word) : Type 0 where
   pub width : value.width ≡ line.width
   pub state : is_state line.equation ≡ true → slice_get nets n ≡ Some value

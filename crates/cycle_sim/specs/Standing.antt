@@ -22,8 +22,7 @@ pub record IsClearedRun (netlist : Netlist) (run : Run) (cycles : ℕ) : Type 0 
   pub cleared : 0 < cycles → IsCleared netlist (cycle_of run 0)
 
 -- The simulator took so many edges of the clock, and the cycles between them were those of this run: what registers and memories
--- hold now is
--- what a cycle may begin with after them.
+-- hold now is what a cycle may begin with after them.
 pub record StandsFor (sim : SimValue) (run : Run) (cycles : ℕ) : Type 0 where
   pub passed : IsClearedRun sim.netlist run cycles
   pub first : cycles ≡ 0 → IsFirst sim.netlist (present sim)

@@ -1,4 +1,4 @@
-//! Histories of a run: what the cycles before a given one add, in order, and laws about them.
+//! Histories of a run: what the cycles before a given one add, in order, and laws about them; and ranks, which part moves on.
 #![tactic(auto)]
 
 pub mod ranks;

@@ -75,8 +75,7 @@ pub record AreLanesSims (lanes : LanesValue) : Type 0 where
   pub places : (j : ℕ) → j < 8 → ArePlaces lanes.netlist.memories (cells_at lanes.cells j).places
 
 -- A plain simulator evaluates its present cycle with these inputs: what it holds is what the equations give for them and for its
--- registers and
--- memories, and nothing else is; it stands where it stood, and the run with this cycle is one cycle longer.
+-- registers and memories, and nothing else is; it stands where it stood, and the run with this cycle is one cycle longer.
 pub record IsStepWith (before after : SimValue) (inputs : List Word) : Type 0 where
   pub netlist : after.netlist ≡ before.netlist
   pub valuation : IsValuation after.netlist (present after)

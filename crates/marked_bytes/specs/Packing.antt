@@ -22,8 +22,7 @@ abbrev pub packed : ℕ → List ℕ → List ℕ
 packed channel bytes = 0x7c ∷ spelled_byte channel ++ (0x7a ∷ body bytes)
 
 -- what a call did that writes a text to a sink: where it answers true, the sink holds it besides, and else a proper part of it,
--- from
--- its beginning on, and a fault was counted. No count falls, or goes past its last value.
+-- from its beginning on, and a fault was counted. No count falls, or goes past its last value.
 pub record Writes (text : List ℕ) (held holds : Option (List ℕ)) (before after : ℕ) (whole : Bool) : Type 0 where
   pub all : OnTrue whole (holds ≡ with_more held text)
   pub part : OnFalse whole ((count : ℕ) × (count < length text) × (holds ≡ with_more held (take count text)))

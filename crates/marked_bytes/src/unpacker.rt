@@ -24,8 +24,7 @@ pub enum Fed {
     /// A byte of a packet ends here.
     Byte(PacketByte),
     /// The number of the rule that this byte or an earlier one breaks: 1 where a mark stands in place of a channel, 2 where data
-    /// stands
-    /// outside a packet, or is marked inside one as the first or with another channel.
+    /// stands outside a packet, or is marked inside one as the first or with another channel.
     Bad(u8),
 }
 

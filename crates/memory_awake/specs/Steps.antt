@@ -34,8 +34,7 @@ abbrev pub grant_allows : (ℕ → ℕ) → ℕ → (ℕ → ℕ) → Grant → 
 grant_allows longest host rest grant = open_allows longest host rest grant.open_host grant.round
 
 -- as a cycle begins, at most so many steps of the command that goes on or begins next at a port are still to come. A step is a
--- beat that is taken there,
--- or a good cycle in which the command is left open and no beat of it is shown
+-- beat that is taken there, or a good cycle in which the command is left open and no beat of it is shown
 pub record HasStepsLeft (port : Port) (good : ℕ → Bool) (longest : ℕ) (rest : ℕ → ℕ) (end : ℕ) : Type 0 where
   pub some : (c : ℕ) → c ≤ end → 1 ≤ rest c
   pub few : (c : ℕ) → c ≤ end → rest c ≤ longest

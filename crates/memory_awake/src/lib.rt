@@ -1,4 +1,5 @@
-//! Whole memory-mapped systems never idle: a wanted agent is served, from what each part promises of its ports.
+//! Whole memory-mapped systems never idle, and read words once: a wanted agent is served, from what each part promises of its
+//! ports.
 #![tactic(auto)]
 
 pub mod built;

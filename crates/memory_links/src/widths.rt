@@ -23,8 +23,7 @@ pub fn select_is_a_link()
 }
 
 /// A splitter sends the pieces of each beat in order and accepts the beat with the last of them, so it carries commands, holds
-/// nothing,
-/// and makes no tags and no kinds of its own.
+/// nothing, and makes no tags and no kinds of its own.
 pub fn split_carries_commands()
     ensures pieces { (room : ℕ) (up down : Port) (state : SplitState) (end : ℕ) → RunsAsSplit room up down state
         → AreLegalAt up end
@@ -42,8 +41,7 @@ pub fn split_carries_commands()
 }
 
 /// A splitter keeps all that a link promises: each word above is gathered from the words of its pieces, with the greatest of
-/// their codes,
-/// and its rank is 1 while a word is owed below.
+/// their codes, and its rank is 1 while a word is owed below.
 pub fn split_is_a_link()
     ensures { (target : Target) (room count : ℕ) (up down : Port) (state : SplitState) (end : ℕ)
         → MaySplit target up.shape down.shape count

@@ -1,4 +1,4 @@
-//! No host hangs, at any agent and behind any links and stages: a wanted command moves on itself.
+//! No host hangs, at any agent and behind any links and stages: a wanted command moves on itself, and plain ones go straight.
 #![tactic(auto)]
 
 pub mod hosts;

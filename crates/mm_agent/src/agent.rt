@@ -218,9 +218,8 @@ fn emit_queued(
 /// Makes what an agent is shown of a command in bytes, and the wait and the answers above, from the nets at its ports.
 ///
 /// Where commands of several hosts come, each answer bears the tag of the read that it answers; else all commands bear one tag.
-/// The
-/// tag and the count of a read of several words fit one word of a memory. After an error the builder is to be dropped: a register
-/// or a memory may stand in it that waits.
+/// The tag and the count of a read of several words fit one word of a memory. After an error the builder is to be dropped: a
+/// register or a memory may stand in it that waits.
 pub fn emit_agent(
     builder: &mut Builder,
     port: &AgentPort,

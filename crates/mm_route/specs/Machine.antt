@@ -116,8 +116,7 @@ pub record RunsAsRoute (system : System) (host room : ℕ) (up : Port) (down : �
   pub is_machine : IsRouteMachine AreCodes system host room up down state end
 
 -- in every endless run of each longer netlist, the nets are the machine of a route of each system whose map of this host these
--- entries are,
--- whatever agents without an entry answer
+-- entries are, whatever agents without an entry answer
 abbrev pub RunsAsMachine : Netlist → List Route → ℕ → CommandNets → List CommandNets → ℕ → List BackNets → NetValue → AnswerNets
     → Type 0
 RunsAsMachine netlist entries host command commands room_bits backs wait answer =

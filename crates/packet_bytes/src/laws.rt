@@ -1,6 +1,5 @@
 //! That a stream has one answer, and small streams with their packets, faults, statements and replies. The functions do nothing;
-//! their contracts are
-//! laws and worked rows.
+//! their contracts are laws and worked rows.
 
 ghost use Rattle.std.specs.Prelude.{◌≡◌, ◌↔◌, ◌⊎◌, ℕ, ◌+◌, ◌<◌, ◌≤◌, length, map, take, List, [], ◌∷◌, ◌++◌, Some, None, codes};
 ghost use Rattle.packet_bytes.specs.declared.faults.PacketFault.TheVariants.{Refused};
@@ -71,8 +70,7 @@ pub fn commands_are_stated()
 {}
 
 /// Replies, each on the channel of its request: a write's has its code and 80, and its size, a read's the bytes that it asks for
-/// of its words. There
-/// is none for a transaction that isn't whole, nor for any behind it.
+/// of its words. There is none for a transaction that isn't whole, nor for any behind it.
 pub fn replies_are_sent()
     ensures both { replies_text
         (replies_of 4 (packet (header 0x04 4 0 ++ 0x11 ∷ 0x22 ∷ 0x33 ∷ 0x44 ∷ []) ∷ packet (header 0x14 4 0) ∷ []) 1

@@ -76,8 +76,7 @@ impl Replies {
     }
 
     /// Notes what the host did in a cycle: whether a write beat of it was accepted, and the word that it was given. What is past
-    /// the
-    /// last command counts for nothing. It takes no memory.
+    /// the last command counts for nothing. It takes no memory.
     pub fn note(&mut self, write_taken: bool, word: Option<Val>)
         ensures transfers { self.new.transfers ≡ self.old.transfers }
         ensures noted { (beats : ℕ) (words : Sequence ℕ) → HasNoted beats words self.old
@@ -90,8 +89,7 @@ impl Replies {
     }
 
     /// Writes the replies to the leading transactions whose write beats and words have all been noted: whether all were written.
-    /// It takes
-    /// no memory.
+    /// It takes no memory.
     pub fn write<K: Sink>(&self, sink: &mut K) -> bool
         ensures { (beats : ℕ) (words : Sequence ℕ) → HasNoted beats words self.now
             → Writes (sent self.now.transfers beats words) (K.held sink.old) (K.held sink.new) (K.faults sink.old)

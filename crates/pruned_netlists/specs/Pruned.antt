@@ -37,8 +37,7 @@ abbrev pub AreNeededBelow : Netlist → ℕ → Type 0
 AreNeededBelow netlist n = (m : ℕ) → m < n → IsNeeded netlist m
 
 -- the same name and ports; nothing but what an output depends on, and the nets of inputs; and each run and each valuation shows
--- at the ports what one
--- of the whole module shows. A needed net below which no net is left out keeps its number
+-- at the ports what one of the whole module shows. A needed net below which no net is left out keeps its number
 pub record IsPruned (whole pruned : Netlist) : Type 0 where
   pub name : pruned.name ≡ whole.name
   pub ports : pruned.ports ≡ whole.ports

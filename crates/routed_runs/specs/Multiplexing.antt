@@ -1,6 +1,5 @@
 -- A machine that is a multiplexer: it leads one input straight to the output, the next one in turn that shows a beat, and stays
--- with it
--- as long as its beat waits or its packet goes on.
+-- with it as long as its beat waits or its packet goes on.
 use Rattle.std.specs.Prelude.{ℕ, suc, ◌+◌, ◌-◌, ◌<◌, ◌≤◌, ◌≡◌, ◌==◌, Bool, false, not, ◌&&◌, nat_lt, if◌then◌else◌, IsTrue, IsFalse}
 use Rattle.stream_runs.specs.View.{beat_at, is_high}
 use Rattle.routed_runs.specs.Multiplexed.{Multiplexer, MultiplexerRun}

@@ -9,8 +9,7 @@ abbrev pub direct : Pace
 direct = record { latency = 0; allowance = 0 }
 
 -- an end with ready latency 0, the first symbol in the high-order bits and no error port: with packets or without, of so many
--- symbols
--- of so many bits a beat, with channels up to the last number
+-- symbols of so many bits a beat, with channels up to the last number
 abbrev pub direct_end : Bool → ℕ → ℕ → ℕ → Side
 direct_end packets symbols bits max_channel =
     record {

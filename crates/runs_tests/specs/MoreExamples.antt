@@ -481,8 +481,7 @@ stuck_at_default_run = two_agent_run (record {
 }) (read_once [] [] []) (read_once [] [] [])
 
 -- one plain host and two agents: a read of agent 0, which is never answered, a write to agent 1, and a second read of agent 0
--- that waits
--- although the agent has room for it
+-- that waits although the agent has room for it
 abbrev pub plain_pair : System
 plain_pair = record two_agents { host = plain_system.host }
 

@@ -371,8 +371,8 @@ pub fn wire_holds_read_back()
 {}
 
 /// An asker and a route under another host's tag, a read before an agent that only writes, a last beat with `more`, a second word
-/// that is owed
-/// where there is room for one, and codes that aren't the agent's are refused. Where codes aren't read, nothing is said of them.
+/// that is owed where there is room for one, and codes that aren't the agent's are refused. Where codes aren't read, nothing is
+/// said of them.
 pub fn lines_refuse()
     ensures asker { AreFitToAsk joint_system 0 mistagged 1 → ⊥ }
     ensures route { RouteCarriesCommands joint_system 0 0 (mistagged 0) (λ a. mistagged 0) 1 → ⊥ }

@@ -1,6 +1,5 @@
 //! Reads rows of scenarios from the standard input, and prints of each how many statements each interface has, or the line and
-//! the rule
-//! that refuse it; then the systems and scenarios that are drawn by some numbers.
+//! the rule that refuse it; then the systems and scenarios that are drawn by some numbers.
 #![tactic(auto)]
 
 mod drawn;

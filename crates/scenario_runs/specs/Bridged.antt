@@ -15,8 +15,7 @@ use Rattle.scenario_runs.specs.Hosts.{IsTransferHost}
 use Rattle.scenario_runs.specs.Stated.{scenario_of}
 
 -- so many write beats of host 0 are accepted and these words given to it, in a simulation of so many cycles, on a module of the
--- plan that
--- files state, of the scenario in which it does the commands of the transactions of a stream and nothing else is stated
+-- plan that files state, of the scenario in which it does the commands of the transactions of a stream and nothing else is stated
 pub record IsRunOf (files : List (List ℕ)) (bytes : List ℕ) (cycles : ℕ) (transfers : Transfers) (beats : ℕ)
     (words : List ℕ) : Type 0 where
   pub plan : PlanTable
@@ -30,8 +29,7 @@ pub record IsRunOf (files : List (List ℕ)) (bytes : List ℕ) (cycles : ℕ) (
   pub noted : IsNoted plan (scenario_of plan.system cycles transfers) netlist 0 beats words
 
 -- the text is the replies to the leading transactions of a stream all of whose write beats are accepted and words given in such a
--- run: to a read
--- with the bytes that it asks for of these words
+-- run: to a read with the bytes that it asks for of these words
 pub record IsBridged (files : List (List ℕ)) (bytes : List ℕ) (cycles : ℕ) (text : List ℕ) : Type 0 where
   pub transfers : Transfers
   pub beats : ℕ

@@ -1,6 +1,5 @@
 //! What `simulate`, `workload`, `campaign` and `bridge` do between files and answers: a scenario that is read and a module that
-//! is built for it,
-//! what is counted of a workload, what is counted of eight scenarios, and the replies to transactions.
+//! is built for it, what is counted of a workload, what is counted of eight scenarios, and the replies to transactions.
 #![tactic(auto)]
 
 pub mod bridges;

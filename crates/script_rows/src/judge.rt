@@ -162,8 +162,7 @@ fn hexadecimal(alloc: Global, bytes: &[u8]) -> Result<String, AllocError> {
 }
 
 /// What is told of an answer. Where the row asks for the text, or a part of it, all of it is given, from a line of its own on;
-/// where it asks
-/// for the bytes, these.
+/// where it asks for the bytes, these.
 fn told(
     alloc: Global,
     title: &str,

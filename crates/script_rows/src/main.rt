@@ -1,8 +1,6 @@
 //! Reads rows of scripts, scenarios, texts and waves from the standard input, runs the command that it names, `check` where it
-//! names none, over
-//! each row's files, and prints each answer beside what the row says of it. Of some rows it compares the text of what is
-//! simulated with that of
-//! `generate`.
+//! names none, over each row's files, and prints each answer beside what the row says of it. Of some rows it compares the text of
+//! what is simulated with that of `generate`.
 #![tactic(auto)]
 
 mod each;

@@ -243,8 +243,7 @@ pub fn files_of(
 }
 
 /// The command, and a word for each file. A workload and a module have the numbers that are their texts in place of files, and so
-/// has a
-/// campaign or a bridge in place of the first one.
+/// has a campaign or a bridge in place of the first one.
 pub fn words_of(alloc: Global, row: &Row) -> Result<Vec<String>, AllocError> {
     let mut words = Vec::new(alloc);
     words.push(String::from_str(alloc, row.command)?)?;

@@ -19,9 +19,8 @@ pub record HasStateOf (whole settled : Netlist) (state : Cycle) : Type 0 where
   pub each : (cycle : Cycle) → IsValuation settled cycle → SameState settled state cycle → SameState whole whole_state cycle
 
 -- the same name, ports, drivers and memories; each net is as it was or a constant, and a constant is as it was. Each run and each
--- valuation is one of
--- the whole module. And what holds itself up in the settled module are constants alone: there is no register that keeps its reset
--- value
+-- valuation is one of the whole module. And what holds itself up in the settled module are constants alone: there is no register
+-- that keeps its reset value
 pub record IsSettled (whole settled : Netlist) : Type 0 where
   pub name : settled.name ≡ whole.name
   pub ports : settled.ports ≡ whole.ports

@@ -9,8 +9,7 @@ use pruned_netlists::copied_ports;
 use std::alloc::Global;
 
 /// The module with a constant for each net that has one value in each cycle of every run, as far as values alone tell it: a
-/// register that keeps its
-/// reset value, and what follows from such registers and from constants.
+/// register that keeps its reset value, and what follows from such registers and from constants.
 pub fn settle(alloc: Global, module: &Module) -> Result<Module, NoMemory>
     ensures { IfOk result (λ settled. IsSettled «module».now settled) }
 {

@@ -94,8 +94,7 @@ fn keep_held(
 }
 
 /// For each net its value in each cycle of every run, where values alone tell it. Each round goes over the nets that have one
-/// yet, so few rounds
-/// are long.
+/// yet, so few rounds are long.
 pub(crate) fn settled_values(alloc: Global, module: &Module) -> Result<Vec<Option<Val>>, NoMemory>
     ensures bounds { IfOk result (λ values. AreBounds «module».now values.items) }
     ensures settled { IfOk result (λ values. AreSettled «module».now values.items) }

@@ -1,6 +1,5 @@
 //! What a simulation of a scenario on a plan's module is, that its components keep their rules whatever the module does, and that
-//! what stands in
-//! for them up to a cycle depends on the cycles up to it alone.
+//! what stands in for them up to a cycle depends on the cycles up to it alone.
 #![tactic(auto)]
 
 mod beginnings;

@@ -166,8 +166,7 @@ pub record OrderTakes (order : OrderStages) (widths : Widths) : Type 0 where
   pub gives : front_gives order.first.stage order.second.stage widths ≡ widths
 
 -- what changes how many symbols a beat has takes nets of these widths, and gives a word of so many bits, and the other nets as
--- wide
--- as they were but for empty
+-- wide as they were but for empty
 pub record ResizeTakes (resize : Resize) (widths : Widths) (word : ℕ) : Type 0 where
   pub takes : resize_takes resize widths
   pub gives : (resize_gives resize widths).word ≡ word

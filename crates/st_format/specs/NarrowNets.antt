@@ -85,8 +85,7 @@ laid_above sizes held word =
     }
 
 -- the wide beat of the cycle: what is held of one, or else the one that is shown. The lowest part of the one that is shown stands
--- below
--- what is held too, and counts for nothing there
+-- below what is held too, and counts for nothing there
 abbrev pub now_of : Sizes → Shown → Shown → Shown
 now_of sizes held from = if held.valid == 1 then laid_above sizes held from.beat.word else counted sizes.count from
 

@@ -22,8 +22,7 @@ use Rattle.st_windows.specs.WindowNets as windows
 -- ---- which it is
 
 -- beats of so many symbols, of packets or not, become beats of so many others: by nothing where they are as many, by parts where
--- one number divides the
--- other, and else by a window
+-- one number divides the other, and else by a window
 abbrev pub IsResizeOf : ℕ → ℕ → ℕ → Bool → Resize → Type 0
 IsResizeOf from into bits packets Equal = from ≡ into
 IsResizeOf from into bits packets (Cut stage) =

@@ -43,8 +43,7 @@ laid bits symbols parts held coming gathered (suc q) =
     + laid bits symbols parts held coming gathered q
 
 -- the word that joins what is gathered, where something is, with the coming word: with packets each in its place, from the
--- high-order
--- end on, and without the coming one behind those before it
+-- high-order end on, and without the coming one behind those before it
 abbrev pub joined_by : Widen → ℕ → ℕ → ℕ → ℕ → ℕ
 joined_by stage some held coming gathered =
     if stage.packets
@@ -149,8 +148,7 @@ pub record WidenForward (stage : Widen) (from to : BeatNets) (kept : WidenKept) 
   pub empties : Always netlist (λ cycle. shown_in cycle kept.none ≡ nothing_shown)
 
 -- after the second call: ready is shown where no wide beat is, or with ready; a beat that comes is gathered, or all go with it,
--- and then what is
--- left of the word counts for nothing
+-- and then what is left of the word counts for nothing
 pub record WidenBackward (kept : WidenKept) (ready up : NetValue) (netlist : Netlist) : Type 0 where
   pub asks : Always netlist (λ cycle. (cycle.net up.number == 1)
       ≡ (not (cycle.net kept.full.number == 1) || (cycle.net ready.number == 1)))

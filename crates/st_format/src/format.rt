@@ -1,6 +1,5 @@
 //! From the form of a source's beats to that of a sink's: symbols are brought to one order, and beats come apart or are joined.
-//! Each
-//! stage stands only where it is needed. The turn to a sink's own order isn't part of it.
+//! Each stage stands only where it is needed. The turn to a sink's own order isn't part of it.
 
 ghost use Rattle.std.specs.Prelude.{◌≡◌, ℕ, ◌+◌, ◌*◌, ◌/◌, ◌<◌, ◌≤◌, Bool};
 ghost use Rattle.stream_runs.specs.View.{Side};

@@ -118,8 +118,8 @@ fn hold_parts(builder: &mut Builder, sizes: &Sizes, beat: &BeatNets) -> Result<B
 }
 
 /// Makes the registers, and the wide beat of the cycle: what is held of one, or else the one that is shown. The lowest part is
-/// that of
-/// the one that is shown in any case, so that nothing is chosen there: where one is held, all symbols of that part are empty.
+/// that of the one that is shown in any case, so that nothing is chosen there: where one is held, all symbols of that part are
+/// empty.
 #[tactic(auto, using(net_parts::specs::Laws::growing))]
 fn show_current(builder: &mut Builder, sizes: &Sizes, from: &BeatNets) -> Result<Current, NetFault>
     requires from { AreBeatNets builder.old from.now }

@@ -1,8 +1,6 @@
 //! What changes how many symbols a beat has: nothing where both ends have equally many, what takes beats apart or joins them
-//! where the
-//! symbols of one end divide those of the other, and else a window of symbols. In each cycle it takes or gives a whole beat, so
-//! that it
-//! carries as many symbols as the smaller beat has.
+//! where the symbols of one end divide those of the other, and else a window of symbols. In each cycle it takes or gives a whole
+//! beat, so that it carries as many symbols as the smaller beat has.
 
 ghost use Rattle.std.specs.Prelude.{◌≡◌, ◌+◌, ◌*◌, ◌≤◌};
 ghost use Rattle.st_format.specs.ResizeNets.{IsResizeOf, resize_has, resize_passes, resize_takes, resize_gives, resize_forward, resize_backward, resize_owns, ResizeKeeps, ResizeForward, ResizeBackward, resize_keeps_lasts, resize_forward_lasts, resize_backward_lasts};

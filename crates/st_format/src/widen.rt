@@ -1,8 +1,7 @@
 //! Narrow beats that are joined to wide ones: beats are gathered, and the one that takes the last place or ends a packet goes out
-//! with them. A narrow beat is taken in each cycle in which no wide beat is shown, and with ready. Its state is one
-//! wide word without a part, its hold a wide beat without a part, and it makes five nets for each part and 46 more at most. Its
-//! law is that of
-//! `widen_is_a_stage`.
+//! with them. A narrow beat is taken in each cycle in which no wide beat is shown, and with ready. Its state is one wide word
+//! without a part, its hold a wide beat without a part, and it makes five nets for each part and 46 more at most. Its law is that
+//! of `widen_is_a_stage`.
 
 ghost use Rattle.std.specs.Prelude.{◌≡◌, ℕ, ◌+◌, ◌-◌, ◌*◌, ◌/◌, ◌%◌, ◌^◌, ◌<◌, ◌≤◌, ◌==◌, ◌||◌, if◌then◌else◌, bit_or, length, IfOk};
 ghost use Rattle.netlist.specs.Netlists.{IsNet};

@@ -27,8 +27,7 @@ word_view run nets ready = record {
 }
 
 -- some memory has words of the channels. The net shows those of the one that is shown and behind them the word that comes, and
--- where
--- a word moves its channel has the latest of these from then on, one fewer than a beat
+-- where a word moves its channel has the latest of these from then on, one fewer than a beat
 pub record JoinsWords (netlist : Netlist) (from : WordNets) (channel_bits word_bits parts : ℕ)
     (moves word : NetValue) : Type 0 where
   pub memory : ℕ

@@ -17,8 +17,7 @@ pub struct WordNets {
 }
 
 /// The words that the channel has, and behind them the one that comes. Where `moves` is high the channel has this one too from
-/// then
-/// on, and of all that it has the latest ones, one fewer than a beat.
+/// then on, and of all that it has the latest ones, one fewer than a beat.
 #[tactic(auto, using(net_parts::specs::Laws::growing))]
 pub(crate) fn join_words(
     builder: &mut Builder,

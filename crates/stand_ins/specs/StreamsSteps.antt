@@ -41,8 +41,8 @@ next_beat may_show (Quiet ∷ later) = None
 next_beat may_show (Sends beat ∷ later) = if may_show then Some beat else None
 
 -- where a source has sent so many beats since the last ready, it may send one in a cycle, whatever ready is in it: always at
--- ready
--- latency 0, else in a ready cycle (`due`), and with an allowance above the latency also after one (`came`), while that lasts
+-- ready latency 0, else in a ready cycle (`due`), and with an allowance above the latency also after one (`came`), while that
+-- lasts
 abbrev pub may_send : Pace → Bool → Bool → ℕ → Bool
 may_send pace came due sent =
     (pace.latency == 0) || (if nat_lt pace.latency pace.allowance then (came || due) && nat_lt sent pace.allowance else due)

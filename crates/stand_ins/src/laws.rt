@@ -22,8 +22,7 @@ pub fn stand_in_agents_are_legal()
 {}
 
 /// Where a side keeps to the rules and to what the agent bears, no read is left without its words: before each cycle all words
-/// that were
-/// asked are given or wait.
+/// that were asked are given or wait.
 pub fn borne_reads_are_answered()
     ensures { (port : AgentPort) (script : List AgentStatement) (view : AgentView) (end : ℕ) → IsTrue port.readdatavalid
         → IsAgentStandIn port script view end
@@ -35,8 +34,7 @@ pub fn borne_reads_are_answered()
 {}
 
 /// Under the same conditions the words that are given are, in order, what the reads found when they were taken: what the writes
-/// taken
-/// before them had left, each with the code of its place.
+/// taken before them had left, each with the code of its place.
 pub fn words_come_in_order()
     ensures { (port : AgentPort) (script : List AgentStatement) (view : AgentView) (end : ℕ) → IsTrue port.readdatavalid
         → IsAgentStandIn port script view end
@@ -69,8 +67,7 @@ pub fn stand_ins_stand_for_runs()
 {}
 
 /// What an agent with `readdatavalid` gives that stalls in every other cycle. The first read is taken in cycle 1, the write in
-/// cycle 3, the
-/// second read in cycle 5.
+/// cycle 3, the second read in cycle 5.
 pub fn late_words()
     ensures none_yet { late_gives 2 ≡ false }
     ensures first { late_gives 3 ≡ true }

@@ -1,4 +1,5 @@
-//! Agents of a simulation: what stands in for an agent, acts as memory, stalls by a pattern and answers with codes.
+//! What stands in for the components of a simulation: hosts, sources, sinks, and agents that act as memory, stall by a pattern
+//! and answer with codes.
 #![tactic(auto)]
 
 mod burst;

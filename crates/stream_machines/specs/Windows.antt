@@ -1,6 +1,5 @@
 -- Symbols that come in beats of one size and go out in beats of another, as soon as there are enough of them or a packet ends.
--- Both
--- sides have the first symbol in the high-order bits.
+-- Both sides have the first symbol in the high-order bits.
 use Rattle.std.specs.Prelude.{ℕ, suc, ◌+◌, ◌-◌, ◌<◌, ◌≡◌, ◌⊎◌, not, ◌&&◌, ◌||◌, ◌==◌, nat_le, nat_lt, bit_or, if◌then◌else◌, Bool, false, IsTrue, IsFalse}
 use Rattle.stream_runs.specs.View.{EndView, Beat, Side, beat_at, is_high, is_transfer}
 use Rattle.stream_runs.specs.Symbols.{symbol_count, value_of}
@@ -8,8 +7,7 @@ use Rattle.stream_runs.specs.Source.{IsLegalSource, ShowsSame}
 use Rattle.stream_machines.specs.Stage.{Shape}
 
 -- symbols in a row: how many they are, the data of each, their channel, all bits that are set in one of their errors, and the
--- marks of
--- the first and of the last one
+-- marks of the first and of the last one
 pub record Row : Type 0 where
   pub count : ℕ
   pub value : ℕ → ℕ
@@ -84,8 +82,7 @@ row_after from into up down held c =
     else (if is_transfer from.pace up c then with_beat from held (beat_at up c) else held)
 
 -- a machine with a window of symbols, those that it holds and those of the beat that comes: it takes beats as long as it holds
--- less than
--- a beat, and shows one as soon as the window has it. What it does with beats that aren't legal is free
+-- less than a beat, and shows one as soon as the window has it. What it does with beats that aren't legal is free
 pub record IsWindowRun (from into : Side) (up down : EndView) (held : ℕ → Row) : Type 0 where
   pub starts : AreSameRow (held 0) (record { count = 0; value = λ k. 0; channel = 0; error = 0; first = 0; last = 0 })
   pub asks : (c : ℕ) → IsLegalSource from up (suc c)

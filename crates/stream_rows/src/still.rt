@@ -1,6 +1,5 @@
 //! How long streams stand still: for each clause on windows the longest row of cycles in which what it asks holds throughout and
-//! what
-//! it promises doesn't come.
+//! what it promises doesn't come.
 
 use crate::beat::{Beat, Symbol, push_symbols_of};
 use crate::end::End;

@@ -40,9 +40,8 @@ pub record Pace : Type 0 where
   pub latency : ℕ
   pub allowance : ℕ
 
--- what is declared of an end: its pace, the symbols of a beat, the bits of a symbol, whether the first symbol has the
--- high-order bits,
--- whether there are packets, the largest channel, and the bits of an error, none where the end has no error port
+-- what is declared of an end: its pace, the symbols of a beat, the bits of a symbol, whether the first symbol has the high-order
+-- bits, whether there are packets, the largest channel, and the bits of an error, none where the end has no error port
 pub record Side : Type 0 where
   pub pace : Pace
   pub symbols : ℕ

@@ -24,8 +24,7 @@ word_of (Workload number) = codes "workload"
 word_of (Module wanted) = module_word wanted
 
 -- so many words are a task's: its word, its numbers, and its files: a system and any number of components, for a simulation with
--- a scenario
--- between them, for a bridge with transactions; or a Verilog text and waves; or a dump; or none
+-- a scenario between them, for a bridge with transactions; or a Verilog text and waves; or a dump; or none
 abbrev pub AreEnough : Task → ℕ → Type 0
 AreEnough Generate words = 2 ≤ words
 AreEnough Check words = 2 ≤ words

@@ -16,10 +16,8 @@ const MOST_CYCLES: u32 = 65_536;
 
 /// What the words ask for. A file is named by the place of its word, from 0: word 1 is the system file, each further word a
 /// component file, where word 2 of a simulation is its scenario. Of a replay, and where it is dumped, word 1 is the Verilog text
-/// and
-/// word 2 the waves. Word 1 of a campaign and of a bridge is its number, so its files begin with word 2, and word 3 of a bridge
-/// is its
-/// transactions.
+/// and word 2 the waves. Word 1 of a campaign and of a bridge is its number, so its files begin with word 2, and word 3 of a
+/// bridge is its transactions.
 #[derive(Clone, Copy, Debug, PartialEq, Eq)]
 pub enum Task {
     /// Write the Verilog text of the system's interconnect.

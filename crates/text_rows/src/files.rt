@@ -1,6 +1,6 @@
 //! Rows of files: each the number of a word, a place in the file of that name and how many bytes are wanted there, or `all` and
-//! the most bytes
-//! that a whole file may have. One shelf of real files gives them, row by row, through a sink of the standard output.
+//! the most bytes that a whole file may have. One shelf of real files gives them, row by row, through a sink of the standard
+//! output.
 
 use av_base::NoMemory;
 use av_files::{DirShelf, LoadFault, ReadStep, Shelf, StdSink, load_all, put_all};

@@ -1,6 +1,5 @@
 //! Reads rows of packets, of files and of dumps from the standard input, each kind behind a line `:rows KIND`, and prints the
-//! line and what is read
-//! of each row.
+//! line and what is read of each row.
 #![tactic(auto)]
 
 mod dumps;

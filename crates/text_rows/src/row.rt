@@ -1,6 +1,5 @@
 //! Rows of packets: the size of a host's words in bytes, how many bytes the host reaches, how many write beats were accepted, the
-//! words
-//! that were given, and the bytes of the packets. A dash stands for none.
+//! words that were given, and the bytes of the packets. A dash stands for none.
 
 ghost use Rattle.std.specs.Prelude.{IfSome};
 ghost use Rattle.packet_bytes.specs.Rules.{IsWordSize};

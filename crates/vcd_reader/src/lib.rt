@@ -1,4 +1,4 @@
-//! Value change dumps as they are read: what is good in a text, and its first fault.
+//! Value change dumps as they are read: what is good in a text, its first fault, and its rows as text.
 #![tactic(auto)]
 
 mod dump;

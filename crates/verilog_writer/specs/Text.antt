@@ -1,6 +1,5 @@
 -- The Verilog text of a module, in this order: its header, a line for each memory, a line for each net, a clocked line for each
--- register
--- and then for each memory, a line for each output.
+-- register and then for each memory, a line for each output.
 use Rattle.std.specs.Prelude.{ℕ, zero, suc, ◌+◌, ◌-◌, ◌/◌, ◌%◌, ◌^◌, List, [], ◌∷◌, ◌++◌, codes, decimal, nat_lt, slice_get, Option, Some, None, if◌then◌else◌}
 use Rattle.netlist.specs.declared.line.Equation.{Equation}
 use Rattle.netlist.specs.declared.line.Equation.TheVariants.{Input, Constant, And, Or, Xor, Add, Sub, Eq, Less, Concat, Not, Any, Mux, Slice, Reg, Read}

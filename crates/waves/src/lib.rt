@@ -1,6 +1,5 @@
 //! What lines say: the inputs of a module, cycle by cycle, as a file states them, and the words of a scenario, with the numbers,
-//! flags and patterns
-//! that words spell.
+//! flags and patterns that words spell.
 #![tactic(auto)]
 
 mod counts;

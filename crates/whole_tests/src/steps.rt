@@ -124,8 +124,7 @@ fn shows(sim: &Sim, values: &[u128]) -> bool
 }
 
 /// What the host gives (address, read, write, word, byte enables), what the agent gives (wait, word, valid), what the host sees
-/// (wait, word,
-/// valid), and what the agent sees (address, read, write, word, byte enables, grant).
+/// (wait, word, valid), and what the agent sees (address, read, write, word, byte enables, grant).
 fn cycles() -> [([u64; 5], [u64; 3], [u128; 9]); 11] {
     [
         // A write of two lanes, which the agent lets wait for a cycle.

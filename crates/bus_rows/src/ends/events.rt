@@ -8,8 +8,7 @@ use std::alloc::{AllocError, Global};
 #[derive(Clone, Copy)]
 pub enum Event {
     /// An agent accepts a beat of the host that it is told of; its lanes are told where the agent has byte enables, and where it
-    /// has
-    /// `burstcount` the beats of a burst that begins.
+    /// has `burstcount` the beats of a burst that begins.
     Accepts {
         agent: u32,
         host: u128,

@@ -129,15 +129,11 @@ pub fn cuts()
 {}
 
 /// Of a joined write those beats go on that have a lane, the last of them with `more` low. A read without a lane waits until
-/// nothing is
-/// owed, and is given 0 in the next cycle.
-/// What leaves `more` as it is joins two commands; what answers such a read before an earlier one brings wrong bytes. Where a
-/// read with a
-/// lane is joined to one without, the machine itself joins it to the next command, so it needs joined commands that are alike.
-/// It accepts reads without a lane, and gives their words, as often as a host asks them, so no number bounds what it doesn't hand
-/// on.
-/// A write burst whose next beat a host holds back isn't shown promptly, however many cycles that is: the first beat is kept as
-/// long.
+/// nothing is owed, and is given 0 in the next cycle. What leaves `more` as it is joins two commands; what answers such a read
+/// before an earlier one brings wrong bytes. Where a read with a lane is joined to one without, the machine itself joins it to
+/// the next command, so it needs joined commands that are alike. It accepts reads without a lane, and gives their words, as often
+/// as a host asks them, so no number bounds what it doesn't hand on. A write burst whose next beat a host holds back isn't shown
+/// promptly, however many cycles that is: the first beat is kept as long.
 pub fn drops()
     ensures places { map (λ m. m.transfer.first) (taken_at (drop_below dropping) 10) ≡ 8 ∷ 16 ∷ 8 ∷ 16 ∷ [] }
     ensures joined { map (λ m. m.more) (taken_at (drop_below dropping) 10) ≡ true ∷ false ∷ false ∷ false ∷ [] }
